@@ -1,0 +1,60 @@
+// The reader record of document 01, and what a read gives.
+ghost use mathlib.Core.Path.{_≡_};
+ghost use Rattle.rules.specs.Reader.{fresh};
+
+// The reader's state. The unread bits are the low `count` bits of `word`, the word fetched last; a `count` above 31 counts as
+// 0. `pos` is the byte position of the next word.
+#[repr(C)]
+pub struct Bits {
+    pub pos: u64,
+    pub word: u32,
+    pub count: u32,
+    pub overrun: bool,
+}
+
+impl Bits {
+    // The bits of a word, and its bytes.
+    pub const WORD_BITS: u32 = 32;
+
+    pub const WORD_BYTES: u64 = 4;
+
+    // What is read where a word is missing.
+    pub const FILLER: u32 = 0xffff_ffff;
+
+    // A reader at a byte position: nothing is buffered, nothing has overrun.
+    pub fn new(pos: u64) -> Bits
+        ensures { λ r. ⌜ r ≡ fresh pos ⌝ }
+    {
+        Bits {
+            pos,
+            word: 0,
+            count: 0,
+            overrun: false,
+        }
+    }
+}
+
+// A word of the stream, and whether it was missing.
+pub struct Word {
+    pub value: u32,
+    pub missing: bool,
+}
+
+// A value read, and the state after it.
+#[repr(C)]
+pub struct Got {
+    pub value: u32,
+    pub bits: Bits,
+}
+
+// A number read in two's complement, and the state after it.
+pub struct Signed {
+    pub value: i32,
+    pub bits: Bits,
+}
+
+// The same number modulo 65,536, as a sample adds it, and the state after it.
+pub struct Residual {
+    pub value: u16,
+    pub bits: Bits,
+}
