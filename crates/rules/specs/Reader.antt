@@ -10,6 +10,7 @@ use lib.IntN.{ℤ, pos, negsuc, subℕ}
 use Rattle.rules.specs.declared.reader.Bits.{Bits}
 use Rattle.rules.specs.declared.reader.Word.{Word}
 use Rattle.rules.specs.declared.reader.Got.{Got}
+use Rattle.rules.specs.declared.reader.Four.{Four}
 use Rattle.rules.specs.declared.reader.Signed.{Signed}
 use Rattle.rules.specs.declared.reader.Residual.{Residual}
 
@@ -76,6 +77,12 @@ fields s (n ∷ ns) b =
     let g = read s b n in
     let rest = fields s ns (g .bits) in
     record { values = g .value ∷ rest .values; bits = rest .bits }
+
+-- Four fields of n bits each.
+unfoldable pub four : List ℕ → ℕ → Bits → Four
+four s n b =
+    let f = fields s (n ∷ n ∷ n ∷ n ∷ []) b in
+    record { values = f .values; bits = f .bits }
 
 -- ── Two's complement ──
 

@@ -47,6 +47,12 @@ pub struct Got {
     pub bits: Bits,
 }
 
+// Four fields of one width, and the state after them.
+pub struct Four {
+    pub values: [u32; 4],
+    pub bits: Bits,
+}
+
 // A number read in two's complement, and the state after it.
 pub struct Signed {
     pub value: i32,

@@ -1,0 +1,3 @@
+-- What follows from the rules.
+pub mod Cells
+pub mod Examples

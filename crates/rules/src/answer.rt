@@ -1,0 +1,53 @@
+// The answer record of document 01, and the frame's size with its limits.
+ghost use mathlib.Core.Path.{_≡_};
+ghost use Rattle.rules.specs.Answer.{done};
+
+// A number and a row. Number 0 is done, 1 to 8 are refusals.
+#[repr(C)]
+pub struct Answer {
+    pub number: u32,
+    pub row: u32,
+}
+
+impl Answer {
+    // Width or height is above the limit.
+    pub const TOO_LARGE: u32 = 1;
+
+    // V2: width or height is below the least.
+    pub const TOO_SMALL: u32 = 2;
+
+    // Fewer samples are lent than the frame has, or in V0 fewer offsets than rows.
+    pub const SHORT_SAMPLES: u32 = 3;
+
+    // The map or the two-phase scratch is too short.
+    pub const SHORT_MAP: u32 = 4;
+
+    // V2: a motion other than 7 in row 0 or 1.
+    pub const EARLY_MOTION: u32 = 5;
+
+    // V2: a motion reference outside the frame.
+    pub const OUTSIDE: u32 = 6;
+
+    // V2: a difference length above depth + 1.
+    pub const LONG_DIFFERENCE: u32 = 7;
+
+    // V2: a row is finished and the reader has overrun.
+    pub const OVERRUN: u32 = 8;
+
+    pub fn done() -> Answer
+        ensures { λ r. ⌜ r ≡ done ⌝ }
+    {
+        Answer { number: 0, row: 0 }
+    }
+}
+
+// The frame's size in samples.
+pub struct Size {
+    pub width: usize,
+    pub height: usize,
+}
+
+impl Size {
+    // The greatest width and the greatest height.
+    pub const MOST: usize = 16_384;
+}
