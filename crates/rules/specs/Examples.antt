@@ -22,43 +22,43 @@ pub record Example : Type 0 where
   pub given : List ℕ
   pub stated : List ℕ
 
-abbrev pub size : ℕ → ℕ → Size
+abbrev size : ℕ → ℕ → Size
 size w h = record { width = w; height = h }
 
 -- A number's sign, 1 below 0, and its magnitude; a flag as a number.
-abbrev pub of-ℤ : ℤ → List ℕ
+abbrev of-ℤ : ℤ → List ℕ
 of-ℤ (pos n) = 0 ∷ n ∷ []
 of-ℤ (negsuc n) = 1 ∷ suc n ∷ []
 
-abbrev pub of-bool : Bool → ℕ
+abbrev of-bool : Bool → ℕ
 of-bool false = 0
 of-bool true = 1
 
 -- The read of one bit of three bytes.
-abbrev pub one-of-three : Got
+abbrev one-of-three : Got
 one-of-three = read (0 ∷ 0 ∷ 0 ∷ []) (fresh 0) 1
 
 -- The stream of the job's example, with offsets 0 and 4.
-abbrev pub job-stream : List ℕ
+abbrev job-stream : List ℕ
 job-stream = 0x00 ∷ 0x00 ∷ 0x00 ∷ 0x80 ∷ 0x18 ∷ 0x20 ∷ 0xA0 ∷ 0x7F ∷ 0x00 ∷ 0x00 ∷ 0x70 ∷ 0x00 ∷ []
 
 -- A stream whose last sample is spill, with offsets 0 and 8.
-abbrev pub spill-stream : List ℕ
+abbrev spill-stream : List ℕ
 spill-stream =
     0x18 ∷ 0x20 ∷ 0xA0 ∷ 0x7F ∷ 0x00 ∷ 0x00 ∷ 0x70 ∷ 0x00 ∷ 0x08 ∷ 0x00 ∷ 0xA0 ∷ 0xFF ∷ 0x00 ∷ 0x00 ∷ 0x00 ∷ 0x00 ∷ []
 
 -- One sample and no bytes.
-abbrev pub one-by-one : Answer.Ask
+abbrev one-by-one : Answer.Ask
 one-by-one = record { decoder = Answer.direct; stream = []; offsets = 0 ∷ []; size = size 1 1 }
 
-abbrev pub one-lent : Answer.Lent
+abbrev one-lent : Answer.Lent
 one-lent = record { samples = 1; map = some 1; scratch = 0 }
 
-abbrev pub no-bytes : V2Hdr
+abbrev no-bytes : V2Hdr
 no-bytes = V2.header [] .hdr
 
 -- The block in row 0, column 0 at a depth, with options 7, where every remembered length is 0: its bits are motion 0, then flag 2.
-abbrev pub one-less : ℕ → ℕ
+abbrev one-less : ℕ → ℕ
 one-less depth =
     V2.number
     (V2.read-block (0x00 ∷ 0x00 ∷ 0x00 ∷ 0x40 ∷ []) (record { depth = depth; options = 7; initial = 0 }) 281_656 646 0 0
