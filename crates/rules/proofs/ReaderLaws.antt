@@ -75,6 +75,10 @@ pub read-next : (s : List ℕ) (b : Bits) (n : ℕ) → held b < min n 32 → re
 unfolding read
 read-next s b n h = simp (lt-leb _ _ h)
 
+pub read-capped : (s : List ℕ) (b : Bits) (n : ℕ) → read s b (min n 32) ≡ read s b n
+unfolding read
+read-capped s b n = let e : min (min n 32) 32 ≡ min n 32 = omega arith in rw e
+
 -- What holds of both ways of reading holds of a read.
 read-either : (P : Got → Type 0) (s : List ℕ) (b : Bits) (n : ℕ) → (min n 32 ≤ held b → P (from-held b (min n 32)))
     → (held b < min n 32 → P (from-next b (fetched s (b .pos)) (min n 32))) → P (read s b n)
