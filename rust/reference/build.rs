@@ -14,7 +14,9 @@ fn main() {
     println!("cargo::rerun-if-env-changed=RAZVOLK_REFERENCE");
     let var = |name: &str| env::var(name).unwrap_or_else(|_| panic!("cargo sets {name}"));
     let top = Path::new(&var("CARGO_MANIFEST_DIR")).join("../..");
-    let given = env::var_os("RAZVOLK_REFERENCE").map_or(PathBuf::from("../shared/docs/src"), PathBuf::from);
+    let given = env::var_os("RAZVOLK_REFERENCE")
+        .filter(|v| !v.is_empty())
+        .map_or(PathBuf::from("../shared/docs/src"), PathBuf::from);
     let mut root = String::new();
     for (name, file) in FILES {
         let path = top.join(&given).join(file);
