@@ -1,7 +1,7 @@
 .PHONY: run test compare fmt
 
-# There is no program to run yet: this proves the crates that there are.
 run:
+	@echo "There is no program to run yet; this proves the crates that there are."
 	rt check
 
 # The gate.

@@ -1,6 +1,7 @@
 //! Finds the archive that Rattle proved and compiled, or has it made, and links it.
 //!
-//! `RAZVOLK_ARCHIVE` names an archive to take instead of the repository's `target/staticlib/librazvolk.a`.
+//! `RAZVOLK_ARCHIVE` names an archive to take instead of the repository's `target/staticlib/librazvolk.a`; a relative path
+//! is taken from the repository's top.
 
 use std::path::{Path, PathBuf};
 use std::process::Command;
@@ -18,9 +19,10 @@ fn link() -> Result<(), String> {
     if var("CARGO_CFG_TARGET_ARCH") != "x86_64" || var("CARGO_CFG_TARGET_OS") != "linux" {
         return Err("the archive holds code for x86-64 Linux, and this build is for another machine".into());
     }
+    let root = Path::new(&var("CARGO_MANIFEST_DIR")).join("..");
     let archive = match env::var_os("RAZVOLK_ARCHIVE") {
-        Some(given) => PathBuf::from(given),
-        None => proved()?,
+        Some(given) => root.join(given),
+        None => proved(&root)?,
     };
     println!("cargo::rerun-if-changed={}", archive.display());
     // A copy under the name that the linker asks for, whatever the archive is called.
@@ -32,8 +34,7 @@ fn link() -> Result<(), String> {
 }
 
 /// The repository's archive, made anew where it is missing or older than what it is made from.
-fn proved() -> Result<PathBuf, String> {
-    let root = Path::new(&var("CARGO_MANIFEST_DIR")).join("..");
+fn proved(root: &Path) -> Result<PathBuf, String> {
     let archive = root.join("target/staticlib/librazvolk.a");
     let sources = [root.join("crates.txt"), root.join("crates")];
     for source in &sources {
@@ -41,7 +42,7 @@ fn proved() -> Result<PathBuf, String> {
     }
     let newest = sources.iter().filter_map(|s| newest(s).ok()).max();
     if fs::metadata(&archive).and_then(|m| m.modified()).ok() <= newest {
-        make(&root)?;
+        make(root)?;
     }
     Ok(archive)
 }
