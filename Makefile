@@ -8,7 +8,7 @@ run:
 test:
 	bash .ci/run
 
-# The long comparison with the Rust, about a minute.
+# The long comparison with the Rust, a minute or two.
 compare:
 	cd rust && cargo run --release --offline --locked -p compare -- 1_000_000_000
 
