@@ -133,11 +133,12 @@ pub fn get(src: &[u8], bits: Bits, n: u32) -> Got
 pub fn reset_at(bits: Bits, pos: u64) -> Bits
     ensures { λ r. ⌜ r ≡ reset-at bits pos ⌝ }
 {
+    let overrun = bits.overrun;
     Bits {
         pos,
         word: 0,
         count: 0,
-        overrun: bits.overrun,
+        overrun,
     }
 }
 
