@@ -2,3 +2,5 @@
 pub mod Cells
 pub mod Examples
 pub mod ReaderLaws
+pub mod V2Bounds
+pub mod V2Cells
