@@ -4,3 +4,4 @@ pub mod Examples
 pub mod ReaderLaws
 pub mod V2Bounds
 pub mod V2Cells
+pub mod V2Fixed
