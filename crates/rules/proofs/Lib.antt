@@ -5,3 +5,4 @@ pub mod ReaderLaws
 pub mod V2Bounds
 pub mod V2Cells
 pub mod V2Fixed
+pub mod V2NoMarks

@@ -1,7 +1,7 @@
 -- What holds of a V2 frame's cells whatever the blocks are: two kinds of cell that a relation joins stay joined, a frame keeps its
 -- length, and samples stay 16-bit numbers.
 use Prim.Native.Nat.{ℕ, zero, suc, _<_, _≤_}
-use mathlib.Core.Path.{_≡_, refl, ap, _∙_}
+use mathlib.Core.Path.{_≡_, refl, _∙_}
 use mathlib.Core.List.{List, [], _∷_}
 use native.Mathlib.Omega.{arith}
 use lib.ListN.{length, getD, length-replicate}
