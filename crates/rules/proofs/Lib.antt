@@ -2,6 +2,8 @@
 pub mod Cells
 pub mod Examples
 pub mod ReaderLaws
+pub mod Refusals
+pub mod Tests
 pub mod V2Bounds
 pub mod V2Cells
 pub mod V2Fixed

@@ -1,7 +1,7 @@
 -- Document 01, "The map": an accepted V2 frame of a width divisible by 16 has no 1. Its blocks follow one another without a gap
 -- from the first sample to the last, and each reads only before itself.
 use Prim.Native.Nat.{ℕ, zero, suc, _+_, _-_, _*_, _/_, _%_, _<_, _≤_, max}
-use mathlib.Core.Bool.{Bool, true, false, _||_, cond}
+use mathlib.Core.Bool.{Bool, true, false, cond}
 use mathlib.Core.Path.{_≡_, refl, ap₂, _∙_, subst₂}
 use mathlib.Core.List.{List, [], _∷_, _++_}
 use native.Mathlib.Omega.{arith}
@@ -20,6 +20,7 @@ use Rattle.rules.specs.declared.v2.V2Block.the-variants.{Next, EarlyMoti
 use Rattle.rules.specs.Frame.{cells, tabulate}
 use Rattle.rules.specs.V2.{Base, given, copied, averaged, motion-averages, reference, repeated, referred, base, strays, any-strays, base-refusal, Block, Parsed, read-block, Row, then, blocks, fresh-row, fresh-mode, aligned, read-row, Frame, then-rows, rows, read-frame, header, base-cell, block-cells, apply, frame}
 use Rattle.rules.specs.Map.{v2-marks, v2-map, all-old}
+use Rattle.rules.proofs.Tests.{neither}
 use Rattle.rules.proofs.V2Bounds.{further, reference-5, reference-is, reference-most, inside, next-state, next-unrefused}
 
 -- ── Blocks one after another ──
@@ -77,15 +78,11 @@ chain-zero (link {n = n} {b = b} at before c) f l z =
 
 -- ── A block reads before itself ──
 
-or-false : (t u : Bool) → t || u ≡ false → (t ≡ false) × (u ≡ false)
-or-false true u e = let z : _≡_ {A = ℕ} 0 1 = cc in absurd (omega arith)
-or-false false u e = (refl, e)
-
 no-strays : (n w row col motion k i j : ℕ) → any-strays n w row col motion k i ≡ false → i ≤ j → j < i + k → strays n w row col motion j ≡ false
 unfolding any-strays
 no-strays n w row col motion zero i j e l h = absurd (omega arith)
 no-strays n w row col motion (suc k) i j e l h =
-    go (or-false _ _ e) (ℕ-discrete j i) (λ f g. no-strays n w row col motion k (suc i) j f g (omega arith))
+    go (neither _ _ e) (ℕ-discrete j i) (λ f g. no-strays n w row col motion k (suc i) j f g (omega arith))
   where
     go : (strays n w row col motion i ≡ false) × (any-strays n w row col motion k (suc i) ≡ false) → Dec (j ≡ i)
         → (any-strays n w row col motion k (suc i) ≡ false → suc i ≤ j → strays n w row col motion j ≡ false) → strays n w row col motion j ≡ false
