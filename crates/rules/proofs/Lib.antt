@@ -8,3 +8,4 @@ pub mod V2Bounds
 pub mod V2Cells
 pub mod V2Fixed
 pub mod V2NoMarks
+pub mod V2References

@@ -6,7 +6,7 @@ use mathlib.Core.Path.{_≡_, refl, ap₂, _∙_, subst₂}
 use mathlib.Core.List.{List, [], _∷_, _++_}
 use native.Mathlib.Omega.{arith}
 use native.Mathlib.Decide.{ℕ-discrete}
-use native.Mathlib.Nat.{mul-le-mul-right, mul-comm, add-zero}
+use native.Mathlib.Nat.{mul-comm, add-zero}
 use lib.ListN.{length, getD, set, length-set, length-replicate}
 use lib.Seq.{sets, getD-set-same, getD-set-other, length-sets}
 use lib.Dec.{ltb, eqb}
@@ -18,10 +18,11 @@ use Rattle.rules.specs.declared.v2.V2Row.{V2Row}
 use Rattle.rules.specs.declared.v2.V2Block.{V2Block}
 use Rattle.rules.specs.declared.v2.V2Block.the-variants.{Next, EarlyMotion, Outside, LongDifference}
 use Rattle.rules.specs.Frame.{cells, tabulate}
-use Rattle.rules.specs.V2.{Base, given, copied, averaged, motion-averages, reference, repeated, referred, base, strays, any-strays, base-refusal, Block, Parsed, read-block, Row, then, blocks, fresh-row, fresh-mode, aligned, read-row, Frame, then-rows, rows, read-frame, header, base-cell, block-cells, apply, frame}
+use Rattle.rules.specs.V2.{Base, given, copied, averaged, motion-averages, repeated, referred, base, strays, any-strays, base-refusal, Block, Parsed, read-block, Row, then, blocks, fresh-row, fresh-mode, aligned, read-row, Frame, then-rows, rows, read-frame, header, base-cell, block-cells, apply, frame}
 use Rattle.rules.specs.Map.{v2-marks, v2-map, all-old}
 use Rattle.rules.proofs.Tests.{neither}
-use Rattle.rules.proofs.V2Bounds.{further, reference-5, reference-is, reference-most, inside, next-state, next-unrefused}
+use Rattle.rules.proofs.V2References.{further, reference-5, reference-is, reference-before, inside}
+use Rattle.rules.proofs.V2Bounds.{next-state, next-unrefused}
 
 -- ── Blocks one after another ──
 
@@ -90,12 +91,6 @@ no-strays n w row col motion (suc k) i j e l h =
     go q (no r) rest = rest (q .1) (omega arith)
 
 module _ (w row col motion i : ℕ) (wide : 20 ≤ w) (two : 2 ≤ row) (l : i < 16) where
-  -- From row 2 on every reference, with averaging, lies before its block, in a frame of width 20 or more.
-  pub reference-before : reference-5 w row col motion i + further motion < row * w + col + 5
-  reference-before =
-      let up : suc (row - 1) * w ≤ row * w = mul-le-mul-right w (omega arith) in
-      omega (arith, up, reference-most w row col motion i two l)
-
   referred-before : (n : ℕ) → strays n w row col motion i ≡ false → Before (row * w + col) (referred w row col motion i)
   unfolding strays referred
   referred-before n e =
@@ -105,8 +100,8 @@ module _ (w row col motion i : ℕ) (wide : 20 ≤ w) (two : 2 ≤ row) (l : i <
     where
       go : (t : Bool) → getD motion-averages motion false ≡ t → 5 ≤ reference-5 w row col motion i → (let p = reference-5 w row col motion i - 5 in
           Before (row * w + col) (cond t (averaged p (p + 2)) (copied p)))
-      go true f k = let q = rw f at reference-before in (omega arith, omega arith)
-      go false f k = let q = rw f at reference-before in omega arith
+      go true f k = let q = rw f at (reference-before w row col motion i two l wide) in (omega arith, omega arith)
+      go false f k = let q = rw f at (reference-before w row col motion i two l wide) in omega arith
 
 module _ (h : V2Hdr) (n w row col : ℕ) (wide : 20 ≤ w) (column : col % 16 ≡ 0) where
   repeated-before : (i : ℕ) → Before (row * w + col) (repeated h w row col i)
