@@ -9,3 +9,4 @@ pub mod V2Cells
 pub mod V2Fixed
 pub mod V2NoMarks
 pub mod V2References
+pub mod V2Rows

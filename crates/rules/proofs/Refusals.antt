@@ -4,7 +4,7 @@ use Prim.Native.Nat.{ℕ, zero, suc, _+_, _/_, _<_, _≤_}
 use mathlib.Core.Logic.{_⊎_, inl, inr, _≢_}
 use mathlib.Core.Bool.{Bool, true, false, _||_, cond}
 use mathlib.Core.Path.{_≡_, refl, sym, _∙_}
-use mathlib.Core.List.{List, [], _∷_, _++_}
+use mathlib.Core.List.{List, [], _∷_}
 use mathlib.Core.Option.{some}
 use native.Mathlib.Omega.{arith}
 use lib.ListN.{length, getD, take}
@@ -19,10 +19,11 @@ use Rattle.rules.specs.declared.v2.V2Row.{V2Row}
 use Rattle.rules.specs.declared.v2.V2Block.{V2Block}
 use Rattle.rules.specs.declared.v2.V2Block.the-variants.{Next, EarlyMotion, Outside, LongDifference}
 use Rattle.rules.specs.Frame.{cells}
-use Rattle.rules.specs.V2.{Block, Row, Frame, read-block, then, blocks, read-row, then-rows, rows, read-frame, aligned, fresh-row, fresh-mode, header}
+use Rattle.rules.specs.V2.{Block, Row, read-block, then, blocks, read-row, rows, read-frame, aligned, fresh-row, fresh-mode, header}
 use Rattle.rules.specs.Answer.{done, Decoder, direct, two-phase, v2, Ask, Lent, too-large, too-small, short-offsets, short-samples, short-map, scratch-bytes, short-scratch, first-of, refusal, stream-answer, answer, unless-refused, samples-after, map-after, scratch-after}
 use Rattle.rules.proofs.Cells.{All, nil, more, all-get}
 use Rattle.rules.proofs.Tests.{clash, neither}
+use Rattle.rules.proofs.V2Rows.{then-rows-cases}
 
 -- ── The least number whose test holds ──
 
@@ -216,24 +217,21 @@ blocks-number s h n w row (suc k) col b st mode =
     go (LongDifference b) x rest r e = (lit≤ tt, lit≤ tt)
 
 rows-ending : (s : List ℕ) (h : V2Hdr) (n w k row : ℕ) (b : Bits) → Ending (row + k) (rows s h n w k row b .answer)
-unfolding rows then-rows read-row
+unfolding rows read-row
 rows-ending s h n w zero row b = accepted refl
 rows-ending s h n w (suc k) row b =
     let q = read-row s h n w row b in
-    go q (eqb (q .number) 0) refl (q .bits .overrun) _ (blocks-number s h n w row (w / 16) 0 (aligned b) fresh-row (fresh-mode row))
-    (rows-ending s h n w k (suc row) (q .bits))
+    let below : row < row + suc k = omega arith in
+    then-rows-cases (λ x. Ending (row + suc k) (x .answer)) row q (rows s h n w k (suc row) (q .bits))
+    (λ e. refused (blocks-number s h n w row (w / 16) 0 (aligned b) fresh-row (fresh-mode row) e)) (λ e. stopped (lit≤ tt) (lit≤ tt) below)
+    (λ e. later (rows-ending s h n w k (suc row) (q .bits)))
   where
-    later : (a : Answer) → Ending (suc row + k) a → Ending (row + suc k) a
-    later a (accepted e) = accepted e
-    later a (stopped l m h) = stopped l m (omega arith)
+    refused : {m : ℕ} → (5 ≤ m) × (m ≤ 7) → Ending (row + suc k) (record { number = m; row = row })
+    refused p = stopped (p .0) (omega arith) (omega arith)
 
-    go : (q : Row) (t : Bool) → eqb (q .number) 0 ≡ t → (u : Bool) (rest : Frame) → (q .number ≢ 0 → (5 ≤ q .number) × (q .number ≤ 7)) → Ending (suc row + k) (rest .answer)
-        → Ending (row + suc k) (cond {A = Frame} t (cond u (record { blocks = q .blocks; answer = record { number = 8; row = row } })
-        (record { blocks = q .blocks ++ rest .blocks; answer = rest .answer }))
-        (record { blocks = q .blocks; answer = record { number = q .number; row = row } }) .answer)
-    go q true e true rest n r = stopped (lit≤ tt) (lit≤ tt) (omega arith)
-    go q true e false rest n r = later (rest .answer) r
-    go q false e u rest n r = let f = n (eqb-false (q .number) 0 e) in stopped (f .0) (omega arith) (omega arith)
+    later : {a : Answer} → Ending (suc row + k) a → Ending (row + suc k) a
+    later (accepted e) = accepted e
+    later (stopped l m h) = stopped l m (omega arith)
 
 v2-ending : (s : List ℕ) (z : Size) → Ending (z .height) (read-frame s z .answer)
 unfolding read-frame

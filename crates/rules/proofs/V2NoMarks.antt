@@ -10,7 +10,7 @@ use native.Mathlib.Nat.{mul-comm, add-zero}
 use lib.ListN.{length, getD, set, length-set, length-replicate}
 use lib.Seq.{sets, getD-set-same, getD-set-other, length-sets}
 use lib.Dec.{ltb, eqb}
-use borrow.Author.Tests.{ltb-false, le-ltb, eqb-true, eqb-false}
+use borrow.Author.Tests.{ltb-false, le-ltb, eqb-false}
 use Rattle.rules.specs.declared.answer.Size.{Size}
 use Rattle.rules.specs.declared.reader.Bits.{Bits}
 use Rattle.rules.specs.declared.v2.V2Hdr.{V2Hdr}
@@ -18,9 +18,10 @@ use Rattle.rules.specs.declared.v2.V2Row.{V2Row}
 use Rattle.rules.specs.declared.v2.V2Block.{V2Block}
 use Rattle.rules.specs.declared.v2.V2Block.the-variants.{Next, EarlyMotion, Outside, LongDifference}
 use Rattle.rules.specs.Frame.{cells, tabulate}
-use Rattle.rules.specs.V2.{Base, given, copied, averaged, motion-averages, repeated, referred, base, strays, any-strays, base-refusal, Block, Parsed, read-block, Row, then, blocks, fresh-row, fresh-mode, aligned, read-row, Frame, then-rows, rows, read-frame, header, base-cell, block-cells, apply, frame}
+use Rattle.rules.specs.V2.{Base, given, copied, averaged, motion-averages, repeated, referred, base, strays, any-strays, base-refusal, Block, Parsed, read-block, Row, then, blocks, fresh-row, fresh-mode, aligned, read-row, rows, read-frame, header, base-cell, block-cells, apply, frame}
 use Rattle.rules.specs.Map.{v2-marks, v2-map, all-old}
 use Rattle.rules.proofs.Tests.{neither}
+use Rattle.rules.proofs.V2Rows.{then-rows-cases}
 use Rattle.rules.proofs.V2References.{further, reference-5, reference-is, reference-before, inside}
 use Rattle.rules.proofs.V2Bounds.{next-state, next-unrefused}
 
@@ -168,31 +169,21 @@ module _ (s : List ℕ) (h : V2Hdr) (n w : ℕ) (wide : 20 ≤ w) where
   -- The blocks of rows that were accepted, where the width is a multiple of 16.
   rows-chain : w % 16 ≡ 0 → (k row : ℕ) (b : Bits) → rows s h n w k row b .answer .number ≡ 0
       → Chain (row * w) (rows s h n w k row b .blocks) ((row + k) * w)
-  unfolding rows then-rows read-row
-  rows-chain whole zero row b e = rw (add-zero row) stop
-  rows-chain whole (suc k) row b e =
-      go (eqb (q .number) 0) refl (q .bits .overrun) (rows-chain whole k (suc row) (q .bits)) e
+  unfolding rows read-row
+  rows-chain whole zero row b = λ e. rw (add-zero row) stop
+  rows-chain whole (suc k) row b =
+      let q = read-row s h n w row b in
+      then-rows-cases (λ x. x .answer .number ≡ 0 → Chain (row * w) (x .blocks) ((row + suc k) * w)) row q (rows s h n w k (suc row) (q .bits))
+      (λ r e. absurd (r e)) (λ r e. absurd (let z : 8 ≡ 0 = e in omega arith))
+      (λ r e. rw on (chain-append (this r) (rows-chain whole k (suc row) (q .bits) e)))
     where
-      q : Row
-      q = read-row s h n w row b
-
-      rest : Frame
-      rest = rows s h n w k (suc row) (q .bits)
-
       on : row + suc k ≡ suc row + k
       on = omega arith
 
-      this : q .number ≡ 0 → Chain (row * w) (q .blocks) (suc row * w)
-      this e = subst₂ (λ x y. Chain x (q .blocks) y) (omega arith) (omega arith) (blocks-chain row (w / 16) 0 (aligned b) fresh-row (fresh-mode row) refl e)
-
-      go : (t : Bool) → eqb (q .number) 0 ≡ t → (u : Bool) → (rest .answer .number ≡ 0 → Chain (suc row * w) (rest .blocks) ((suc row + k) * w))
-          → (let x = cond {A = Frame} t (cond u (record { blocks = q .blocks; answer = record { number = 8; row = row } })
-          (record { blocks = q .blocks ++ rest .blocks; answer = rest .answer }))
-          (record { blocks = q .blocks; answer = record { number = q .number; row = row } }) in
-          x .answer .number ≡ 0 → Chain (row * w) (x .blocks) ((row + suc k) * w))
-      go true f true r e = absurd (let z : 8 ≡ 0 = e in omega arith)
-      go true f false r e = rw on (chain-append (this (eqb-true (q .number) 0 f)) (r e))
-      go false f u r e = absurd (eqb-false (q .number) 0 f e)
+      this : read-row s h n w row b .number ≡ 0 → Chain (row * w) (read-row s h n w row b .blocks) (suc row * w)
+      this e =
+          subst₂ (λ x y. Chain x (read-row s h n w row b .blocks) y) (omega arith) (omega arith)
+          (blocks-chain row (w / 16) 0 (aligned b) fresh-row (fresh-mode row) refl e)
 
 -- An accepted V2 frame of a width divisible by 16, from 32 on, has no 1.
 pub v2-unmarked : (s : List ℕ) (z : Size) → 20 ≤ z .width → z .width % 16 ≡ 0 → read-frame s z .answer .number ≡ 0
