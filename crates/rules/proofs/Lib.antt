@@ -2,3 +2,11 @@
 pub mod Cells
 pub mod Examples
 pub mod ReaderLaws
+pub mod Refusals
+pub mod Tests
+pub mod V2Bounds
+pub mod V2Cells
+pub mod V2Fixed
+pub mod V2NoMarks
+pub mod V2References
+pub mod V2Rows
