@@ -1,3 +1,4 @@
 -- What follows from the rules.
 pub mod Cells
 pub mod Examples
+pub mod V0Cells
