@@ -2,3 +2,4 @@
 pub mod Cells
 pub mod Examples
 pub mod V0Cells
+pub mod Origins
