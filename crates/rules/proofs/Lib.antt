@@ -3,3 +3,8 @@ pub mod Cells
 pub mod Examples
 pub mod V0Cells
 pub mod Origins
+pub mod Order
+pub mod V0Blocks
+pub mod Predictors
+pub mod Spill
+pub mod Stored
