@@ -8,3 +8,6 @@ pub mod V0Blocks
 pub mod Predictors
 pub mod Spill
 pub mod Stored
+pub mod SkipRule
+pub mod TwoPhase
+pub mod V0NoMarks

@@ -9,7 +9,7 @@ use lib.Dec.{lit<}
 use lib.ListN.{length, getD, replicate}
 use Rattle.rules.specs.declared.answer.Size.{Size}
 use Rattle.rules.specs.Frame.{cells, tabulate}
-use Rattle.rules.specs.V0.{frame, decoded, sample-kind}
+use Rattle.rules.specs.V0.{decoded, sample-kind}
 use Rattle.rules.specs.Map.{Origin, stream, old, moved, origin-kind, origins, position, amount, v0-marks, v0-map}
 use Rattle.rules.proofs.Cells.{All, nil, more, Each, none, both, each-get, all-get}
 use Rattle.rules.proofs.V0Cells.{Joined, frame-each, frame-all}

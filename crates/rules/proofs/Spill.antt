@@ -1,16 +1,16 @@
 -- What a row's operations leave at the places of the row, whatever they spill past its end: a sample within the row predicts from
 -- before its block, so the frame before the row decides the row, and what stood in it or after it doesn't matter.
-use Prim.Native.Nat.{ℕ, zero, suc, _+_, _-_, _*_, _%_, _≤_, _<_}
+use Prim.Native.Nat.{ℕ, zero, suc, _+_, _-_, _*_, _≤_, _<_}
 use mathlib.Core.Bool.{Bool, true, false, cond}
-use mathlib.Core.Path.{_≡_, refl, sym, ap, _∙_, subst}
+use mathlib.Core.Path.{_≡_, refl, sym, ap, _∙_}
 use mathlib.Core.Logic.{_≢_}
 use mathlib.Core.List.{List, [], _∷_, _++_}
 use native.Mathlib.Omega.{arith}
 use native.Mathlib.Nat.{mul-le-mul-right, add-zero, suc-mul, mul-comm}
 use native.Mathlib.Decide.{ℕ-discrete, decLt}
-use lib.Dec.{ltb, eqb, lit<}
+use lib.Dec.{ltb}
 use lib.IntN.{ℤ}
-use lib.ListN.{length, getD, set}
+use lib.ListN.{length, getD}
 use lib.Seq.{getD-set-same, getD-set-other, ext-getD}
 use borrow.Author.Tests.{ltb-true, ltb-false}
 use Rattle.rules.specs.declared.answer.Size.{Size}
@@ -19,10 +19,9 @@ use Rattle.rules.specs.declared.v0.Predictor.{Predictor}
 use Rattle.rules.specs.declared.v0.Predictor.the-variants.{Skipped, Constant, Sample}
 use Rattle.rules.specs.declared.v0.V0Op.{V0Op}
 use Rattle.rules.specs.declared.v0.V0Row.{V0Row}
-use Rattle.rules.specs.declared.v0.V0Head.{V0Head}
 use Rattle.rules.specs.Frame.{cells}
-use Rattle.rules.specs.V0.{Kind, Ops, put, apply, head, sample, samples, order, blocks, blocks-in, fresh-row, predictor, row-ops, rows}
-use Rattle.rules.proofs.Cells.{All, nil, more, all-append, all-map, all-every}
+use Rattle.rules.specs.V0.{Kind, put, apply, head, sample, samples, order, blocks, blocks-in, fresh-row, predictor, row-ops, rows}
+use Rattle.rules.proofs.Cells.{All, nil, more, all-map, all-every}
 use Rattle.rules.proofs.Order.{order-whole}
 use Rattle.rules.proofs.Predictors.{Before, Exists, predictor-reads}
 use Rattle.rules.proofs.V0Blocks.{block, after, EachBlock, each-block}

@@ -1,13 +1,13 @@
 -- Residuals first and predictions after: for operations at places of their own, adding predictions to a frame that holds each
 -- operation's residual at its place comes to the operations themselves.
-use Prim.Native.Nat.{ℕ, zero, suc, _+_, _*_, _≤_, _<_}
+use Prim.Native.Nat.{ℕ, zero, suc, _+_, _-_, _*_, _≤_, _<_}
 use mathlib.Core.Bool.{Bool, true, false, cond}
 use mathlib.Core.Path.{_≡_, refl, sym, ap, _∙_}
 use mathlib.Core.Logic.{_≢_}
 use mathlib.Core.List.{List, [], _∷_, _++_}
 use native.Mathlib.Omega.{arith}
-use native.Mathlib.Nat.{suc-mul}
-use lib.Dec.{ltb, eqb}
+use native.Mathlib.Nat.{mul-le-mul-right}
+use lib.Dec.{ltb}
 use lib.IntN.{ℤ}
 use lib.ListN.{length, getD, set, length-set}
 use lib.Seq.{getD-set-same, getD-set-other}
@@ -17,12 +17,12 @@ use Rattle.rules.specs.declared.v0.Predictor.{Predictor}
 use Rattle.rules.specs.declared.v0.Predictor.the-variants.{Skipped, Constant, Sample}
 use Rattle.rules.specs.declared.v0.V0Op.{V0Op}
 use Rattle.rules.specs.declared.v0.V0Row.{V0Row}
-use Rattle.rules.specs.V0.{Kind, put, apply, head, sample, samples, order, blocks, blocks-in, fresh-row}
+use Rattle.rules.specs.V0.{put, apply, sample, samples, order, blocks, blocks-in}
 use Rattle.rules.specs.Phases.{Stage}
 use Rattle.rules.proofs.Cells.{All, nil, more, all-append, all-map, all-every}
 use Rattle.rules.proofs.Order.{Apart, end, next, all-order, order-apart}
-use Rattle.rules.proofs.V0Blocks.{block, after}
-use Rattle.rules.proofs.Spill.{cell, put-other, within, within-append, samples-all, inner-row, inner-rows}
+use Rattle.rules.proofs.V0Blocks.{after}
+use Rattle.rules.proofs.Spill.{cell, put-other, within, samples-all, inner-row, inner-rows}
 
 -- ── Storing, and adding ──
 
@@ -161,13 +161,14 @@ module _ (s offsets : List ℕ) (w : ℕ) (predict : ℕ → ℕ → Bool → �
       (all-map (λ o. row * w + 0 ≤ o .place) (λ o. row * w ≤ o .place) (λ o l. omega arith) (blocks-from s (row * w) (predict row) (blocks-in w) 0 _)))
       (all-map (λ o. suc row * w ≤ o .place) (λ o. row * w ≤ o .place) (λ o l. omega arith) (inner-rows-from n (suc row)))
 
-  pub inner-rows-below : (n row : ℕ) → All (λ o. o .place < (row + n) * w) (inner-rows s offsets w predict n row)
+  pub inner-rows-below : (h n row : ℕ) → n ≤ h - row → All (λ o. o .place < h * w) (inner-rows s offsets w predict n row)
   unfolding inner-rows inner-row
-  inner-rows-below zero row = nil
-  inner-rows-below (suc n) row =
-      all-append (λ o. o .place < (row + suc n) * w)
-      (all-map (λ o. o .place < row * w + w) (λ o. o .place < (row + suc n) * w) (λ o l. omega arith) (within-below (row * w + w) _))
-      (all-map (λ o. o .place < (suc row + n) * w) (λ o. o .place < (row + suc n) * w) (λ o l. omega arith) (inner-rows-below n (suc row)))
+  inner-rows-below h zero row l = nil
+  inner-rows-below h (suc n) row l =
+      let end : suc row * w ≤ h * w = mul-le-mul-right w (omega arith) in
+      all-append (λ o. o .place < h * w)
+      (all-map (λ o. o .place < row * w + w) (λ o. o .place < h * w) (λ o l. omega arith) (within-below (row * w + w) _))
+      (inner-rows-below h n (suc row) (omega arith))
 
   -- .. and each has a place of its own.
   pub inner-rows-apart : (n row : ℕ) → Apart (λ o. o .place) (inner-rows s offsets w predict n row)

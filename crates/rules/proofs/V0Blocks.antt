@@ -27,3 +27,10 @@ module _ (s : List ℕ) (first : ℕ) (predict : ℕ → Bool → ℕ → Predic
   unfolding EachBlock
   each-block P h zero col st = tt
   each-block P h (suc n) col st = (h (head s st) (block col st .bits), each-block P h n (col + 16) (after col st))
+
+  -- What follows of every head and state follows of each block.
+  pub each-block-map : (P Q : V0Head → Bits → Type 0) → ((h : V0Head) (b : Bits) → P h b → Q h b) → (n col : ℕ) (st : V0Row)
+      → EachBlock P n col st → EachBlock Q n col st
+  unfolding EachBlock
+  each-block-map P Q h zero col st p = tt
+  each-block-map P Q h (suc n) col st p = (h _ _ (p .0), each-block-map P Q h n (col + 16) (after col st) (p .1))

@@ -1,6 +1,6 @@
 -- What every list of V0 operations does to a frame, whatever the parser put in it: two kinds of cell that a relation joins stay
 -- joined, a frame keeps its length, and samples stay below 65,536.
-use Prim.Native.Nat.{ℕ, zero, suc, _+_, _-_, _*_, _/_, _%_, _<_, min}
+use Prim.Native.Nat.{ℕ, zero, suc, _+_, _-_, _*_, _/_, _<_, min}
 use mathlib.Core.Bool.{Bool, true, false, cond, not}
 use mathlib.Core.Path.{_≡_, refl, _∙_}
 use mathlib.Core.List.{List, [], _∷_, _++_}
