@@ -1,6 +1,7 @@
 -- What follows from the rules.
 pub mod Cells
 pub mod Examples
+pub mod ReaderLaws
 pub mod V0Cells
 pub mod Origins
 pub mod Order

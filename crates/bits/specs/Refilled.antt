@@ -1,0 +1,23 @@
+-- What `refill` leaves for the one cut of `get`.
+use Prim.Native.Nat.{ℕ, _+_, _-_, _≤_, _<_}
+use mathlib.Core.List.{List}
+use mathlib.Core.Path.{_≡_}
+use Rattle.rules.specs.Reader.{first-bits, read}
+use Rattle.rules.specs.declared.reader.Bits.{Bits}
+use Rattle.rules.specs.declared.reader.Got.{Got}
+use Rattle.bits.specs.declared.Refilled.{Refilled}
+
+-- The first k bits of a refilled state, and the state after them.
+abbrev pub cut : Refilled → ℕ → Got
+cut r k =
+    let b = r .bits in
+    record {
+      value = first-bits (r .words) (b .count) k;
+      bits = record { pos = b .pos; word = b .word; count = b .count - k; overrun = b .overrun };
+    }
+
+-- A state that holds enough for a read of k bits, and not a whole word more.
+pub record Enough (s : List ℕ) (b : Bits) (k : ℕ) (r : Refilled) : Type 0 where
+  pub enough : k ≤ r .bits .count
+  pub few : r .bits .count < k + 32
+  pub reads : read s b k ≡ cut r k

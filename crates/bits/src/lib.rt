@@ -1,0 +1,195 @@
+// The reader's core: bits of a stream of words, the state by value. Any state, any stream, any count of bits and any 64-bit
+// position is answered, by document 01's "Reader record".
+ghost use mathlib.Core.Bool.{_||_};
+ghost use mathlib.Core.Path.{_≡_};
+ghost use Prim.Native.Nat.{_+_, _*_, _/_, _%_, _^_, _≤_, _<_, min};
+ghost use Rattle.rules.specs.Reader.{fetched, held, reset-at, read, signed, read-signed, modulo, read-residual};
+ghost use Rattle.bits.specs.Refilled.{Enough};
+pub use rules::Bits;
+pub use rules::Got;
+pub use rules::Residual;
+pub use rules::Signed;
+pub use rules::Word;
+
+// The word of four bytes, lowest first.
+fn word_of(a: u8, b: u8, c: u8, d: u8) -> u32
+    ensures { λ r. ⌜ r ≡ a + b * 256 + c * 65_536 + d * 16_777_216 ⌝ }
+{
+    a as u32 + b as u32 * 256 + c as u32 * 65_536 + d as u32 * 16_777_216
+}
+
+// The word at `pos`; where fewer than 4 bytes remain, the filler.
+pub fn fetch(src: &[u8], pos: u64) -> Word
+    ensures { λ r. ⌜ r ≡ fetched (now (src .entry)) pos ⌝ }
+{
+    let at = pos as usize;
+    let n = src.len();
+    if 4 <= n {
+        if at <= n - 4 {
+            return Word {
+                value: word_of(src[at], src[at + 1], src[at + 2], src[at + 3]),
+                missing: false,
+            };
+        }
+    }
+    Word {
+        value: Bits::FILLER,
+        missing: true,
+    }
+}
+
+// 2^k.
+fn power(k: u32) -> u64
+    requires { ⌜ k < 64 ⌝ }
+    ensures { λ r. ⌜ r ≡ 2 ^ k ⌝ }
+{
+    1u64 << k
+}
+
+// The k bits of x above its lowest `left`.
+fn field(x: u64, left: u32, k: u32) -> u32
+    requires { ⌜ (left < 64) × (k ≤ 32) ⌝ }
+    ensures { λ r. ⌜ r ≡ x / 2 ^ left % 2 ^ k ⌝ }
+{
+    (x / power(left) % power(k)) as u32
+}
+
+// How many bits a read of n takes.
+fn capped(n: u32) -> u32
+    ensures { λ r. ⌜ r ≡ min n 32 ⌝ }
+{
+    if n < 32 { n } else { 32 }
+}
+
+fn either(a: bool, b: bool) -> bool
+    ensures { λ r. ⌜ r ≡ a || b ⌝ }
+{
+    a || b
+}
+
+// How many bits a state holds.
+fn held_bits(bits: Bits) -> u32
+    ensures { λ r. ⌜ r ≡ held bits ⌝ }
+{
+    if bits.count < 32 { bits.count } else { 0 }
+}
+
+// A state with enough bits for a read, and its bits: the low `bits.count` of `words`.
+struct Refilled {
+    words: u64,
+    bits: Bits,
+}
+
+// Fetches a word if fewer than k bits are held.
+fn refill(src: &[u8], bits: Bits, k: u32) -> Refilled
+    requires { ⌜ k ≤ 32 ⌝ }
+    ensures { λ r. ⌜ Enough (now (src .entry)) bits k r ⌝ }
+{
+    let have = held_bits(bits);
+    if k <= have {
+        return Refilled {
+            words: bits.word as u64,
+            bits: Bits {
+                pos: bits.pos,
+                word: bits.word,
+                count: have,
+                overrun: bits.overrun,
+            },
+        };
+    }
+    let next = fetch(src, bits.pos);
+    Refilled {
+        words: bits.word as u64 * 4_294_967_296 + next.value as u64,
+        bits: Bits {
+            pos: std::num::wrapping_add_u64(bits.pos, 4),
+            word: next.value,
+            count: have + 32,
+            overrun: either(bits.overrun, next.missing),
+        },
+    }
+}
+
+// Reads n bits, at most 32. Both ways of `refill` end in one cut, and the remainder by 32, which changes nothing, tells the
+// compiler what the next read need not test: so this reads in fewer instructions than two ways with a result each.
+pub fn get(src: &[u8], bits: Bits, n: u32) -> Got
+    ensures { λ r. ⌜ r ≡ read (now (src .entry)) bits n ⌝ }
+{
+    let k = capped(n);
+    let r = refill(src, bits, k);
+    let full = r.bits;
+    let left = full.count - k;
+    Got {
+        value: field(r.words, left, k),
+        bits: Bits {
+            pos: full.pos,
+            word: full.word,
+            count: left % 32,
+            overrun: full.overrun,
+        },
+    }
+}
+
+// Drops the buffered bits and goes to `pos`; an overrun stays.
+pub fn reset_at(bits: Bits, pos: u64) -> Bits
+    ensures { λ r. ⌜ r ≡ reset-at bits pos ⌝ }
+{
+    let overrun = bits.overrun;
+    Bits {
+        pos,
+        word: 0,
+        count: 0,
+        overrun,
+    }
+}
+
+// What two's complement takes off the k bits v: 2^k if the highest is set, else 0. A residual's sign is not to be guessed, so
+// there is no branch.
+fn sign_part(v: u32, k: u32) -> u64
+    requires { ⌜ (k ≤ 32) × (v < 2 ^ k) ⌝ }
+    ensures { λ r. ⌜ r ≡ v * 2 / 2 ^ k * 2 ^ k ⌝ }
+{
+    let top = power(k);
+    v as u64 * 2 / top * top
+}
+
+// The number that the k bits v are in two's complement.
+fn signed_of(v: u32, k: u32) -> i32
+    requires { ⌜ (k ≤ 32) × (v < 2 ^ k) ⌝ }
+    ensures { λ r. ⌜ r ≡ signed k v ⌝ }
+{
+    (v as i64 - sign_part(v, k) as i64) as i32
+}
+
+// The same number modulo 65,536.
+fn residual_of(v: u32, k: u32) -> u16
+    requires { ⌜ (k ≤ 32) × (v < 2 ^ k) ⌝ }
+    ensures { λ r. ⌜ r ≡ modulo (signed k v) ⌝ }
+{
+    ((4_294_967_296 + v as u64 - sign_part(v, k)) % 65_536) as u16
+}
+
+// Reads a number of n bits, at most 32, in two's complement.
+pub fn read_signed(src: &[u8], bits: Bits, n: u32) -> Signed
+    ensures { λ r. ⌜ r ≡ read-signed (now (src .entry)) bits n ⌝ }
+{
+    let k = capped(n);
+    let g = get(src, bits, n);
+    let next = g.bits;
+    Signed {
+        value: signed_of(g.value, k),
+        bits: next,
+    }
+}
+
+// Reads the same number modulo 65,536, as a sample adds it.
+pub fn read_residual(src: &[u8], bits: Bits, n: u32) -> Residual
+    ensures { λ r. ⌜ r ≡ read-residual (now (src .entry)) bits n ⌝ }
+{
+    let k = capped(n);
+    let g = get(src, bits, n);
+    let next = g.bits;
+    Residual {
+        value: residual_of(g.value, k),
+        bits: next,
+    }
+}
