@@ -8,6 +8,6 @@ pub mod V2Bounds
 pub mod V2Cells
 pub mod V2Fixed
 pub mod V2NoMarks
+pub mod V2Places
 pub mod V2Position
-pub mod V2References
 pub mod V2Rows

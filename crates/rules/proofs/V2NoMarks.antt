@@ -22,7 +22,7 @@ use Rattle.rules.specs.V2.{Base, given, copied, averaged, motion-average
 use Rattle.rules.specs.Map.{v2-marks, v2-map, all-old}
 use Rattle.rules.proofs.Tests.{neither}
 use Rattle.rules.proofs.V2Rows.{then-rows-cases}
-use Rattle.rules.proofs.V2References.{further, reference-5, reference-is, reference-before, inside}
+use Rattle.rules.proofs.V2Places.{further, reference-5, reference-is, reference-before, inside}
 use Rattle.rules.proofs.V2Bounds.{next-state, next-unrefused}
 
 -- ── Blocks one after another ──
