@@ -401,9 +401,10 @@ base-below t f ps (averaged p q) l =
     let at = all-get (λ v. v < 65_536) ps in
     omega (arith, at p 0 (lit< tt), at q 0 (lit< tt))
 
--- Within the limits nothing before the hold leaves 32 signed bits, over every frame of 16-bit samples.
-pub block-fits : (t : ℕ) (f : List ℕ) → All (λ v. v < 65_536) f → {x : Block} → Sound x
-    → (i : ℕ) → Fits (base-cell (sample-kind t) f (x .base i)) (getD (x .differences) i (pos 0)) (x .scale)
-block-fits t f ps {x} sound i =
-    value-fits (base-cell (sample-kind t) f (x .base i)) (getD (x .differences) i (pos 0)) (x .scale)
-    (base-below t f ps (x .base i) (sound .base i)) (all-get Small (sound .differences) i (pos 0) (lit< tt)) (sound .scale)
+-- Within the limits nothing before the hold leaves 32 signed bits, whatever 16-bit samples a block is decoded over.
+pub frame-fits : (s : List ℕ) (z : Size) → z .width ≤ 16_384 → (t : ℕ) (f : List ℕ) → All (λ v. v < 65_536) f
+    → All (λ x. (i : ℕ) → Fits (base-cell (sample-kind t) f (x .base i)) (getD (x .differences) i (pos 0)) (x .scale)) (read-frame s z .blocks)
+frame-fits s z limit t f ps =
+    all-map Sound _
+    (λ x sound i. value-fits _ _ _ (base-below t f ps (x .base i) (sound .base i)) (all-get Small (sound .differences) i (pos 0) (lit< tt)) (sound .scale))
+    (frame-sound s z limit)
