@@ -144,14 +144,14 @@ differences-within s row ls b = differences-from-within s row ls 16 0 (record { 
 -- ── Blocks and rows ──
 
 -- The reader's state of an outcome.
-unfoldable pub state : V2Block → Bits
-state (Next b st) = b
-state (EarlyMotion b) = b
-state (Outside b) = b
-state (LongDifference b) = b
+unfoldable pub outcome-bits : V2Block → Bits
+outcome-bits (Next b st) = b
+outcome-bits (EarlyMotion b) = b
+outcome-bits (Outside b) = b
+outcome-bits (LongDifference b) = b
 
-tail-within : (s : List ℕ) (h : V2Hdr) (row : ℕ) (st : V2Row) (mode : List (List ℕ)) (b : Bits) → Within 100 b (state (tail s h row st mode b .outcome))
-unfolding tail state
+tail-within : (s : List ℕ) (h : V2Hdr) (row : ℕ) (st : V2Row) (mode : List (List ℕ)) (b : Bits) → Within 100 b (outcome-bits (tail s h row st mode b .outcome))
+unfolding tail outcome-bits
 tail-within s h row st mode b = go (l .lengths .long)
   where
     l : Moded
@@ -160,13 +160,13 @@ tail-within s h row st mode b = go (l .lengths .long)
     d : Differences
     d = read-differences s row (l .lengths .four) (l .lengths .bits)
 
-    go : (t : Bool) → Within 100 b (state (cond t (LongDifference (l .lengths .bits)) (Next (d .bits) st)))
+    go : (t : Bool) → Within 100 b (outcome-bits (cond t (LongDifference (l .lengths .bits)) (Next (d .bits) st)))
     go true = wider (omega arith) (lengths-within s h row mode b)
     go false = then-within (lengths-within s h row mode b) (differences-within s row (l .lengths .four) (l .lengths .bits))
 
 based-within : (s : List ℕ) (h : V2Hdr) (n w row col : ℕ) (st : V2Row) (mode : List (List ℕ)) (b : Bits)
-    → Within 100 b (state (based-tail s h n w row col st mode b .outcome))
-unfolding based-tail state
+    → Within 100 b (outcome-bits (based-tail s h n w row col st mode b .outcome))
+unfolding based-tail outcome-bits
 based-within s h n w row col st mode b = go (eqb r 5) (eqb r 6)
   where
     r : ℕ
@@ -174,7 +174,7 @@ based-within s h n w row col st mode b = go (eqb r 5) (eqb r 6)
 
     go : (t u : Bool)
         → Within 100 b
-        (state
+        (outcome-bits
         (cond {A = Tail} t (record { outcome = EarlyMotion b; mode = mode; differences = [] })
         (cond {A = Tail} u (record { outcome = Outside b; mode = mode; differences = [] }) (tail s h row st mode b)) .outcome))
     go true u = wider (omega arith) stay
@@ -183,7 +183,7 @@ based-within s h n w row col st mode b = go (eqb r 5) (eqb r 6)
 
 -- A block takes 116 bytes at most.
 pub block-within : (s : List ℕ) (h : V2Hdr) (n w row col : ℕ) (b : Bits) (st : V2Row) (mode : List (List ℕ))
-    → Within 116 b (state (read-block s h n w row col b st mode .outcome))
+    → Within 116 b (outcome-bits (read-block s h n w row col b st mode .outcome))
 unfolding read-block
 block-within s h n w row col b st mode =
     let c = read-scale s h col (st .scale) b in
@@ -192,13 +192,13 @@ block-within s h n w row col b st mode =
 
 blocks-within : (s : List ℕ) (h : V2Hdr) (n w row k col : ℕ) (b : Bits) (st : V2Row) (mode : List (List ℕ))
     → Within (116 * k) b (blocks s h n w row k col b st mode .bits)
-unfolding blocks then state
+unfolding blocks then outcome-bits
 blocks-within s h n w row zero col b st mode = stay
 blocks-within s h n w row (suc k) col b st mode =
     let p = read-block s h n w row col b st mode in
     go (p .outcome) (p .block) _ (block-within s h n w row col b st mode) (λ b′ st′. blocks-within s h n w row k (col + 16) b′ st′ (p .mode))
   where
-    go : (o : V2Block) (x : Block) (rest : Bits → V2Row → Row) → Within 116 b (state o)
+    go : (o : V2Block) (x : Block) (rest : Bits → V2Row → Row) → Within 116 b (outcome-bits o)
         → ((b′ : Bits) (st′ : V2Row) → Within (116 * k) b′ (rest b′ st′ .bits)) → Within (116 * suc k) b (then o x rest .bits)
     go (Next b′ st′) x rest p r = wider (omega arith) (then-within p (r b′ st′))
     go (EarlyMotion b′) x rest p r = wider (omega arith) p
