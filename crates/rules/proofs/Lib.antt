@@ -16,8 +16,9 @@ pub mod SkipRule
 pub mod TwoPhase
 pub mod V0NoMarks
 pub mod V2Cells
-pub mod V2References
+pub mod V2Places
 pub mod V2Bounds
+pub mod V2Position
 pub mod V2Rows
 pub mod V2Fixed
 pub mod V2NoMarks

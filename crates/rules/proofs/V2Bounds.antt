@@ -75,7 +75,7 @@ between-sub m n {lo} {hi} p q = go (ltb m (suc n))
     go true = not-below (suc n - suc m) (omega arith)
     go false = not-above (m - suc n) (omega arith)
 
-between-add : {x y : ℤ} {a b c d : ℕ} → Between a b x → Between c d y → Between (a + c) (b + d) (x +ℤ y)
+pub between-add : {x y : ℤ} {a b c d : ℕ} → Between a b x → Between c d y → Between (a + c) (b + d) (x +ℤ y)
 between-add (not-above m p) (not-above n q) = not-above (m + n) (omega arith)
 between-add (not-above m p) (not-below n q) = between-sub m n (omega arith) (omega arith)
 between-add (not-below m p) (not-above n q) = between-sub n m (omega arith) (omega arith)
@@ -89,7 +89,8 @@ pub record ScaleAt (col : ℕ) (scale : ℤ) : Type 0 where
 pub scale-starts : ScaleAt 0 (pos 0)
 scale-starts = record { range = not-above 0 (omega arith) }
 
-step-between : (code : ℕ) → Between 2 2 (getD scale-steps code (pos 0))
+-- What a code adds is −2 to 2.
+pub step-between : (code : ℕ) → Between 2 2 (getD scale-steps code (pos 0))
 step-between code = all-get (Between 2 2) (more (not-above 0 (lit≤ tt)) (more (not-below 1 (lit< tt)) (more (not-above 2 (lit≤ tt)) nil))) code (pos 0) (not-above 0 (lit≤ tt))
 
 rescaled-between : (s : List ℕ) {scale : ℤ} (b : Bits) {k : ℕ} → Between k (4_093 + k) scale → Between (k + 2) (4_093 + k + 2) (rescaled s scale b .scale)
@@ -160,7 +161,7 @@ lengths-from-most s depth row flags (suc n) j x ps =
     go y true e z p rest f = p f
     go y false e z p rest f = rest (p e) f
 
--- Where no length is too long, all four are at most depth + 1.
+-- Where no length is too long, all four are at most depth + 1, and so at most 17.
 pub lengths-most : (s : List ℕ) (h : V2Hdr) (row : ℕ) (mode : List (List ℕ)) (b : Bits)
     → (let y = read-lengths s h row mode b in y .lengths .long ≡ false → All (Most (h .depth + 1)) (y .lengths .four))
 unfolding read-lengths flagged-lengths
@@ -176,6 +177,10 @@ lengths-most s h row mode b = go (eqb (lengths-bit s h b .value) 0)
         → (let y = cond t (flagged-lengths s (h .depth) row mode g) (no-lengths mode g) in y .lengths .long ≡ false → All (Most (h .depth + 1)) (y .lengths .four))
     go true = lengths-from-most s (h .depth) row (four s 2 g .values) 4 0 (no-lengths mode (four s 2 g .bits)) zeros
     go false = λ e. zeros
+
+pub lengths-small : (s : List ℕ) (h : V2Hdr) (row : ℕ) (mode : List (List ℕ)) (b : Bits) → h .depth ≤ 16
+    → (let y = read-lengths s h row mode b in y .lengths .long ≡ false → All (Most 17) (y .lengths .four))
+lengths-small s h row mode b deep e = all-map (Most (h .depth + 1)) (Most 17) (λ n l. omega arith) (lengths-most s h row mode b e)
 
 -- ── 5. differences ──
 
@@ -258,9 +263,9 @@ module _ (s : List ℕ) (h : V2Hdr) (n w row col : ℕ) (b : Bits) (st : V2Row) 
   -- Its lengths are at most 17, and its differences at most 65,536 in magnitude.
   pub next-differences : h .depth ≤ 16 → All Small (read-block s h n w row col b st mode .block .differences)
   unfolding read-block tail
-  next-differences d =
+  next-differences deep =
       rw (unrefused .1)
-      (differences-small s row _ _ (all-map (Most (h .depth + 1)) (Most 17) (λ k l. omega arith) (lengths-most s h row mode (Moved .bits) (followed .1))))
+      (differences-small s row _ _ (lengths-small s h row mode (Moved .bits) deep (followed .1)))
 
 -- ── The blocks of a frame ──
 
@@ -396,9 +401,10 @@ base-below t f ps (averaged p q) l =
     let at = all-get (λ v. v < 65_536) ps in
     omega (arith, at p 0 (lit< tt), at q 0 (lit< tt))
 
--- Within the limits nothing before the hold leaves 32 signed bits, over every frame of 16-bit samples.
-pub block-fits : (t : ℕ) (f : List ℕ) → All (λ v. v < 65_536) f → {x : Block} → Sound x
-    → (i : ℕ) → Fits (base-cell (sample-kind t) f (x .base i)) (getD (x .differences) i (pos 0)) (x .scale)
-block-fits t f ps {x} sound i =
-    value-fits (base-cell (sample-kind t) f (x .base i)) (getD (x .differences) i (pos 0)) (x .scale)
-    (base-below t f ps (x .base i) (sound .base i)) (all-get Small (sound .differences) i (pos 0) (lit< tt)) (sound .scale)
+-- Within the limits nothing before the hold leaves 32 signed bits, whatever 16-bit samples a block is decoded over.
+pub frame-fits : (s : List ℕ) (z : Size) → z .width ≤ 16_384 → (t : ℕ) (f : List ℕ) → All (λ v. v < 65_536) f
+    → All (λ x. (i : ℕ) → Fits (base-cell (sample-kind t) f (x .base i)) (getD (x .differences) i (pos 0)) (x .scale)) (read-frame s z .blocks)
+frame-fits s z limit t f ps =
+    all-map Sound _
+    (λ x sound i. value-fits _ _ _ (base-below t f ps (x .base i) (sound .base i)) (all-get Small (sound .differences) i (pos 0) (lit< tt)) (sound .scale))
+    (frame-sound s z limit)

@@ -3,6 +3,7 @@
 use Prim.Native.Nat.{ℕ, zero, suc, _+_, _-_, _*_, _/_, _%_, _<_, _≤_, max}
 use mathlib.Core.Bool.{Bool, true, false, cond}
 use mathlib.Core.Path.{_≡_, refl, ap₂, _∙_, subst₂}
+use mathlib.Core.Logic.{inl}
 use mathlib.Core.List.{List, [], _∷_, _++_}
 use native.Mathlib.Omega.{arith}
 use native.Mathlib.Decide.{ℕ-discrete}
@@ -20,9 +21,11 @@ use Rattle.rules.specs.declared.v2.V2Block.the-variants.{Next, EarlyMoti
 use Rattle.rules.specs.Frame.{cells, tabulate}
 use Rattle.rules.specs.V2.{Base, given, copied, averaged, motion-averages, repeated, referred, base, strays, any-strays, base-refusal, Block, Parsed, read-block, Row, then, blocks, fresh-row, fresh-mode, aligned, read-row, rows, read-frame, header, base-cell, block-cells, apply, frame}
 use Rattle.rules.specs.Map.{v2-marks, v2-map, all-old}
+use Rattle.rules.specs.Answer.{v2, Ask, Lent, stream-answer, answer, frame-marks, marks}
+use Rattle.rules.proofs.Refusals.{passed, answer-passed, v2-size-least}
 use Rattle.rules.proofs.Tests.{neither}
 use Rattle.rules.proofs.V2Rows.{then-rows-cases}
-use Rattle.rules.proofs.V2References.{further, reference-5, reference-is, reference-before, inside}
+use Rattle.rules.proofs.V2Places.{further, reference-5, reference-is, reference-before, inside}
 use Rattle.rules.proofs.V2Bounds.{next-state, next-unrefused}
 
 -- ── Blocks one after another ──
@@ -193,3 +196,12 @@ v2-unmarked s z wide whole done i l =
     let x = header s in
     chain-zero (rows-chain s (x .hdr) (cells z) (z .width) wide whole (z .height) 0 (x .bits) done) (all-old z)
     (rw length-replicate (omega (arith, mul-comm (z .width) (z .height)))) (λ j h. absurd (omega arith)) i (omega (arith, mul-comm (z .width) (z .height)))
+
+-- So every V2 call that is accepted at such a width has no 1: refusal 2 keeps smaller frames out.
+pub accepted-unmarked : (a : Ask) (l : Lent) → a .decoder ≡ v2 → a .size .width % 16 ≡ 0 → answer a l .number ≡ 0
+    → (i : ℕ) → i < cells (a .size) → getD (marks a) i 0 ≡ 0
+unfolding stream-answer frame-marks
+accepted-unmarked a l is-v2 whole e =
+    let ok = passed a l (inl e) in
+    let wide = v2-size-least a l ok is-v2 .0 in
+    rw is-v2 (v2-unmarked (a .stream) (a .size) (omega arith) whole (rw is-v2 at (rw (answer-passed a l ok) at e)))

@@ -1,17 +1,33 @@
--- Where a V2 block's references can lie. A reference is at least −5, so 5 more than it is a natural number, and the sums of a
--- decoder can be unsigned; from row 2 on it lies before its block.
+-- Where a V2 block's samples and its references lie. A reference is at least −5, so 5 more than it is a natural number, and the
+-- sums of a decoder can be unsigned; from row 2 on it lies before its block.
 use Prim.Native.Nat.{ℕ, zero, suc, _+_, _-_, _*_, _%_, _≤_, _<_}
 use mathlib.Core.Path.{_≡_, refl, sym, ap, ap₂, _∙_}
 use mathlib.Core.Bool.{Bool, true, false, cond}
-use native.Mathlib.Nat.{mul-le-mul-right}
+use native.Mathlib.Nat.{mul-le-mul, mul-le-mul-right, mul-comm}
 use native.Mathlib.Omega.{arith}
 use lib.Dec.{eqb, ltb, lit≤}
 use lib.IntN.{ℤ, pos, negsuc, natAbs, subℕ, _+ℤ_, _-ℤ_, +ℤ-assoc, +ℤ-comm, +ℤ-negℤ-cancel}
 use lib.ListN.{getD}
 use borrow.Author.Tests.{ltb-false, leb-false}
+use Rattle.rules.specs.declared.answer.Size.{Size}
+use Rattle.rules.specs.Frame.{cells}
 use Rattle.rules.specs.V2.{motion-offsets, motion-averages, reference, outside}
 use Rattle.rules.proofs.Cells.{Each, none, both, each-get}
 use Rattle.rules.proofs.Tests.{clash}
+
+-- ── Samples ──
+
+-- A frame within the limits has at most 2^28 samples.
+pub cells-most : (z : Size) → z .width ≤ 16_384 → z .height ≤ 16_384 → cells z ≤ 268_435_456
+cells-most z wide high = mul-le-mul wide high
+
+-- A whole block of a row lies in the frame.
+pub block-inside : (z : Size) (row col : ℕ) → row < z .height → col + 16 ≤ z .width → row * z .width + col + 16 ≤ cells z
+block-inside z row col below fits =
+    let p : suc row * z .width ≤ z .height * z .width = mul-le-mul-right (z .width) below in
+    omega (arith, mul-comm (z .width) (z .height))
+
+-- ── References ──
 
 abbrev pub motion-offset : ℕ → ℤ
 motion-offset motion = getD motion-offsets motion (pos 0)
