@@ -12,3 +12,4 @@ pub mod Stored
 pub mod SkipRule
 pub mod TwoPhase
 pub mod V0NoMarks
+pub mod V0Bounds
