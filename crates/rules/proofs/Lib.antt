@@ -8,6 +8,7 @@ pub mod Refusals
 pub mod Order
 pub mod Predictors
 pub mod V0Blocks
+pub mod V0Bounds
 pub mod V0Cells
 pub mod Origins
 pub mod Spill

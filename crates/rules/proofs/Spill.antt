@@ -23,8 +23,8 @@ use Rattle.rules.specs.Frame.{cells}
 use Rattle.rules.specs.V0.{Kind, put, apply, head, sample, samples, order, blocks, blocks-in, fresh-row, predictor, row-ops, rows}
 use Rattle.rules.proofs.Cells.{All, nil, more, all-map, all-every}
 use Rattle.rules.proofs.Order.{order-whole}
-use Rattle.rules.proofs.Predictors.{Before, Exists, predictor-reads}
-use Rattle.rules.proofs.V0Blocks.{block, after, EachBlock, each-block}
+use Rattle.rules.proofs.Predictors.{Before, HasRowsUp, predictor-reads}
+use Rattle.rules.proofs.V0Blocks.{block, after, EachBlock, each-block, EachInRow}
 use Rattle.rules.proofs.V0Cells.{put-length, apply-length, apply-append}
 
 -- ── Operations within a bound ──
@@ -199,14 +199,14 @@ module _ {A : Type 0} (k : Kind A) (s : List ℕ) (first w : ℕ) (predict : ℕ
               (all-map (λ c. first + col + c ≢ i) (λ c. c ≢ i - (first + col)) (λ c h e. h (omega arith))
               (all-samples (λ p. p ≢ i) s (first + col) _ (predict col (head s st .up)) order _ none)))
 
--- The direction of every block of a row, where it is 1, finds the rows that it looks at.
-abbrev pub Found : List ℕ → List ℕ → Size → ℕ → Type 0
-Found s offsets z row =
-    EachBlock s (row * z .width) (predictor z row) (λ h b. Exists row (h .up)) (blocks-in (z .width)) 0 (fresh-row row (getD offsets row 0))
+-- Every block of a row that is of direction 1 has the rows that it looks at.
+abbrev pub RowHasRowsUp : List ℕ → List ℕ → Size → ℕ → Type 0
+RowHasRowsUp s offsets z row = EachInRow (λ h b. HasRowsUp row (h .up)) s offsets z row
 
--- From row 2 on it always does.
-pub found : (s offsets : List ℕ) (z : Size) (row : ℕ) → 2 ≤ row → Found s offsets z row
-found s offsets z row two = each-block s (row * z .width) (predictor z row) (λ h b. Exists row (h .up)) (λ h b e. two) (blocks-in (z .width)) 0 _
+-- From row 2 on all have.
+pub late-row-has : (s offsets : List ℕ) (z : Size) (row : ℕ) → 2 ≤ row → RowHasRowsUp s offsets z row
+late-row-has s offsets z row two =
+    each-block s (row * z .width) (predictor z row) (λ h b. HasRowsUp row (h .up)) (λ h b e. two) (blocks-in (z .width)) 0 _
 
 -- ── Rows ──
 
@@ -220,17 +220,17 @@ inner-rows s offsets w predict zero row = []
 inner-rows s offsets w predict (suc n) row = inner-row s w (predict row) row (getD offsets row 0) ++ inner-rows s offsets w predict n (suc row)
 
 module _ {A : Type 0} (k : Kind A) (s offsets : List ℕ) (z : Size) where
-  row-agree : (row : ℕ) → row < z .height → Found s offsets z row → (f g : List A) → Agree k (row * z .width) f g
+  row-agree : (row : ℕ) → row < z .height → RowHasRowsUp s offsets z row → (f g : List A) → Agree k (row * z .width) f g
       → z .height * z .width ≤ length f → z .height * z .width ≤ length g
       → Agree k (row * z .width + z .width) (apply k (row-ops s z row (getD offsets row 0) .ops) f)
       (apply k (inner-row s (z .width) (predictor z row) row (getD offsets row 0)) g)
   unfolding row-ops inner-row
   row-agree row r ok f g a lf lg =
       let end : suc row * z .width ≤ z .height * z .width = mul-le-mul-right (z .width) r in
-      blocks-agree k s (row * z .width) (z .width) (predictor z row) (Exists row) (predictor-reads z row r) (blocks-in (z .width)) 0 _ ok
+      blocks-agree k s (row * z .width) (z .width) (predictor z row) (HasRowsUp row) (predictor-reads z row r) (blocks-in (z .width)) 0 _ ok
       (omega arith) f g (λ i l l′. a i (omega arith)) (omega arith) (omega arith)
 
-  rows-agree : (n row : ℕ) → n ≤ z .height - row → ((r : ℕ) → row ≤ r → r < z .height → Found s offsets z r)
+  rows-agree : (n row : ℕ) → n ≤ z .height - row → ((r : ℕ) → row ≤ r → r < z .height → RowHasRowsUp s offsets z r)
       → (f g : List A) → Agree k (row * z .width) f g → length f ≡ z .height * z .width → length g ≡ z .height * z .width
       → Agree k ((row + n) * z .width) (apply k (rows s offsets z n row) f) (apply k (inner-rows s offsets (z .width) (predictor z) n row) g)
   unfolding rows inner-rows apply
@@ -251,9 +251,9 @@ module _ {A : Type 0} (k : Kind A) (s offsets : List ℕ) (z : Size) where
       end-is : row + suc n ≡ suc row + n
       end-is = omega arith
 
-  -- Rows to the frame's end, of which every direction finds its rows, leave a frame that only the cells before them decide; and
-  -- they leave the same frame without their spill.
-  pub rows-inner : (n row : ℕ) → n ≡ z .height - row → ((r : ℕ) → row ≤ r → r < z .height → Found s offsets z r)
+  -- Rows to the frame's end, whose blocks of direction 1 have the rows that they look at, leave a frame that the cells before them
+  -- alone decide; and they leave the same frame without their spill.
+  pub rows-inner : (n row : ℕ) → n ≡ z .height - row → ((r : ℕ) → row ≤ r → r < z .height → RowHasRowsUp s offsets z r)
       → (f g : List A) → Agree k (row * z .width) f g → length f ≡ cells z → length g ≡ cells z
       → apply k (rows s offsets z n row) f ≡ apply k (inner-rows s offsets (z .width) (predictor z) n row) g
   rows-inner n row e ok f g a lf lg =

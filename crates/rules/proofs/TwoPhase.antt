@@ -27,7 +27,7 @@ use Rattle.rules.specs.Answer.{scratch-bytes}
 use Rattle.rules.proofs.Cells.{All, nil, more, all-append, all-map, all-every}
 use Rattle.rules.proofs.V0Blocks.{block, after}
 use Rattle.rules.proofs.V0Cells.{apply-append, apply-length, first-rows-length, phase-one-length, decoded-below}
-use Rattle.rules.proofs.Spill.{cell, Agree, within, within-append, found, inner-row, inner-rows, rows-inner}
+use Rattle.rules.proofs.Spill.{cell, Agree, within, within-append, late-row-has, inner-row, inner-rows, rows-inner}
 use Rattle.rules.proofs.Stored.{stored, stored-append, stored-other, stored-held, added, added-append, Held, added-apply, inner-rows-from, inner-rows-below, inner-rows-apart}
 use Rattle.rules.proofs.SkipRule.{rows-alike}
 
@@ -43,7 +43,7 @@ late-bits w row col false c l = go (eqb col 0)
     go false = refl
 
 -- Where no sample is skipped, phase one reads the residuals of the operations.
-residuals-samples : (s : List ℕ) (base : ℕ) (ls : List ℤ) (predict : ℕ → Predictor) → ((c : ℕ) (l : ℤ) → residual-bits (predict c) l ≡ length-bits l)
+pub residuals-samples : (s : List ℕ) (base : ℕ) (ls : List ℤ) (predict : ℕ → Predictor) → ((c : ℕ) (l : ℤ) → residual-bits (predict c) l ≡ length-bits l)
     → (cs : List ℕ) (b : Bits)
     → residuals s ls cs b ≡ record { values = map (λ o. o .residual) (samples s base ls predict cs b .ops); bits = samples s base ls predict cs b .bits }
 unfolding residuals samples sample
@@ -52,8 +52,8 @@ residuals-samples s base ls predict h (c ∷ cs) b = rw (samples, h c (length-of
 
 -- ── Phase one stores the residuals ──
 
-shift : (first col c w : ℕ) → ltb (first + col + c) (first + w) ≡ ltb (col + c) w
-shift first col c w = go (ltb (col + c) w) refl
+ltb-shift : (first col c w : ℕ) → ltb (first + col + c) (first + w) ≡ ltb (col + c) w
+ltb-shift first col c w = go (ltb (col + c) w) refl
   where
     go : (t : Bool) → ltb (col + c) w ≡ t → ltb (first + col + c) (first + w) ≡ t
     go true e = let l = ltb-true (col + c) w e in lt-ltb (first + col + c) (first + w) (omega arith)
@@ -64,7 +64,7 @@ store-samples-stored : (s : List ℕ) (first w col : ℕ) (ls : List ℤ) (predi
     ≡ stored (within (first + w) (samples s (first + col) ls predict cs b .ops)) f
 unfolding samples sample store-samples within stored
 store-samples-stored s first w col ls predict [] b f = refl
-store-samples-stored s first w col ls predict (c ∷ cs) b f = rw (shift first col c w) (go (ltb (col + c) w) (λ g. store-samples-stored s first w col ls predict cs _ g))
+store-samples-stored s first w col ls predict (c ∷ cs) b f = rw (ltb-shift first col c w) (go (ltb (col + c) w) (λ g. store-samples-stored s first w col ls predict cs _ g))
   where
     o : V0Op
     o = sample s (first + col) ls predict c b .op
@@ -155,7 +155,7 @@ module _ {A : Type 0} (g : Stage A) where
   unfolding samples sample predict-samples within added
   predict-samples-added s w row col up ls [] b f = refl
   predict-samples-added s w row col up ls (c ∷ cs) b f =
-      rw (shift (row * w) col c w) (go (ltb (col + c) w) (λ e. predict-samples-added s w row col up ls cs _ e))
+      rw (ltb-shift (row * w) col c w) (go (ltb (col + c) w) (λ e. predict-samples-added s w row col up ls cs _ e))
     where
       x : Step
       x = sample s (row * w + col) ls (late-predictor w row col up) c b
@@ -225,7 +225,7 @@ phase-two-frame g s offsets z f e lf le agree held =
     (phase-two-added g s offsets (z .width) (z .height - 2) 2 e
     ∙ added-apply g (inner-rows-apart s offsets (z .width) (late-predictor (z .width)) (z .height - 2) 2) e held
     ∙ ap (λ os. apply (g .kind) os e) (sym (rows-alike s offsets z (z .height - 2) 2 (lit≤ tt) (omega arith)))
-    ∙ sym (rows-inner (g .kind) s offsets z (z .height - 2) 2 refl (λ r two l. found s offsets z r two) _ e agree (apply-length (g .kind) _ f ∙ lf) le)
+    ∙ sym (rows-inner (g .kind) s offsets z (z .height - 2) 2 refl (λ r two l. late-row-has s offsets z r two) _ e agree (apply-length (g .kind) _ f ∙ lf) le)
     ∙ sym (apply-append (g .kind) (rows s offsets z (min (z .height) 2) 0) _ f)
     ∙ ap (λ os. apply (g .kind) os f) (sym (rows-split s offsets z (z .height))))
 

@@ -1,12 +1,14 @@
--- A row's blocks one by one: what holds of every block that the parser meets.
-use Prim.Native.Nat.{ℕ, zero, suc, _+_}
+-- A row's blocks one by one: what holds of every block that the direct parser meets.
+use Prim.Native.Nat.{ℕ, zero, suc, _+_, _*_}
 use mathlib.Core.Bool.{Bool}
 use mathlib.Core.List.{List}
+use lib.ListN.{getD}
+use Rattle.rules.specs.declared.answer.Size.{Size}
 use Rattle.rules.specs.declared.reader.Bits.{Bits}
 use Rattle.rules.specs.declared.v0.Predictor.{Predictor}
 use Rattle.rules.specs.declared.v0.V0Row.{V0Row}
 use Rattle.rules.specs.declared.v0.V0Head.{V0Head}
-use Rattle.rules.specs.V0.{Ops, head, samples, order}
+use Rattle.rules.specs.V0.{Ops, head, samples, order, blocks-in, fresh-row, predictor}
 
 module _ (s : List ℕ) (first : ℕ) (predict : ℕ → Bool → ℕ → Predictor) where
   -- The operations of the block at a column.
@@ -34,3 +36,8 @@ module _ (s : List ℕ) (first : ℕ) (predict : ℕ → Bool → ℕ → Predic
   unfolding EachBlock
   each-block-map P Q h zero col st p = tt
   each-block-map P Q h (suc n) col st p = (h _ _ (p .0), each-block-map P Q h n (col + 16) (after col st) (p .1))
+
+-- P holds of each block of a row of the frame.
+abbrev pub EachInRow : (V0Head → Bits → Type 0) → List ℕ → List ℕ → Size → ℕ → Type 0
+EachInRow P s offsets z row =
+    EachBlock s (row * z .width) (predictor z row) P (blocks-in (z .width)) 0 (fresh-row row (getD offsets row 0))
