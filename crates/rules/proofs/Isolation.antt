@@ -12,23 +12,20 @@ use Prim.Native.Nat.{ℕ, _+_, _%_, _<_, _≤_}
 use mathlib.Core.Path.{_≡_, refl, sym, ap, _∙_, subst}
 use mathlib.Core.Bool.{Bool, true, false, cond}
 use mathlib.Core.Logic.{_⊎_}
-use mathlib.Core.List.{List, [], _∷_, _++_}
+use mathlib.Core.List.{List, _++_}
 use mathlib.Core.Option.{Option, none, some}
 use native.Mathlib.Omega.{arith}
-use lib.ListN.{length, getD, take, drop, length-append, List·getD-append}
+use lib.ListN.{length, getD, take, drop, List·getD-append}
 use lib.Dec.{eqb}
 use lib.Seq.{length-take-le, getD-take, take-at, drop-at}
 use borrow.Author.Tests.{eqb-true}
 use Rattle.rules.specs.declared.answer.Answer.{Answer}
 use Rattle.rules.specs.declared.answer.Size.{Size}
 use Rattle.rules.specs.Frame.{cells}
-use Rattle.rules.specs.V0 as V0
-use Rattle.rules.specs.Phases as Phases
-use Rattle.rules.specs.V2 as V2
-use Rattle.rules.specs.Map.{Origin, stream, origins, position, amount, v0-map, two-phase-map, v2-map}
+use Rattle.rules.specs.Map.{stream, origins, position, amount}
 use Rattle.rules.specs.Answer.{Decoder, direct, two-phase, v2, Ask, Lent, lent, answer, refusal, marks, frame-samples, frame-marks, stream-answer, samples-after, map-after, unless-refused}
 use Rattle.rules.proofs.Cells.{All, all-append, all-take, all-drop}
-use Rattle.rules.proofs.Refusals.{passed, answer-passed, samples-enough, map-enough}
+use Rattle.rules.proofs.Refusals.{passed, answer-passed, samples-enough}
 use Rattle.rules.proofs.V0Cells as V0Cells
 use Rattle.rules.proofs.V2Cells as V2Cells
 use Rattle.rules.proofs.Origins.{position-below, marked-value, unmarked-same}

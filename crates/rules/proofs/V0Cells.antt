@@ -1,11 +1,11 @@
 -- What every list of V0 operations does to a frame, whatever the parser put in it: two kinds of cell that a relation joins stay
 -- joined, a frame keeps its length, and samples stay below 65,536.
 use Prim.Native.Nat.{ℕ, zero, suc, _+_, _-_, _*_, _/_, _<_, min}
-use mathlib.Core.Bool.{Bool, true, false, cond, not}
+use mathlib.Core.Bool.{Bool, true, false, cond}
 use mathlib.Core.Path.{_≡_, refl, _∙_}
 use mathlib.Core.List.{List, [], _∷_, _++_}
 use native.Mathlib.Nat.{mod-lt}
-use lib.Dec.{ltb, eqb, lit<}
+use lib.Dec.{ltb, lit<}
 use lib.ListN.{length, getD, set, take, drop, length-set, length-replicate}
 use Rattle.rules.specs.declared.answer.Size.{Size}
 use Rattle.rules.specs.declared.v0.Predictor.{Predictor}
@@ -167,7 +167,7 @@ module _ {A : Type 0} (g : Stage A) where
   unfolding predict-blocks
   predict-blocks-length w row col [] f = refl
   predict-blocks-length w row col (d ∷ ds) f =
-      predict-blocks-length w row (col + 16) ds _ ∙ predict-samples-length w row col (not (eqb d 0)) order f
+      predict-blocks-length w row (col + 16) ds _ ∙ predict-samples-length w row col _ order f
 
   pub phase-two-length : (w n row : ℕ) (ds : List ℕ) (f : List A) → length (phase-two g w n row ds f) ≡ length f
   unfolding phase-two
