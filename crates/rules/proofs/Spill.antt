@@ -29,11 +29,12 @@ use Rattle.rules.proofs.V0Cells.{put-length, apply-length, apply-append
 
 -- ── Operations within a bound ──
 
--- The operations at places below a bound.
+-- The operations at places below a bound ..
 unfoldable pub within : ℕ → List V0Op → List V0Op
 within n [] = []
 within n (o ∷ os) = cond (ltb (o .place) n) (o ∷ within n os) (within n os)
 
+-- .. one list after another.
 pub within-append : (n : ℕ) (os ps : List V0Op) → within n (os ++ ps) ≡ within n os ++ within n ps
 unfolding within
 within-append n [] ps = refl
@@ -51,6 +52,7 @@ pub record Fits (base bound : ℕ) (o : V0Op) : Type 0 where
   pub low : base ≤ o .place
   pub reads : o .place < bound → Before base (o .predictor)
 
+-- The cell at a place: a place at N or beyond counts as 0.
 abbrev pub cell : {A : Type 0} → Kind A → List A → ℕ → A
 cell k f i = getD f i (k .constant 0)
 
@@ -172,6 +174,7 @@ all-samples P s base ls predict (c ∷ cs) b (more h hs) = more h (all-samples P
 
 module _ {A : Type 0} (k : Kind A) (s : List ℕ) (first w : ℕ) (predict : ℕ → Bool → ℕ → Predictor) (Ok : Bool → Type 0)
     (reads : (col : ℕ) (up : Bool) → Ok up → (c : ℕ) → first + col + c < first + w → Before (first + col) (predict col up c)) where
+  -- Blocks to the row's end, with and without their spill, in frames that agree before the first of them.
   blocks-agree : (n col : ℕ) (st : V0Row) → EachBlock s first predict (λ h b. Ok (h .up)) n col st → w ≤ col + 16 * n
       → (f g : List A) → ((i : ℕ) → i < first + col → i < first + w → cell k f i ≡ cell k g i) → first + w ≤ length f → first + w ≤ length g
       → Agree k (first + w) (apply k (blocks s first predict n col st .ops) f) (apply k (within (first + w) (blocks s first predict n col st .ops)) g)
@@ -220,6 +223,7 @@ inner-rows s offsets w predict zero row = []
 inner-rows s offsets w predict (suc n) row = inner-row s w (predict row) row (getD offsets row 0) ++ inner-rows s offsets w predict n (suc row)
 
 module _ {A : Type 0} (k : Kind A) (s offsets : List ℕ) (z : Size) where
+  -- A row in frames that agree before it ..
   row-agree : (row : ℕ) → row < z .height → RowHasRowsUp s offsets z row → (f g : List A) → Agree k (row * z .width) f g
       → z .height * z .width ≤ length f → z .height * z .width ≤ length g
       → Agree k (row * z .width + z .width) (apply k (row-ops s z row (getD offsets row 0) .ops) f)
@@ -230,6 +234,7 @@ module _ {A : Type 0} (k : Kind A) (s offsets : List ℕ) (z : Size) where
       blocks-agree k s (row * z .width) (z .width) (predictor z row) (HasRowsUp row) (predictor-reads z row r) (blocks-in (z .width)) 0 _ ok
       (omega arith) f g (λ i l l′. a i (omega arith)) (omega arith) (omega arith)
 
+  -- .. and n rows.
   rows-agree : (n row : ℕ) → n ≤ z .height - row → ((r : ℕ) → row ≤ r → r < z .height → RowHasRowsUp s offsets z r)
       → (f g : List A) → Agree k (row * z .width) f g → length f ≡ z .height * z .width → length g ≡ z .height * z .width
       → Agree k ((row + n) * z .width) (apply k (rows s offsets z n row) f) (apply k (inner-rows s offsets (z .width) (predictor z) n row) g)
@@ -258,7 +263,7 @@ module _ {A : Type 0} (k : Kind A) (s offsets : List ℕ) (z : Size) where
       → apply k (rows s offsets z n row) f ≡ apply k (inner-rows s offsets (z .width) (predictor z) n row) g
   rows-inner n row e ok f g a lf lg =
       ext-getD (k .constant 0) _ _ (apply-length k _ f ∙ lf ∙ sym (apply-length k _ g ∙ lg))
-      (λ i l. rows-agree n row (omega arith) ok f g a (rw (mul-comm) lf) (rw mul-comm lg) i (below i (rw (apply-length k, lf) at l)))
+      (λ i l. rows-agree n row (omega arith) ok f g a (rw mul-comm lf) (rw mul-comm lg) i (below i (rw (apply-length k, lf) at l)))
     where
       below : (i : ℕ) → i < cells z → i < (row + n) * z .width
       below i l = let q : z .height * z .width ≤ (row + n) * z .width = mul-le-mul-right (z .width) (omega arith) in omega (arith, mul-comm (z .width) (z .height))

@@ -26,16 +26,18 @@ use Rattle.rules.proofs.Spill.{cell, put-other, within, samples-all, in
 
 -- ── Storing, and adding ──
 
--- Each operation's residual at its place.
+-- Each operation's residual at its place ..
 unfoldable pub stored : List V0Op → List ℕ → List ℕ
 stored [] f = f
 stored (o ∷ os) f = stored os (set f (o .place) (o .residual))
 
+-- .. one list after another.
 pub stored-append : (os ps : List V0Op) (f : List ℕ) → stored (os ++ ps) f ≡ stored ps (stored os f)
 unfolding stored
 stored-append [] ps f = refl
 stored-append (o ∷ os) ps f = stored-append os ps (set f (o .place) (o .residual))
 
+-- Storing changes no cell but those at the operations' places.
 pub stored-other : (i : ℕ) {os : List V0Op} → All (λ o. o .place ≢ i) os → (f : List ℕ) → getD (stored os f) i 0 ≡ getD f i 0
 unfolding stored
 stored-other i nil f = refl
@@ -51,11 +53,12 @@ stored-held (next {a = o} away rest) f n e (more l ls) =
     (stored-held rest (set f (o .place) (o .residual)) n (length-set f (o .place) (o .residual) ∙ e) ls)
 
 module _ {A : Type 0} (g : Stage A) where
-  -- Each operation with the residual that stands at its place.
+  -- Each operation with the residual that stands at its place ..
   unfoldable pub added : List V0Op → List A → List A
   added [] f = f
   added (o ∷ os) f = added os (put (g .kind) (o .place) (o .predictor) (g .residual (cell (g .kind) f (o .place))) f)
 
+  -- .. one list after another.
   pub added-append : (os ps : List V0Op) (f : List A) → added (os ++ ps) f ≡ added ps (added os f)
   unfolding added
   added-append [] ps f = refl
@@ -151,7 +154,7 @@ module _ (s : List ℕ) (first : ℕ) (predict : ℕ → Bool → ℕ → Predic
       (blocks-from n (col + 16) (after s first predict col st))
 
 module _ (s offsets : List ℕ) (w : ℕ) (predict : ℕ → ℕ → Bool → ℕ → Predictor) where
-  -- The operations of rows without their spill lie within the rows ..
+  -- The operations of rows without their spill lie at or after the first row ..
   pub inner-rows-from : (n row : ℕ) → All (λ o. row * w ≤ o .place) (inner-rows s offsets w predict n row)
   unfolding inner-rows inner-row
   inner-rows-from zero row = nil
@@ -161,6 +164,7 @@ module _ (s offsets : List ℕ) (w : ℕ) (predict : ℕ → ℕ → Bool → �
       (all-map (λ o. row * w + 0 ≤ o .place) (λ o. row * w ≤ o .place) (λ o l. omega arith) (blocks-from s (row * w) (predict row) (blocks-in w) 0 _)))
       (all-map (λ o. suc row * w ≤ o .place) (λ o. row * w ≤ o .place) (λ o l. omega arith) (inner-rows-from n (suc row)))
 
+  -- .. and before the frame's end ..
   pub inner-rows-below : (h n row : ℕ) → n ≤ h - row → All (λ o. o .place < h * w) (inner-rows s offsets w predict n row)
   unfolding inner-rows inner-row
   inner-rows-below h zero row l = nil

@@ -79,13 +79,19 @@ decoded-below s offsets z h = frame-all sample-kind (λ x. x < 65_536) (λ v l. 
 
 -- ── Lengths ──
 
+if-length : {A : Type 0} (t : Bool) (f g : List A) → length f ≡ length g → length (cond t f g) ≡ length g
+if-length true f g e = e
+if-length false f g e = refl
+
 module _ {A : Type 0} (k : Kind A) where
+  -- One operation keeps the frame's length ..
   pub put-length : (place : ℕ) (p : Predictor) (d : ℕ) (f : List A) → length (put k place p d f) ≡ length f
   unfolding put
   put-length place Skipped d f = refl
   put-length place Constant d f = length-set f place _
   put-length place (Sample p) d f = length-set f place _
 
+  -- .. and so does a list of them ..
   pub apply-length : (os : List V0Op) (f : List A) → length (apply k os f) ≡ length f
   unfolding apply
   apply-length [] f = refl
@@ -101,10 +107,12 @@ module _ {A : Type 0} (k : Kind A) where
   rows-length w zero row f = refl
   rows-length w (suc n) row f = rows-length w n (row + 2) _ ∙ columns-length w row (w / 2) 0 f
 
+  -- .. the exchange ..
   pub exchange-length : (z : Size) (f : List A) → length (exchange k z f) ≡ length f
   unfolding exchange
   exchange-length z f = rows-length (z .width) (z .height / 2) 0 f
 
+  -- .. and a whole frame.
   pub frame-length : (s offsets : List ℕ) (z : Size) (f : List A) → length (frame k s offsets z f) ≡ length f
   unfolding frame
   frame-length s offsets z f = exchange-length z _ ∙ apply-length (rows s offsets z (z .height) 0) f
@@ -115,10 +123,12 @@ module _ {A : Type 0} (k : Kind A) where
   apply-append [] ps f = refl
   apply-append (o ∷ os) ps f = apply-append os ps (put k (o .place) (o .predictor) (o .residual) f)
 
+-- The direct decoder leaves as many samples as it finds ..
 pub decoded-length : (s offsets : List ℕ) (z : Size) (f : List ℕ) → length (decoded s offsets z f) ≡ length f
 unfolding decoded
 decoded-length s offsets z f = frame-length sample-kind s offsets z f
 
+-- .. and a map byte for each sample of the frame.
 pub v0-map-length : (s offsets : List ℕ) (z : Size) → length (v0-map s offsets z) ≡ cells z
 unfolding v0-map
 v0-map-length s offsets z = frame-length v0-marks s offsets z (all-old z) ∙ length-replicate (cells z) 1
@@ -129,11 +139,9 @@ store-samples-length : (first w col : ℕ) (cs vs f : List ℕ) → length (stor
 unfolding store-samples
 store-samples-length first w col [] vs f = refl
 store-samples-length first w col (c ∷ cs) [] f = refl
-store-samples-length first w col (c ∷ cs) (v ∷ vs) f = store-samples-length first w col cs vs _ ∙ go (ltb (col + c) w)
-  where
-    go : (t : Bool) → length (cond t (set f (first + col + c) v) f) ≡ length f
-    go true = length-set f (first + col + c) v
-    go false = refl
+store-samples-length first w col (c ∷ cs) (v ∷ vs) f =
+    store-samples-length first w col cs vs _
+    ∙ if-length (ltb (col + c) w) (set f (first + col + c) v) f (length-set f (first + col + c) v)
 
 store-blocks-length : (first w col : ℕ) (rs : List BlockRecord) (f : List ℕ) → length (store-blocks first w col rs f) ≡ length f
 unfolding store-blocks
@@ -141,6 +149,7 @@ store-blocks-length first w col [] f = refl
 store-blocks-length first w col (r ∷ rs) f =
     store-blocks-length first w (col + 16) rs _ ∙ store-samples-length first w col order (r .residuals) f
 
+-- Phase one keeps the frame's length ..
 pub phase-one-length : (s offsets : List ℕ) (w n row : ℕ) (f : List ℕ) → length (phase-one s offsets w n row f) ≡ length f
 unfolding phase-one
 phase-one-length s offsets w zero row f = refl
@@ -151,17 +160,11 @@ module _ {A : Type 0} (g : Stage A) where
   predict-samples-length : (w row col : ℕ) (up : Bool) (cs : List ℕ) (f : List A) → length (predict-samples g w row col up cs f) ≡ length f
   unfolding predict-samples
   predict-samples-length w row col up [] f = refl
-  predict-samples-length w row col up (c ∷ cs) f = predict-samples-length w row col up cs _ ∙ go (ltb (col + c) w)
-    where
-      place : ℕ
-      place = row * w + col + c
-
-      new : List A
-      new = put (g .kind) place (late-predictor w row col up c) (g .residual (getD f place (g .kind .constant 0))) f
-
-      go : (t : Bool) → length (cond t new f) ≡ length f
-      go true = put-length (g .kind) place (late-predictor w row col up c) _ f
-      go false = refl
+  predict-samples-length w row col up (c ∷ cs) f =
+      let place : ℕ = row * w + col + c in
+      let d : ℕ = g .residual (getD f place (g .kind .constant 0)) in
+      predict-samples-length w row col up cs _
+      ∙ if-length (ltb (col + c) w) (put (g .kind) place (late-predictor w row col up c) d f) f (put-length (g .kind) place (late-predictor w row col up c) d f)
 
   predict-blocks-length : (w row col : ℕ) (ds : List ℕ) (f : List A) → length (predict-blocks g w row col ds f) ≡ length f
   unfolding predict-blocks
@@ -169,16 +172,19 @@ module _ {A : Type 0} (g : Stage A) where
   predict-blocks-length w row col (d ∷ ds) f =
       predict-blocks-length w row (col + 16) ds _ ∙ predict-samples-length w row col _ order f
 
+  -- .. so does phase two ..
   pub phase-two-length : (w n row : ℕ) (ds : List ℕ) (f : List A) → length (phase-two g w n row ds f) ≡ length f
   unfolding phase-two
   phase-two-length w zero row ds f = refl
   phase-two-length w (suc n) row ds f =
       phase-two-length w n (suc row) (drop (blocks-in w) ds) _ ∙ predict-blocks-length w row 0 (take (blocks-in w) ds) f
 
+-- .. and so do the rows before them.
 pub first-rows-length : {A : Type 0} (k : Kind A) (s offsets : List ℕ) (z : Size) (f : List A) → length (first-rows k s offsets z f) ≡ length f
 unfolding first-rows
 first-rows-length k s offsets z f = apply-length k (rows s offsets z (min (z .height) 2) 0) f
 
+-- The two-phase decoder leaves as many samples as it finds ..
 pub two-phase-length : (s offsets : List ℕ) (z : Size) (f : List ℕ) → length (two-phase s offsets z f) ≡ length f
 unfolding two-phase
 two-phase-length s offsets z f =
@@ -187,6 +193,7 @@ two-phase-length s offsets z f =
     ∙ phase-one-length s offsets (z .width) (z .height - 2) 2 _
     ∙ first-rows-length sample-kind s offsets z f
 
+-- .. and a map byte for each sample of the frame.
 pub two-phase-map-length : (s offsets : List ℕ) (z : Size) → length (two-phase-map s offsets z) ≡ cells z
 unfolding two-phase-map
 two-phase-map-length s offsets z =
