@@ -188,7 +188,7 @@ first-rows-length k s offsets z f = apply-length k (rows s offsets z (min (z .he
 pub two-phase-length : (s offsets : List ℕ) (z : Size) (f : List ℕ) → length (two-phase s offsets z f) ≡ length f
 unfolding two-phase
 two-phase-length s offsets z f =
-    exchange-length sample-kind z _
+    exchange-length sample-kind _ _
     ∙ phase-two-length sample-stage (z .width) (z .height - 2) 2 (scratch s offsets z) _
     ∙ phase-one-length s offsets (z .width) (z .height - 2) 2 _
     ∙ first-rows-length sample-kind s offsets z f
@@ -197,7 +197,7 @@ two-phase-length s offsets z f =
 pub two-phase-map-length : (s offsets : List ℕ) (z : Size) → length (two-phase-map s offsets z) ≡ cells z
 unfolding two-phase-map
 two-phase-map-length s offsets z =
-    exchange-length v0-marks z _
+    exchange-length v0-marks _ _
     ∙ phase-two-length mark-stage (z .width) (z .height - 2) 2 (scratch s offsets z) _
     ∙ first-rows-length v0-marks s offsets z (all-old z)
     ∙ length-replicate (cells z) 1
