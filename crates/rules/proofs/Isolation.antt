@@ -105,7 +105,7 @@ abbrev pub Samples : List ℕ → Type 0
 Samples b = All (λ v. v < 65_536) b
 
 -- The claim: of every two lists of calls, whose last calls are c and d.
-pub Isolation : Type 0
+abbrev pub Isolation : Type 0
 Isolation =
     (b b′ x y : List ℕ) → Samples b → Samples b′ → Calls b x → Calls b′ y
     → (c d : Returned) (rest rest′ : List ℕ) → x ≡ c .found ++ rest → y ≡ d .found ++ rest′
@@ -228,7 +228,6 @@ calls-below h (call cs c rest e) =
 -- ── The claim ──
 
 pub isolation : Isolation
-unfolding Isolation
 isolation b b′ x y h h′ cs ds c d rest rest′ e e′ alike ran ran′ =
     record {
       answers = c .answered-is ∙ answer-passed (c .ask) (lent-to c) ok ∙ ap (λ a. stream-answer (a .decoder) (a .stream) (a .size)) (alike .ask)
