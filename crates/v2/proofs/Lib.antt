@@ -1,3 +1,5 @@
 -- What the proofs of the stages share.
+pub mod BaseLaws
+pub mod Fill
 pub mod HeaderLaws
 pub mod Magnitude

@@ -1,0 +1,2 @@
+-- What the contracts of the stages say beside the rules.
+pub mod Places
