@@ -13,32 +13,32 @@ use Rattle.rules.specs.Map.{v2-marks, v2-map}
 use Rattle.rules.proofs.Cells.{Each, none, both, each-get}
 use Rattle.rules.proofs.V2Cells.{Joined, frame-joined}
 
--- A sample is fixed by the stream, or open: it may rest on an old value.
+-- A sample is fixed by the stream, or unknown: it may rest on an old value.
 data Fixed : Type 0 where
   fixed : ℕ → Fixed
-  open-to : Fixed
+  unknown : Fixed
 
 unfoldable fixed-average : Fixed → Fixed → Fixed
 fixed-average (fixed a) (fixed b) = fixed (average a b)
-fixed-average (fixed a) open-to = open-to
-fixed-average open-to b = open-to
+fixed-average (fixed a) unknown = unknown
+fixed-average unknown b = unknown
 
 unfoldable fixed-sample : ℕ → ℤ → ℤ → Fixed → Fixed
 fixed-sample t scale d (fixed a) = fixed (sample t scale d a)
-fixed-sample t scale d open-to = open-to
+fixed-sample t scale d unknown = unknown
 
 abbrev fixed-kind : ℕ → Kind Fixed
 fixed-kind t = record { constant = fixed; average = fixed-average; adjust = fixed-sample t }
 
 unfoldable fixed-frame : List ℕ → Size → List Fixed
-fixed-frame s z = frame (fixed-kind (top (header s .hdr))) s z (replicate (cells z) open-to)
+fixed-frame s z = frame (fixed-kind (top (header s .hdr))) s z (replicate (cells z) unknown)
 
 -- ── Samples ──
 
--- What an open sample is, is left open.
+-- An unknown sample may be anything.
 data Is : Fixed → ℕ → Type 0 where
   is-fixed : {v : ℕ} → Is (fixed v) v
-  is-open : {v : ℕ} → Is open-to v
+  is-unknown : {v : ℕ} → Is unknown v
 
 samples-joined : (t : ℕ) → Joined Is (fixed-kind t) (sample-kind t)
 unfolding fixed-average fixed-sample
@@ -46,28 +46,28 @@ samples-joined t = record { constant = λ v. is-fixed; average = averages; adjus
   where
     averages : (a : Fixed) (b : ℕ) (a′ : Fixed) (b′ : ℕ) → Is a b → Is a′ b′ → Is (fixed-average a a′) (average b b′)
     averages a b a′ b′ is-fixed is-fixed = is-fixed
-    averages a b a′ b′ is-fixed is-open = is-open
-    averages a b a′ b′ is-open q = is-open
+    averages a b a′ b′ is-fixed is-unknown = is-unknown
+    averages a b a′ b′ is-unknown q = is-unknown
 
     adjusts : (scale d : ℤ) (a : Fixed) (b : ℕ) → Is a b → Is (fixed-sample t scale d a) (sample t scale d b)
     adjusts scale d a b is-fixed = is-fixed
-    adjusts scale d a b is-open = is-open
+    adjusts scale d a b is-unknown = is-unknown
 
-all-open : (f : List ℕ) → Each Is (replicate (length f) open-to) f
-all-open [] = none
-all-open (x ∷ f) = both is-open (all-open f)
+all-unknown : (f : List ℕ) → Each Is (replicate (length f) unknown) f
+all-unknown [] = none
+all-unknown (x ∷ f) = both is-unknown (all-unknown f)
 
 sample-is : (s : List ℕ) (z : Size) (f : List ℕ) → length f ≡ cells z → (i : ℕ) → Is (getD (fixed-frame s z) i (fixed 0)) (getD (decoded s z f) i 0)
 unfolding fixed-frame decoded
 sample-is s z f e i =
     let t = top (header s .hdr) in
-    each-get Is (frame-joined Is (fixed-kind t) (sample-kind t) (samples-joined t) s z (rw (← e) (all-open f))) i (fixed 0) 0 is-fixed
+    each-get Is (frame-joined Is (fixed-kind t) (sample-kind t) (samples-joined t) s z (rw (← e) (all-unknown f))) i (fixed 0) 0 is-fixed
 
 -- ── Marks ──
 
 unfoldable mark : Fixed → ℕ
 mark (fixed v) = 0
-mark open-to = 1
+mark unknown = 1
 
 abbrev Marked : Fixed → ℕ → Type 0
 Marked a b = mark a ≡ b
@@ -78,15 +78,15 @@ marks-joined t = record { constant = λ v. refl; average = averages; adjust = ad
   where
     averages : (a : Fixed) (b : ℕ) (a′ : Fixed) (b′ : ℕ) → Marked a b → Marked a′ b′ → Marked (fixed-average a a′) (max b b′)
     averages (fixed x) b (fixed y) b′ p q = ap₂ max p q
-    averages (fixed x) b open-to b′ p q = ap₂ max p q
-    averages open-to b (fixed y) b′ p q = ap₂ max p q
-    averages open-to b open-to b′ p q = ap₂ max p q
+    averages (fixed x) b unknown b′ p q = ap₂ max p q
+    averages unknown b (fixed y) b′ p q = ap₂ max p q
+    averages unknown b unknown b′ p q = ap₂ max p q
 
     adjusts : (scale d : ℤ) (a : Fixed) (b : ℕ) → Marked a b → Marked (fixed-sample t scale d a) b
     adjusts scale d (fixed x) b p = p
-    adjusts scale d open-to b p = p
+    adjusts scale d unknown b p = p
 
-all-marked : (n : ℕ) → Each Marked (replicate n open-to) (replicate n 1)
+all-marked : (n : ℕ) → Each Marked (replicate n unknown) (replicate n 1)
 unfolding mark
 all-marked zero = none
 all-marked (suc n) = both refl (all-marked n)
@@ -106,7 +106,7 @@ v2-mark-most s z i = omega (arith, mark-is s z i, most (getD (fixed-frame s z) i
   where
     most : (a : Fixed) → mark a ≤ 1
     most (fixed v) = omega arith
-    most open-to = omega arith
+    most unknown = omega arith
 
 -- A sample marked 0 is the same over every two old frames.
 pub v2-unmarked-same : (s : List ℕ) (z : Size) (f g : List ℕ) → length f ≡ cells z → length g ≡ cells z
@@ -116,4 +116,4 @@ v2-unmarked-same s z f g ef eg i m = same (sample-is s z f ef i) (sample-is s z 
   where
     same : {a : Fixed} {u v : ℕ} → Is a u → Is a v → mark a ≡ 0 → u ≡ v
     same is-fixed is-fixed q = refl
-    same is-open is-open q = absurd (let r : 1 ≡ 0 = q in omega arith)
+    same is-unknown is-unknown q = absurd (let r : 1 ≡ 0 = q in omega arith)

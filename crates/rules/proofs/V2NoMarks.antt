@@ -1,16 +1,17 @@
 -- Document 01, "The map": an accepted V2 frame of a width divisible by 16 has no 1. Its blocks follow one another without a gap
 -- from the first sample to the last, and each reads only before itself.
 use Prim.Native.Nat.{ℕ, zero, suc, _+_, _-_, _*_, _/_, _%_, _<_, _≤_, max}
-use mathlib.Core.Bool.{Bool, true, false, _||_, cond}
+use mathlib.Core.Bool.{Bool, true, false, cond}
 use mathlib.Core.Path.{_≡_, refl, ap₂, _∙_, subst₂}
+use mathlib.Core.Logic.{inl}
 use mathlib.Core.List.{List, [], _∷_, _++_}
 use native.Mathlib.Omega.{arith}
 use native.Mathlib.Decide.{ℕ-discrete}
-use native.Mathlib.Nat.{mul-le-mul-right, mul-comm, add-zero}
+use native.Mathlib.Nat.{mul-comm, add-zero}
 use lib.ListN.{length, getD, set, length-set, length-replicate}
 use lib.Seq.{sets, getD-set-same, getD-set-other, length-sets}
 use lib.Dec.{ltb, eqb}
-use borrow.Author.Tests.{ltb-false, le-ltb, eqb-true, eqb-false}
+use borrow.Author.Tests.{ltb-false, le-ltb, eqb-false}
 use Rattle.rules.specs.declared.answer.Size.{Size}
 use Rattle.rules.specs.declared.reader.Bits.{Bits}
 use Rattle.rules.specs.declared.v2.V2Hdr.{V2Hdr}
@@ -18,9 +19,14 @@ use Rattle.rules.specs.declared.v2.V2Row.{V2Row}
 use Rattle.rules.specs.declared.v2.V2Block.{V2Block}
 use Rattle.rules.specs.declared.v2.V2Block.the-variants.{Next, EarlyMotion, Outside, LongDifference}
 use Rattle.rules.specs.Frame.{cells, tabulate}
-use Rattle.rules.specs.V2.{Base, given, copied, averaged, motion-averages, reference, repeated, referred, base, strays, any-strays, base-refusal, Block, Parsed, read-block, Row, then, blocks, fresh-row, fresh-mode, aligned, read-row, Frame, then-rows, rows, read-frame, header, base-cell, block-cells, apply, frame}
+use Rattle.rules.specs.V2.{Base, given, copied, averaged, motion-averages, repeated, referred, base, strays, any-strays, base-refusal, Block, Parsed, read-block, Row, then, blocks, fresh-row, fresh-mode, aligned, read-row, rows, read-frame, header, base-cell, block-cells, apply, frame}
 use Rattle.rules.specs.Map.{v2-marks, v2-map, all-old}
-use Rattle.rules.proofs.V2Bounds.{further, reference-5, reference-is, reference-most, inside, next-state, next-unrefused}
+use Rattle.rules.specs.Answer.{v2, Ask, Lent, stream-answer, answer, frame-marks, marks}
+use Rattle.rules.proofs.Refusals.{passed, answer-passed, v2-size-least}
+use Rattle.rules.proofs.Tests.{neither}
+use Rattle.rules.proofs.V2Rows.{then-rows-cases}
+use Rattle.rules.proofs.V2Places.{further, reference-5, reference-is, reference-before, inside}
+use Rattle.rules.proofs.V2Bounds.{next-state, next-unrefused}
 
 -- ── Blocks one after another ──
 
@@ -77,15 +83,11 @@ chain-zero (link {n = n} {b = b} at before c) f l z =
 
 -- ── A block reads before itself ──
 
-or-false : (t u : Bool) → t || u ≡ false → (t ≡ false) × (u ≡ false)
-or-false true u e = let z : _≡_ {A = ℕ} 0 1 = cc in absurd (omega arith)
-or-false false u e = (refl, e)
-
 no-strays : (n w row col motion k i j : ℕ) → any-strays n w row col motion k i ≡ false → i ≤ j → j < i + k → strays n w row col motion j ≡ false
 unfolding any-strays
 no-strays n w row col motion zero i j e l h = absurd (omega arith)
 no-strays n w row col motion (suc k) i j e l h =
-    go (or-false _ _ e) (ℕ-discrete j i) (λ f g. no-strays n w row col motion k (suc i) j f g (omega arith))
+    go (neither _ _ e) (ℕ-discrete j i) (λ f g. no-strays n w row col motion k (suc i) j f g (omega arith))
   where
     go : (strays n w row col motion i ≡ false) × (any-strays n w row col motion k (suc i) ≡ false) → Dec (j ≡ i)
         → (any-strays n w row col motion k (suc i) ≡ false → suc i ≤ j → strays n w row col motion j ≡ false) → strays n w row col motion j ≡ false
@@ -93,12 +95,6 @@ no-strays n w row col motion (suc k) i j e l h =
     go q (no r) rest = rest (q .1) (omega arith)
 
 module _ (w row col motion i : ℕ) (wide : 20 ≤ w) (two : 2 ≤ row) (l : i < 16) where
-  -- From row 2 on every reference, with averaging, lies before its block, in a frame of width 20 or more.
-  pub reference-before : reference-5 w row col motion i + further motion < row * w + col + 5
-  reference-before =
-      let up : suc (row - 1) * w ≤ row * w = mul-le-mul-right w (omega arith) in
-      omega (arith, up, reference-most w row col motion i two l)
-
   referred-before : (n : ℕ) → strays n w row col motion i ≡ false → Before (row * w + col) (referred w row col motion i)
   unfolding strays referred
   referred-before n e =
@@ -108,8 +104,8 @@ module _ (w row col motion i : ℕ) (wide : 20 ≤ w) (two : 2 ≤ row) (l : i <
     where
       go : (t : Bool) → getD motion-averages motion false ≡ t → 5 ≤ reference-5 w row col motion i → (let p = reference-5 w row col motion i - 5 in
           Before (row * w + col) (cond t (averaged p (p + 2)) (copied p)))
-      go true f k = let q = rw f at reference-before in (omega arith, omega arith)
-      go false f k = let q = rw f at reference-before in omega arith
+      go true f k = let q = rw f at (reference-before w row col motion i two l wide) in (omega arith, omega arith)
+      go false f k = let q = rw f at (reference-before w row col motion i two l wide) in omega arith
 
 module _ (h : V2Hdr) (n w row col : ℕ) (wide : 20 ≤ w) (column : col % 16 ≡ 0) where
   repeated-before : (i : ℕ) → Before (row * w + col) (repeated h w row col i)
@@ -176,31 +172,21 @@ module _ (s : List ℕ) (h : V2Hdr) (n w : ℕ) (wide : 20 ≤ w) where
   -- The blocks of rows that were accepted, where the width is a multiple of 16.
   rows-chain : w % 16 ≡ 0 → (k row : ℕ) (b : Bits) → rows s h n w k row b .answer .number ≡ 0
       → Chain (row * w) (rows s h n w k row b .blocks) ((row + k) * w)
-  unfolding rows then-rows read-row
-  rows-chain whole zero row b e = rw (add-zero row) stop
-  rows-chain whole (suc k) row b e =
-      go (eqb (q .number) 0) refl (q .bits .overrun) (rows-chain whole k (suc row) (q .bits)) e
+  unfolding rows read-row
+  rows-chain whole zero row b = λ e. rw (add-zero row) stop
+  rows-chain whole (suc k) row b =
+      let q = read-row s h n w row b in
+      then-rows-cases (λ x. x .answer .number ≡ 0 → Chain (row * w) (x .blocks) ((row + suc k) * w)) row q (rows s h n w k (suc row) (q .bits))
+      (λ r e. absurd (r e)) (λ r e. absurd (let z : 8 ≡ 0 = e in omega arith))
+      (λ r e. rw on (chain-append (this r) (rows-chain whole k (suc row) (q .bits) e)))
     where
-      q : Row
-      q = read-row s h n w row b
-
-      rest : Frame
-      rest = rows s h n w k (suc row) (q .bits)
-
       on : row + suc k ≡ suc row + k
       on = omega arith
 
-      this : q .number ≡ 0 → Chain (row * w) (q .blocks) (suc row * w)
-      this e = subst₂ (λ x y. Chain x (q .blocks) y) (omega arith) (omega arith) (blocks-chain row (w / 16) 0 (aligned b) fresh-row (fresh-mode row) refl e)
-
-      go : (t : Bool) → eqb (q .number) 0 ≡ t → (u : Bool) → (rest .answer .number ≡ 0 → Chain (suc row * w) (rest .blocks) ((suc row + k) * w))
-          → (let x = cond {A = Frame} t (cond u (record { blocks = q .blocks; answer = record { number = 8; row = row } })
-          (record { blocks = q .blocks ++ rest .blocks; answer = rest .answer }))
-          (record { blocks = q .blocks; answer = record { number = q .number; row = row } }) in
-          x .answer .number ≡ 0 → Chain (row * w) (x .blocks) ((row + suc k) * w))
-      go true f true r e = absurd (let z : 8 ≡ 0 = e in omega arith)
-      go true f false r e = rw on (chain-append (this (eqb-true (q .number) 0 f)) (r e))
-      go false f u r e = absurd (eqb-false (q .number) 0 f e)
+      this : read-row s h n w row b .number ≡ 0 → Chain (row * w) (read-row s h n w row b .blocks) (suc row * w)
+      this e =
+          subst₂ (λ x y. Chain x (read-row s h n w row b .blocks) y) (omega arith) (omega arith)
+          (blocks-chain row (w / 16) 0 (aligned b) fresh-row (fresh-mode row) refl e)
 
 -- An accepted V2 frame of a width divisible by 16, from 32 on, has no 1.
 pub v2-unmarked : (s : List ℕ) (z : Size) → 20 ≤ z .width → z .width % 16 ≡ 0 → read-frame s z .answer .number ≡ 0
@@ -210,3 +196,12 @@ v2-unmarked s z wide whole done i l =
     let x = header s in
     chain-zero (rows-chain s (x .hdr) (cells z) (z .width) wide whole (z .height) 0 (x .bits) done) (all-old z)
     (rw length-replicate (omega (arith, mul-comm (z .width) (z .height)))) (λ j h. absurd (omega arith)) i (omega (arith, mul-comm (z .width) (z .height)))
+
+-- So every V2 call that is accepted at such a width has no 1: refusal 2 keeps smaller frames out.
+pub accepted-unmarked : (a : Ask) (l : Lent) → a .decoder ≡ v2 → a .size .width % 16 ≡ 0 → answer a l .number ≡ 0
+    → (i : ℕ) → i < cells (a .size) → getD (marks a) i 0 ≡ 0
+unfolding stream-answer frame-marks
+accepted-unmarked a l is-v2 whole e =
+    let ok = passed a l (inl e) in
+    let wide = v2-size-least a l ok is-v2 .0 in
+    rw is-v2 (v2-unmarked (a .stream) (a .size) (omega arith) whole (rw is-v2 at (rw (answer-passed a l ok) at e)))
