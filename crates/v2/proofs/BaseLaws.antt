@@ -18,7 +18,7 @@ use Rattle.rules.specs.declared.v2.V2Hdr.{V2Hdr}
 use Rattle.rules.specs.Frame.{tabulate}
 use Rattle.rules.specs.V2.{motion-offsets, motion-averages, outside, strays, any-strays, base-refusal, averaged, copied, repeated, referred, base, Kind, base-cell}
 use Rattle.rules.proofs.Cells.{All, nil, more, all-get}
-use Rattle.rules.proofs.V2Bounds.{further, offset-4, offset-is, offset-most, reference-5, reference-is, inside}
+use Rattle.rules.proofs.V2Places.{further, offset-4, offset-is, offset-most, reference-5, reference-is, inside}
 use Rattle.v2.specs.Places.{along, Runs, run-outside, cell-from}
 use Rattle.v2.proofs.Fill.{tabulate-same}
 

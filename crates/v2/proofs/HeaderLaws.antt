@@ -3,22 +3,20 @@
 use mathlib.Core.Path.{_≡_}
 use mathlib.Core.Bool.{true, false, not, _&&_, cond}
 use mathlib.Core.List.{List}
-use Prim.Native.Nat.{ℕ, zero, suc, _+_, _%_, _^_, _≤_, _<_, min}
+use Prim.Native.Nat.{ℕ, _+_, _%_, _^_, _<_, min}
 use native.Mathlib.Omega.{arith}
-use lib.Dec.{eqb}
+use lib.Dec.{eqb, lit≤}
 use lib.IntN.{ℤ, pos, _+ℤ_}
 use lib.ListN.{getD}
-use lib.Signed.{mag}
 use mir.Syntax.{w32}
 use mir.Val.{SFits}
-use borrow.Author.Needs.{needs}
 use Rattle.rules.specs.declared.reader.Bits.{Bits}
 use Rattle.rules.specs.declared.reader.Got.{Got}
 use Rattle.rules.specs.declared.v2.V2Hdr.{V2Hdr}
 use Rattle.rules.specs.Reader.{fresh, read, fields}
 use Rattle.rules.specs.V2.{header, option-2, option-4, scale-steps, rescaled, read-scale, read-motion}
 use Rattle.rules.proofs.ReaderLaws.{read-below}
-use Rattle.v2.proofs.Magnitude.{add-mag}
+use Rattle.rules.proofs.V2Bounds.{Between, between-abs, between-add, step-between, mag-abs}
 
 -- A value of n bits, as a call gave it.
 pub got-below : (s : List ℕ) (b : Bits) (n : ℕ) (g : Got) → g ≡ read s b n → g .value < 2 ^ min n 32
@@ -34,14 +32,10 @@ header-is s b b0 b1 d b3 b4 b5 b6 b7 o b9 b10 b11 i e e0 e1 ed e3 e4 e5 e6 e7 eo
     rw (← e, ← e0, ← e1, ← ed, ← e3, ← e4, ← e5, ← e6, ← e7, ← eo, ← e9, ← e10, ← e11, ← ei)
 
 -- 1. Scale.
-pub step-small : (code : ℕ) → mag (getD scale-steps code (pos 0)) ≤ 2
-step-small zero = search needs
-step-small (suc zero) = search needs
-step-small (suc (suc zero)) = search needs
-step-small (suc (suc (suc n))) = search needs
-
-pub step-fits : (scale : ℤ) (code : ℕ) → mag scale ≤ 10_000 → SFits w32 (scale +ℤ getD scale-steps code (pos 0))
-step-fits scale code h = record { sfits = omega (arith, step-small code, add-mag scale (getD scale-steps code (pos 0))) }
+pub step-fits : (scale : ℤ) (code : ℕ) → Between 512 4_605 scale → SFits w32 (scale +ℤ getD scale-steps code (pos 0))
+step-fits scale code p =
+    let z = scale +ℤ getD scale-steps code (pos 0) in
+    record { sfits = omega (arith, mag-abs z, between-abs (between-add p (step-between code)) (lit≤ tt)) }
 
 module _ (s : List ℕ) (scale : ℤ) (b : Bits) (code : Got) (e : code ≡ read s b 2) where
   pub rescaled-set : (v : Got) (z : ℤ) → code .value ≡ 3 → v ≡ read s (code .bits) 12 → z ≡ pos (v .value)

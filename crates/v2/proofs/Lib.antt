@@ -2,4 +2,5 @@
 pub mod BaseLaws
 pub mod Fill
 pub mod HeaderLaws
-pub mod Magnitude
+pub mod LengthLaws
+pub mod SampleLaws

@@ -4,8 +4,11 @@ ghost use Prim.Native.Nat.{_+_, _*_};
 ghost use Rattle.v2.specs.Places.{Placed};
 
 pub mod base;
+pub mod differences;
 pub mod header;
+pub mod lengths;
 pub mod motion;
+pub mod samples;
 pub mod scale;
 
 // Where a block stands: its row and first column, in a frame of `width` samples to a row.

@@ -1,13 +1,13 @@
 // Step 1 of a block: its scale.
 ghost use mathlib.Core.Path.{_≡_};
 ghost use mathlib.Core.Bool.{not, _&&_};
-ghost use Prim.Native.Nat.{_%_, _^_, _≤_, _<_};
+ghost use Prim.Native.Nat.{_%_, _^_, _<_};
 ghost use lib.Dec.{eqb};
 ghost use lib.IntN.{pos, _+ℤ_};
 ghost use lib.ListN.{getD};
-ghost use lib.Signed.{mag};
 ghost use mir.Syntax.{w32};
 ghost use mir.Val.{SFits};
+ghost use Rattle.rules.proofs.V2Bounds.{Between};
 ghost use Rattle.rules.specs.V2.{option-4, scale-steps, rescaled, read-scale};
 use super::header::fixed_scale;
 use rules::Bits;
@@ -34,7 +34,7 @@ fn signed(x: u32) -> i32
 
 // A scale from its code.
 fn rescale(src: &[u8], scale: i32, bits: Bits) -> V2Scale
-    requires { ⌜ mag scale ≤ 10_000 ⌝ }
+    requires { ⌜ Between 512 4_605 scale ⌝ }
     ensures { λ r. ⌜ r ≡ rescaled (now (src .entry)) scale bits ⌝ }
 {
     let code = bits::get(src, bits, 2);
@@ -62,7 +62,7 @@ fn has_scale(hdr: V2Hdr, col: usize) -> bool
 
 // A block's scale, after the scale before it.
 pub fn next_scale(src: &[u8], hdr: V2Hdr, col: usize, scale: i32, bits: Bits) -> V2Scale
-    requires { ⌜ mag scale ≤ 10_000 ⌝ }
+    requires { ⌜ Between 512 4_605 scale ⌝ }
     ensures { λ r. ⌜ r ≡ read-scale (now (src .entry)) hdr col scale bits ⌝ }
 {
     if has_scale(hdr, col) {

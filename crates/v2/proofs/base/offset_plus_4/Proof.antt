@@ -1,6 +1,6 @@
 -- The table is the rule's, and 4 more than each of its numbers is 0 to 8.
 use Rattle.v2.proofs.BaseLaws.{offset-code}
-use Rattle.rules.proofs.V2Bounds.{offset-4, offset-most}
+use Rattle.rules.proofs.V2Places.{offset-4, offset-most}
 use mir.ValLaws.{toZ-ofZ}
 use mir.Val.{SFits}
 use mir.Syntax.{w64}

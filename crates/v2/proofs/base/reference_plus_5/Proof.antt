@@ -1,6 +1,6 @@
 -- Rows and columns within the limits keep every sum small.
 use Rattle.v2.proofs.BaseLaws.{rows-room}
-use Rattle.rules.proofs.V2Bounds.{offset-4, offset-most, reference-5}
+use Rattle.rules.proofs.V2Places.{offset-4, offset-most, reference-5}
 use borrow.Author.Tests.{eq-eqb, ne-eqb}
 use native.Mathlib.Omega.{arith}
 use borrow.Author.Needs.{needs}
