@@ -1,5 +1,6 @@
 -- What the proofs of the stages share.
 pub mod BaseLaws
+pub mod BlockLaws
 pub mod Fill
 pub mod HeaderLaws
 pub mod LengthLaws

@@ -4,6 +4,7 @@ ghost use Prim.Native.Nat.{_+_, _*_};
 ghost use Rattle.v2.specs.Places.{Placed};
 
 pub mod base;
+pub mod block;
 pub mod differences;
 pub mod header;
 pub mod lengths;
