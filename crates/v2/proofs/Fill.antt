@@ -48,3 +48,10 @@ module _ (out s : List ℕ) (at i : ℕ) (e : length s ≡ 16) where
 
   pub sets-done : 16 ≤ i → sets out (at + i) (drop i s) ≡ out
   sets-done h = let l : length s ≤ i = omega arith in rw (drop-of-length-le s {i = i} l)
+
+pub empty-is : (f : List ℕ) → length f ≡ 0 → f ≡ []
+empty-is [] e = refl
+empty-is (x ∷ f) e = absurd (omega arith)
+
+pub sets-same : (f f′ : List ℕ) (p q : ℕ) (vs ws : List ℕ) → f′ ≡ sets f p vs → p ≡ q → vs ≡ ws → f′ ≡ sets f q ws
+sets-same f f′ p q vs ws e ep ev = rw (← ep, ← ev) e

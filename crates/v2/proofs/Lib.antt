@@ -2,6 +2,7 @@
 pub mod BaseLaws
 pub mod BlockLaws
 pub mod Fill
+pub mod FrameLaws
 pub mod HeaderLaws
 pub mod LengthLaws
 pub mod SampleLaws
