@@ -1,0 +1,59 @@
+-- No length is above 17, so that no difference leaves 17 bits.
+use Rattle.v2.proofs.BlockLaws.{tail-mode, tail-long, tail-next, tail-small, tail-samples, kept-long, scale-fits}
+use Rattle.rules.proofs.V2Bounds.{Between, between-abs, mag-abs, top-below}
+use lib.IntN.{ℤ}
+use mir.Val.{SFits}
+use denote.Ref.{now}
+use lib.Dec.{lit≤}
+use native.Mathlib.Omega.{arith}
+use mir.ValLaws.{toZ-ofZ}
+use mir.Syntax.{w32}
+use borrow.Author.Needs.{needs}
+use Rattle.v2.proofs.block.read_tail.Statement.{statement}
+use Rattle.v2.proofs.block.read_tail.Tie as tie
+
+block-lengths-requires : tie.Need-block-lengths-requires
+block-lengths-requires c κs = search needs
+
+returns : tie.Need-returns
+returns c =
+    let e = c .before .before .block-lengths .ensures in
+    (tail-long _ _ _ _ _ _ _ _ e (c .if1 .taken), (tail-mode _ _ _ _ _ _ _ _ e, kept-long _ _ _))
+
+block-differences-requires : tie.Need-block-differences-requires
+block-differences-requires c κs = search needs
+
+top-of-requires : tie.Need-top-of-requires
+top-of-requires c κs = search needs
+
+build-requires : tie.Need-build-requires
+build-requires c κs =
+    let a = c .before .before .before .before .before .before .before .before .before .before .before .before in
+    let z = a .args .state .scale in
+    let e = c .before .before .before .before .before .before .before .before .before .block-lengths .ensures in
+    rw (toZ-ofZ w32 z (scale-fits z (a .pre .1 .0)))
+    (tail-small _ _ _ (a .args .state) _ _ _ _ e _ _ (c .before .before .before .before .block-differences .ensures) (a .pre .0) (c .before .before .before .before .before .before .before .if1 .left), (a .pre .1 .0, (omega (arith, c .before .before .before .top-of .ensures, top-below (a .args .hdr) (a .pre .0)), a .pre .1 .1)))
+
+returns-2 : tie.Need-returns-2
+returns-2 c =
+    let a = c .before .before .before .before .before .before .before .before .before .before .before .before .before in
+    let z = a .args .state .scale in
+    let e = c .before .before .before .before .before .before .before .before .before .before .block-lengths .ensures in
+    let ed = c .before .before .before .before .before .block-differences .ensures in (
+      tail-next _ _ _ _ _ _ _ _ e _ _ ed (c .before .before .before .before .before .before .before .before .if1 .left),
+      (
+        tail-mode _ _ _ _ _ _ _ _ e,
+        tail-samples _ _ _ _ _ _ _ _ e _ _ ed (now (a .args .base)) _ (now (a .args .samples)) _ (c .before .before .before .before .top-of .ensures) (simp (toZ-ofZ w32 z (scale-fits z (a .pre .1 .0))) at (c .build .ensures)),
+      ),
+    )
+
+pub read-tail-spec : {M : Type 1} → statement M
+read-tail-spec =
+    tie.close
+    (tie.spec
+    block-lengths-requires
+    returns
+    block-differences-requires
+    top-of-requires
+    build-requires
+    returns-2)

@@ -1,0 +1,16 @@
+-- A sample keeps its bits.
+use borrow.Author.Tests.{lt-ltb}
+use native.Mathlib.Omega.{arith}
+use Prim.Native.Nat.{_^_}
+use borrow.Author.Needs.{needs}
+use Rattle.v2.proofs.samples.wide.Statement.{statement}
+use Rattle.v2.proofs.samples.wide.Tie as tie
+
+cast-result : tie.Need-cast-result
+cast-result c = search needs
+
+returns : tie.Need-returns
+returns c = simp (lt-ltb (c .args .x) (2 ^ 31) (omega arith))
+
+pub wide-spec : {M : Type 1} → statement M
+wide-spec = tie.close (tie.spec cast-result returns)

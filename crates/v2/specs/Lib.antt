@@ -1,0 +1,3 @@
+-- What the contracts of the stages say beside the rules.
+pub mod Blocks
+pub mod Places

@@ -1,0 +1,87 @@
+// A block: its stages in the order of the stream.
+ghost use mathlib.Core.Path.{_≡_};
+ghost use Prim.Native.Nat.{_≤_};
+ghost use lib.IntN.{pos};
+ghost use lib.ListN.{length, getD};
+ghost use Rattle.rules.specs.Frame.{tabulate};
+ghost use Rattle.rules.specs.V2.{tail, read-block, top, sample, block-cells, sample-kind};
+ghost use Rattle.rules.proofs.V2Bounds.{Between};
+ghost use Rattle.v2.specs.Blocks.{Ready, written};
+use super::Place;
+use super::base::bases;
+use super::base::refusal_of;
+use super::differences::block_differences;
+use super::header::top_of;
+use super::lengths::block_lengths;
+use super::motion::next_motion;
+use super::samples::build;
+use super::scale::next_scale;
+use rules::Bits;
+use rules::V2Block;
+use rules::V2Hdr;
+use rules::V2Row;
+
+// The lengths, the differences and the samples from them.
+fn read_tail(
+    src: &[u8],
+    hdr: V2Hdr,
+    row: usize,
+    state: V2Row,
+    mode: &mut [[u32; 2]; 3],
+    bits: Bits,
+    base: &[u16; 16],
+    samples: &mut [u16; 16],
+) -> V2Block
+    requires { ⌜ (hdr .depth ≤ 16) × (Between 512 4_605 (state .scale) × (length (now samples) ≡ 16)) ⌝ }
+    ensures { λ r. ⌜ r ≡ tail (now (src .entry)) hdr row state (now (mode .entry)) bits .outcome ⌝ }
+    ensures { λ r. ⌜ now (mode .exit) ≡ tail (now (src .entry)) hdr row state (now (mode .entry)) bits .mode ⌝ }
+    ensures { λ r. ⌜ now (samples .exit) ≡ written r (tabulate 16 0 (λ i. sample (top hdr) (state .scale) (getD (tail (now (src .entry)) hdr row state (now (mode .entry)) bits .differences) i (pos 0)) (getD (now (base .entry)) i 0))) (now (samples .entry)) ⌝ }
+{
+    let l = block_lengths(src, hdr, row, mode, bits);
+    let b1 = l.bits;
+    if l.long {
+        return V2Block::LongDifference(b1);
+    }
+    let four = l.four;
+    let mut d = [0i32; 16];
+    let b2 = block_differences(src, row, four, b1, &mut d);
+    let most = top_of(hdr);
+    build(base, &d, state.scale, most, samples);
+    V2Block::Next(b2, state)
+}
+
+// The block at a place. Its samples are left in `samples`, and the frame is not changed.
+pub fn read_block(
+    src: &[u8],
+    hdr: V2Hdr,
+    at: Place,
+    out: &[u16],
+    bits: Bits,
+    state: V2Row,
+    mode: &mut [[u32; 2]; 3],
+    samples: &mut [u16; 16],
+) -> V2Block
+    requires { ⌜ Ready hdr (length (now out)) at state × (length (now samples) ≡ 16) ⌝ }
+    ensures { λ r. ⌜ r ≡ read-block (now (src .entry)) hdr (length (now (out .entry))) (at .width) (at .row) (at .col) bits state (now (mode .entry)) .outcome ⌝ }
+    ensures { λ r. ⌜ now (mode .exit) ≡ read-block (now (src .entry)) hdr (length (now (out .entry))) (at .width) (at .row) (at .col) bits state (now (mode .entry)) .mode ⌝ }
+    ensures { λ r. ⌜ now (samples .exit) ≡ written r (block-cells (sample-kind (top hdr)) (now (out .entry)) (read-block (now (src .entry)) hdr (length (now (out .entry))) (at .width) (at .row) (at .col) bits state (now (mode .entry)) .block)) (now (samples .entry)) ⌝ }
+{
+    let c = next_scale(src, hdr, at.col, state.scale, bits);
+    let b1 = c.bits;
+    let m = next_motion(src, hdr, state.motion, b1);
+    let b2 = m.bits;
+    let refusal = refusal_of(out.len(), at, m.value);
+    if refusal == 5 {
+        return V2Block::EarlyMotion(b2);
+    }
+    if refusal == 6 {
+        return V2Block::Outside(b2);
+    }
+    let mut base = [0u16; 16];
+    bases(out, hdr, at, m.value, &mut base);
+    let next = V2Row {
+        motion: m.value,
+        scale: c.scale,
+    };
+    read_tail(src, hdr, at.row, next, mode, b2, &base, samples)
+}

@@ -1,0 +1,63 @@
+// A frame: its rows and blocks in order, left at the first refusal.
+ghost use mathlib.Core.Path.{_≡_};
+ghost use Rattle.rules.specs.V2.{read-frame, decoded, frame};
+ghost use Rattle.rules.specs.Map.{v2-marks};
+ghost use Rattle.v2.specs.Blocks.{Lends};
+use super::Place;
+use super::block::read_block;
+use super::header::align;
+use super::header::read_header;
+use super::marks::mark_block;
+use super::samples::store;
+use rules::Answer;
+use rules::Size;
+use rules::V2Block;
+use rules::V2Row;
+
+// Decodes a frame over the samples of `out`, and its marks over those of `map`, which is as long as `out` or empty.
+pub fn decode_frame(src: &[u8], size: Size, out: &mut [u16], map: &mut [u8]) -> Answer
+    requires { ⌜ Lends size (now out) (now map) ⌝ }
+    ensures { λ r. ⌜ r ≡ read-frame (now (src .entry)) size .answer ⌝ }
+    ensures { λ r. ⌜ now (out .exit) ≡ decoded (now (src .entry)) size (now (out .entry)) ⌝ }
+    ensures { λ r. ⌜ now (map .exit) ≡ frame v2-marks (now (src .entry)) size (now (map .entry)) ⌝ }
+{
+    let width = size.width;
+    let height = size.height;
+    let start = read_header(src);
+    let hdr = start.hdr;
+    let mut answer = Answer::done();
+    let mut bits = start.bits;
+    let mut row: usize = 0;
+    'frame: while row < height {
+        bits = align(bits);
+        let mut state = V2Row::fresh();
+        let mut mode = V2Row::mode(row);
+        let mut col: usize = 0;
+        'row: while col + V2Row::BLOCK <= width {
+            let at = Place { width, row, col };
+            let mut samples = [0u16; 16];
+            let outcome = read_block(src, hdr, at, &out[..], bits, state, &mut mode, &mut samples);
+            let V2Block::Next(next_bits, next_state) = outcome else {
+                answer = Answer {
+                    number: outcome.number(),
+                    row: row as u32,
+                };
+                break 'frame;
+            };
+            store(&mut out[..], at.first(), &samples);
+            mark_block(&mut map[..], at, next_state.motion);
+            bits = next_bits;
+            state = next_state;
+            col += V2Row::BLOCK;
+        }
+        if bits.overrun {
+            answer = Answer {
+                number: Answer::OVERRUN,
+                row: row as u32,
+            };
+            break 'frame;
+        }
+        row += 1;
+    }
+    answer
+}
