@@ -1,0 +1,8 @@
+pub mod HeadLaws
+pub mod BlockLaws
+pub mod CellLaws
+pub mod SampleLaws
+pub mod InnerLaws
+pub mod RowLaws
+pub mod ExchangeLaws
+pub mod FrameLaws

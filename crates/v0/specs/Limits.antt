@@ -1,0 +1,66 @@
+-- What a call lends, and where in the frame a row, a block or a sample lies.
+use Prim.Native.Nat.{ℕ, _+_, _*_, _%_, _≤_, _<_}
+use mathlib.Core.Path.{_≡_}
+use mathlib.Core.Logic.{_⊎_}
+use mathlib.Core.List.{List}
+use lib.ListN.{length}
+use Rattle.rules.specs.Frame.{cells}
+use Rattle.rules.specs.declared.answer.Size.{Size}
+
+-- A map is lent whole, or not at all: then it is a frame of no cells, to which every rule does nothing.
+abbrev pub Whole : Size → List ℕ → Type 0
+Whole z map = (length map ≡ cells z) ⊎ (length map ≡ 0)
+
+-- What a call of the decoder is lent, once refusals 1, 3 and 4 are passed.
+pub record Lends (z : Size) (offsets out map : List ℕ) : Type 0 where
+  pub width : z .width ≤ 16_384
+  pub height : z .height ≤ 16_384
+  pub offsets-enough : z .height ≤ length offsets
+  pub samples-lent : length out ≡ cells z
+  pub map-lent : Whole z map
+
+-- The block at a column of a row that the frame has.
+pub record InFrame (z : Size) (row col : ℕ) : Type 0 where
+  pub width : z .width ≤ 16_384
+  pub height : z .height ≤ 16_384
+  pub row-in : row < z .height
+  pub col-in : col < z .width
+  pub block : col % 16 ≡ 0
+
+-- From row 2 on, after column 0 and inside the row: every sample of such a block predicts from a sample that exists.
+pub record Inner (z : Size) (row col : ℕ) : Type 0 where
+  pub frame : InFrame z row col
+  pub late : 2 ≤ row
+  pub after : 0 < col
+  pub inside : col + 16 ≤ z .width
+
+-- A block at `base` in cells of a row length w: it lies inside them, with two rows and two columns before it.
+pub record Inside (w base : ℕ) (f : List ℕ) : Type 0 where
+  pub rows : 2 * w ≤ base
+  pub columns : 2 ≤ base
+  pub room : base + 16 ≤ length f
+
+-- A row of a frame that is lent, with its map or without.
+pub record InRow (z : Size) (row : ℕ) (out map : List ℕ) : Type 0 where
+  pub width : z .width ≤ 16_384
+  pub height : z .height ≤ 16_384
+  pub row-in : row < z .height
+  pub samples-lent : length out ≡ cells z
+  pub map-lent : Whole z map
+
+-- Two rows that lie in a frame of row length w.
+pub record InPair (w row : ℕ) (f : List ℕ) : Type 0 where
+  pub width : w ≤ 16_384
+  pub row-in : row < 16_384
+  pub inside : (row + 2) * w ≤ length f
+
+-- A whole frame; and a map of one, which may not be lent.
+pub record Framed (z : Size) (f : List ℕ) : Type 0 where
+  pub width : z .width ≤ 16_384
+  pub height : z .height ≤ 16_384
+  pub lent : length f ≡ cells z
+
+pub record MapFramed (z : Size) (map : List ℕ) : Type 0 where
+  pub width : z .width ≤ 16_384
+  pub height : z .height ≤ 16_384
+  pub lent : Whole z map
