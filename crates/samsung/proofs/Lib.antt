@@ -1,0 +1,2 @@
+-- Laws that the entries' proofs cite.
+pub mod EntryLaws

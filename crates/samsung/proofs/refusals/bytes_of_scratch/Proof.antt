@@ -1,0 +1,21 @@
+-- `bytes_of_scratch` meets its contract: below row 2 there is no byte.
+use native.Mathlib.Omega.{arith}
+use borrow.Author.Needs.{needs}
+use Rattle.samsung.proofs.EntryLaws.{no-late-rows, scratch-fits}
+use Rattle.samsung.proofs.refusals.bytes_of_scratch.Statement.{statement}
+use Rattle.samsung.proofs.refusals.bytes_of_scratch.Tie as tie
+
+returns : tie.Need-returns
+returns c = no-late-rows _ _ (c .if1 .taken)
+
+add-result : tie.Need-add-result
+add-result c = search needs
+
+mul-result : tie.Need-mul-result
+mul-result c = omega (arith, scratch-fits _ _ (c .before .before .before .before .pre .0) (c .before .before .before .before .pre .1))
+
+returns-2 : tie.Need-returns-2
+returns-2 c = search needs
+
+pub bytes-of-scratch-spec : {M : Type 1} → statement M
+bytes-of-scratch-spec = tie.close (tie.spec returns add-result mul-result returns-2)

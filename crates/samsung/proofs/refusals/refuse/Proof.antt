@@ -1,0 +1,75 @@
+-- `refuse` meets its contract: the code's tests are the rules', in their order.
+use mathlib.Core.Path.{sym, ap, _∙_}
+use native.Mathlib.Omega.{arith}
+use borrow.Author.Needs.{needs}
+use borrow.Author.Tests.{lt-ltb, le-ltb}
+use Rattle.rules.specs.Answer.{first-of}
+use Rattle.samsung.specs.Lending.{short}
+use Rattle.samsung.proofs.EntryLaws.{cells-most, size-most}
+use Rattle.samsung.proofs.refusals.refuse.Statement.{statement}
+use Rattle.samsung.proofs.refusals.refuse.Tie as tie
+
+is-too-large-requires : tie.Need-is-too-large-requires
+is-too-large-requires c κs = search needs
+
+returns : tie.Need-returns
+unfolding first-of
+returns c = rw (sym (c .before .is-too-large .ensures) ∙ c .if1 .taken)
+
+returns-2 : tie.Need-returns-2
+unfolding first-of
+returns-2 c = rw (sym (c .before .before .is-too-large .ensures) ∙ c .before .if1 .left, c .if2 .taken)
+
+mul-n : tie.Need-mul-n
+mul-n c =
+    let m = size-most _ (sym (c .before .before .before .is-too-large .ensures) ∙ c .before .before .if1 .left) in
+    omega (arith, cells-most _ _ (m .0) (m .1))
+
+returns-3 : tie.Need-returns-3
+unfolding first-of
+returns-3 c = rw (sym (c .before .before .before .before .is-too-large .ensures) ∙ c .before .before .before .if1 .left, c .before .before .if2 .left, lt-ltb _ _ (c .if3 .taken))
+
+returns-4 : tie.Need-returns-4
+unfolding first-of
+returns-4 c = rw (sym (c .before .before .before .before .before .is-too-large .ensures) ∙ c .before .before .before .before .if1 .left, c .before .before .before .if2 .left, le-ltb _ _ (c .before .if3 .left), c .if4 .taken)
+
+is-short-requires : tie.Need-is-short-requires
+is-short-requires c κs = search needs
+
+returns-5 : tie.Need-returns-5
+unfolding first-of
+returns-5 c =
+    rw (sym (c .before .before .before .before .before .before .before .is-too-large .ensures) ∙ c .before .before .before .before .before .before .if1 .left, c .before .before .before .before .before .if2 .left, le-ltb _ _ (c .before .before .before .if3 .left), c .before .before .if4 .left, sym (c .before .is-short .ensures) ∙ c .if5 .taken)
+
+bytes-of-scratch-requires : tie.Need-bytes-of-scratch-requires
+bytes-of-scratch-requires c κs = size-most _ (sym (c .before .before .before .before .before .before .before .is-too-large .ensures) ∙ c .before .before .before .before .before .before .if1 .left)
+
+is-short-requires-2 : tie.Need-is-short-requires-2
+is-short-requires-2 c κs = search needs
+
+returns-6 : tie.Need-returns-6
+unfolding first-of
+returns-6 c =
+    rw (sym (c .before .before .before .before .before .before .before .before .before .before .is-too-large .ensures) ∙ c .before .before .before .before .before .before .before .before .before .if1 .left, c .before .before .before .before .before .before .before .before .if2 .left, le-ltb _ _ (c .before .before .before .before .before .before .if3 .left), c .before .before .before .before .before .if4 .left, sym (c .before .before .before .before .is-short .ensures) ∙ c .before .before .before .if5 .left, sym (c .before .is-short2 .ensures ∙ ap (short _) (c .before .before .bytes-of-scratch .ensures)) ∙ c .if6 .taken)
+
+returns-7 : tie.Need-returns-7
+unfolding first-of
+returns-7 c =
+    rw (sym (c .before .before .before .before .before .before .before .before .before .before .is-too-large .ensures) ∙ c .before .before .before .before .before .before .before .before .before .if1 .left, c .before .before .before .before .before .before .before .before .if2 .left, le-ltb _ _ (c .before .before .before .before .before .before .if3 .left), c .before .before .before .before .before .if4 .left, sym (c .before .before .before .before .is-short .ensures) ∙ c .before .before .before .if5 .left, sym (c .before .is-short2 .ensures ∙ ap (short _) (c .before .before .bytes-of-scratch .ensures)) ∙ c .if6 .left)
+
+pub refuse-spec : {M : Type 1} → statement M
+refuse-spec =
+    tie.close
+    (tie.spec
+    is-too-large-requires
+    returns
+    returns-2
+    mul-n
+    returns-3
+    returns-4
+    is-short-requires
+    returns-5
+    bytes-of-scratch-requires
+    is-short-requires-2
+    returns-6
+    returns-7)

@@ -1,0 +1,85 @@
+// The direct V0 decoder's entries.
+ghost use mathlib.Core.Path.{_≡_};
+ghost use mathlib.Core.Option.{none, some};
+ghost use lib.ListN.{length};
+ghost use Rattle.rules.specs.Frame.{cells};
+ghost use Rattle.rules.specs.V0.{decoded};
+ghost use Rattle.rules.specs.Map.{v0-map};
+ghost use Rattle.v0.specs.Limits.{Lends};
+ghost use Rattle.rules.specs.Answer.{direct, ask, lent, answer, samples-after, map-after};
+use super::refusals::Lending;
+use super::refusals::mark_old;
+use super::refusals::refuse;
+use super::refusals::refused;
+use rules::Answer;
+use rules::Size;
+use v0::frame::decode_frame;
+
+// Decodes a V0 frame over what `out` holds. Refusals 1 and 3.
+pub fn decode_v0_reference(
+    src: &[u8],
+    offsets: &[u32],
+    width: usize,
+    height: usize,
+    out: &mut [u16],
+) -> Answer
+    ensures { λ r. ⌜ r ≡ answer (ask direct (now (src .entry)) (now (offsets .entry)) width height) (lent (length (now (out .entry))) none 0) ⌝ }
+    ensures { λ r. ⌜ now (out .exit) ≡ samples-after (ask direct (now (src .entry)) (now (offsets .entry)) width height) (lent (length (now (out .entry))) none 0) (now (out .entry)) ⌝ }
+{
+    let size = Size { width, height };
+    let refusal = refuse(
+        size,
+        false,
+        out.len(),
+        offsets.len() < height,
+        Lending::Nothing,
+        Lending::Nothing,
+    );
+    if refusal != 0 {
+        return refused(refusal);
+    }
+    let n = width * height;
+    let mut no_map = [0u8; 0];
+    decode_frame(src, offsets, size, &mut out[..n], &mut no_map);
+    Answer::done()
+}
+
+// A frame's samples and its whole map, which starts all old.
+fn decode_marked(src: &[u8], offsets: &[u32], size: Size, out: &mut [u16], map: &mut [u8])
+    requires { ⌜ Lends size (now offsets) (now out) (now map) × (length (now map) ≡ cells size) ⌝ }
+    ensures { λ _. ⌜ now (out .exit) ≡ decoded (now (src .entry)) (now (offsets .entry)) size (now (out .entry)) ⌝ }
+    ensures { λ _. ⌜ now (map .exit) ≡ v0-map (now (src .entry)) (now (offsets .entry)) size ⌝ }
+{
+    mark_old(map);
+    decode_frame(src, offsets, size, out, map);
+}
+
+// The same, and which samples rest on old values. Refusals 1, 3 and 4.
+pub fn decode_v0_reference_map(
+    src: &[u8],
+    offsets: &[u32],
+    width: usize,
+    height: usize,
+    out: &mut [u16],
+    map: &mut [u8],
+) -> Answer
+    ensures { λ r. ⌜ r ≡ answer (ask direct (now (src .entry)) (now (offsets .entry)) width height) (lent (length (now (out .entry))) (some (length (now (map .entry)))) 0) ⌝ }
+    ensures { λ r. ⌜ now (out .exit) ≡ samples-after (ask direct (now (src .entry)) (now (offsets .entry)) width height) (lent (length (now (out .entry))) (some (length (now (map .entry)))) 0) (now (out .entry)) ⌝ }
+    ensures { λ r. ⌜ now (map .exit) ≡ map-after (ask direct (now (src .entry)) (now (offsets .entry)) width height) (lent (length (now (out .entry))) (some (length (now (map .entry)))) 0) (now (map .entry)) ⌝ }
+{
+    let size = Size { width, height };
+    let refusal = refuse(
+        size,
+        false,
+        out.len(),
+        offsets.len() < height,
+        Lending::Bytes(map.len()),
+        Lending::Nothing,
+    );
+    if refusal != 0 {
+        return refused(refusal);
+    }
+    let n = width * height;
+    decode_marked(src, offsets, size, &mut out[..n], &mut map[..n]);
+    Answer::done()
+}

@@ -1,0 +1,10 @@
+// The entry points of the decoders: refusals 1 to 4 are tested before anything is written, then the frame is decoded. Nothing is
+// asked of a caller.
+pub mod direct;
+pub mod motion;
+mod refusals;
+
+pub use direct::decode_v0_reference;
+pub use direct::decode_v0_reference_map;
+pub use motion::decode_v2;
+pub use motion::decode_v2_map;

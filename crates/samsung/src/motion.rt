@@ -1,0 +1,79 @@
+// The entries of V2, which predicts by motion.
+ghost use mathlib.Core.Path.{_≡_};
+ghost use mathlib.Core.List.{[]};
+ghost use mathlib.Core.Option.{none, some};
+ghost use lib.ListN.{length};
+ghost use Rattle.rules.specs.Frame.{cells};
+ghost use Rattle.rules.specs.V2 as V2;
+ghost use Rattle.rules.specs.Map.{v2-map};
+ghost use Rattle.rules.specs.Answer.{v2, ask, lent, answer, samples-after, map-after};
+ghost use Rattle.v2.specs.Blocks.{Lends};
+use super::refusals::Lending;
+use super::refusals::is_too_small;
+use super::refusals::mark_old;
+use super::refusals::refuse;
+use super::refusals::refused;
+use rules::Answer;
+use rules::Size;
+use v2::frame::decode_frame;
+
+// Decodes a V2 frame over what `out` holds. Refusals 1 to 3 and 5 to 8.
+pub fn decode_v2(src: &[u8], width: usize, height: usize, out: &mut [u16]) -> Answer
+    ensures { λ r. ⌜ r ≡ answer (ask v2 (now (src .entry)) [] width height) (lent (length (now (out .entry))) none 0) ⌝ }
+    ensures { λ r. ⌜ now (out .exit) ≡ samples-after (ask v2 (now (src .entry)) [] width height) (lent (length (now (out .entry))) none 0) (now (out .entry)) ⌝ }
+{
+    let size = Size { width, height };
+    let refusal = refuse(
+        size,
+        is_too_small(size),
+        out.len(),
+        false,
+        Lending::Nothing,
+        Lending::Nothing,
+    );
+    if refusal != 0 {
+        return refused(refusal);
+    }
+    let n = width * height;
+    let mut no_map = [0u8; 0];
+    decode_frame(src, size, &mut out[..n], &mut no_map)
+}
+
+// A frame's samples and its whole map, which starts all old.
+fn decode_marked(src: &[u8], size: Size, out: &mut [u16], map: &mut [u8]) -> Answer
+    requires { ⌜ Lends size (now out) (now map) × (length (now map) ≡ cells size) ⌝ }
+    ensures { λ r. ⌜ r ≡ V2.read-frame (now (src .entry)) size .answer ⌝ }
+    ensures { λ _. ⌜ now (out .exit) ≡ V2.decoded (now (src .entry)) size (now (out .entry)) ⌝ }
+    ensures { λ _. ⌜ now (map .exit) ≡ v2-map (now (src .entry)) size ⌝ }
+{
+    mark_old(map);
+    decode_frame(src, size, out, map)
+}
+
+// The same, and which samples rest on old values. Refusals 1 to 8.
+pub fn decode_v2_map(
+    src: &[u8],
+    width: usize,
+    height: usize,
+    out: &mut [u16],
+    map: &mut [u8],
+) -> Answer
+    ensures { λ r. ⌜ r ≡ answer (ask v2 (now (src .entry)) [] width height) (lent (length (now (out .entry))) (some (length (now (map .entry)))) 0) ⌝ }
+    ensures { λ r. ⌜ now (out .exit) ≡ samples-after (ask v2 (now (src .entry)) [] width height) (lent (length (now (out .entry))) (some (length (now (map .entry)))) 0) (now (out .entry)) ⌝ }
+    ensures { λ r. ⌜ now (map .exit) ≡ map-after (ask v2 (now (src .entry)) [] width height) (lent (length (now (out .entry))) (some (length (now (map .entry)))) 0) (now (map .entry)) ⌝ }
+{
+    let size = Size { width, height };
+    let refusal = refuse(
+        size,
+        is_too_small(size),
+        out.len(),
+        false,
+        Lending::Bytes(map.len()),
+        Lending::Nothing,
+    );
+    if refusal != 0 {
+        return refused(refusal);
+    }
+    let n = width * height;
+    decode_marked(src, size, &mut out[..n], &mut map[..n])
+}

@@ -1,0 +1,105 @@
+// Refusals 1 to 4, tested before anything is written, and the map that starts all old.
+ghost use mathlib.Core.Path.{_≡_};
+ghost use mathlib.Core.Bool.{_||_};
+ghost use Prim.Native.Nat.{_≤_};
+ghost use lib.Dec.{ltb};
+ghost use lib.ListN.{length, replicate};
+ghost use Rattle.rules.specs.Answer.{v2, too-large, too-small, scratch-bytes, first-of};
+ghost use Rattle.rules.specs.Frame.{cells};
+ghost use Rattle.samsung.specs.Lending.{short};
+use rules::Answer;
+use rules::Size;
+use rules::V0Row;
+use rules::V2Hdr;
+
+// What is lent of a buffer that some calls do without: nothing, or so many bytes.
+pub enum Lending {
+    Nothing,
+    Bytes(usize),
+}
+
+// A refusal of 1 to 4: its row is 0.
+pub fn refused(number: u32) -> Answer
+    ensures { λ r. ⌜ r ≡ record { number = number; row = 0 } ⌝ }
+{
+    Answer { number, row: 0 }
+}
+
+// 1: the size is above the limit.
+fn is_too_large(size: Size) -> bool
+    ensures { λ r. ⌜ r ≡ too-large size ⌝ }
+{
+    Size::MOST < size.width || Size::MOST < size.height
+}
+
+// 2: a V2 frame is below the least size.
+pub fn is_too_small(size: Size) -> bool
+    ensures { λ r. ⌜ r ≡ too-small v2 size ⌝ }
+{
+    size.height < V2Hdr::LEAST_HEIGHT || size.width < V2Hdr::LEAST_WIDTH
+}
+
+// 4: a buffer that is lent has fewer bytes than the frame needs.
+fn is_short(lent: Lending, needed: usize) -> bool
+    ensures { λ r. ⌜ r ≡ short lent needed ⌝ }
+{
+    match lent {
+        Lending::Nothing => false,
+        Lending::Bytes(n) => n < needed,
+    }
+}
+
+// The two-phase scratch: a byte for each block of rows 2 on.
+fn bytes_of_scratch(size: Size) -> usize
+    requires { ⌜ (size .width ≤ 16_384) × (size .height ≤ 16_384) ⌝ }
+    ensures { λ r. ⌜ r ≡ scratch-bytes size ⌝ }
+{
+    if size.height < 2 {
+        return 0;
+    }
+    (size.width + 15) / V0Row::BLOCK * (size.height - 2)
+}
+
+// The first of refusals 1 to 4 that holds, or 0.
+pub fn refuse(
+    size: Size,
+    small: bool,
+    samples: usize,
+    short_offsets: bool,
+    map: Lending,
+    scratch: Lending,
+) -> u32
+    ensures { λ r. ⌜ r ≡ first-of (too-large size) small (ltb samples (cells size) || «short_offsets») (short map (cells size) || short scratch (scratch-bytes size)) ⌝ }
+{
+    if is_too_large(size) {
+        return Answer::TOO_LARGE;
+    }
+    if small {
+        return Answer::TOO_SMALL;
+    }
+    let n = size.width * size.height;
+    if samples < n {
+        return Answer::SHORT_SAMPLES;
+    }
+    if short_offsets {
+        return Answer::SHORT_SAMPLES;
+    }
+    if is_short(map, n) {
+        return Answer::SHORT_MAP;
+    }
+    if is_short(scratch, bytes_of_scratch(size)) {
+        return Answer::SHORT_MAP;
+    }
+    0
+}
+
+// At entry every sample rests on an old value.
+pub fn mark_old(map: &mut [u8])
+    ensures { λ _. ⌜ now (map .exit) ≡ replicate (length (now (map .entry))) 1 ⌝ }
+{
+    let mut i: usize = 0;
+    while i < map.len() {
+        map[i] = 1;
+        i += 1;
+    }
+}
