@@ -8,9 +8,9 @@ run:
 test:
 	bash .ci/run
 
-# The long comparison with the Rust, a minute or two.
+# The long comparison with the Rust, some minutes.
 compare:
-	cd rust && cargo run --release --offline --locked -p compare -- 1_000_000_000
+	cd rust && cargo run --release --offline --locked -p compare -- long
 
 fmt:
 	rt fmt

@@ -2,4 +2,8 @@
 //! see is compared. Inputs come from a generator with a seed, so that a difference can be had again.
 
 pub mod bits;
+pub mod call;
 pub mod random;
+pub mod refusals;
+pub mod stream;
+pub mod v0;

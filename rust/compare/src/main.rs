@@ -1,27 +1,66 @@
-//! `compare [READS [SEED]]`: the comparison with the Rust, as long as wanted. The last line says how much was compared.
+//! The comparisons with the Rust, as long as wanted. Each prints its seed, and how much was compared.
 
-use compare::bits;
+use compare::call::{self, Difference};
+use compare::{bits, refusals, v0};
 use std::process::ExitCode;
 
+const USAGE: &str = "usage: compare quick [SEED]
+       compare long [SEED]
+       compare reader|v0|refusals COUNT [SEED]";
+
+/// How much is compared in the quick part, which the gate runs, and in the long one.
+const COMPARISONS: [(&str, u64, u64); 3] =
+    [("reader", 20_000_000, 1_000_000_000), ("v0", 60_000, 1_000_000), ("refusals", 5_000, 50_000)];
+
 fn main() -> ExitCode {
-    let mut numbers = std::env::args().skip(1).map(|word| word.replace('_', "").parse());
-    let (reads, seed) = match (numbers.next(), numbers.next(), numbers.next()) {
-        (None, None, None) => (1_000_000, 1),
-        (Some(Ok(reads)), None, None) => (reads, 1),
-        (Some(Ok(reads)), Some(Ok(seed)), None) => (reads, seed),
-        _ => {
-            eprintln!("usage: compare [READS [SEED]]");
-            return ExitCode::from(2);
-        }
+    let words: Vec<String> = std::env::args().skip(1).collect();
+    let words: Vec<&str> = words.iter().map(String::as_str).collect();
+    let Some(runs) = runs(&words) else {
+        eprintln!("{USAGE}");
+        return ExitCode::from(2);
     };
-    match bits::compare(bits::razvolk, bits::reference, seed, reads) {
-        Ok(compared) => {
-            println!("{compared}");
-            ExitCode::SUCCESS
+    for (what, count, seed) in runs {
+        match compared(what, count, seed) {
+            Ok(text) => println!("{text}"),
+            Err(difference) => {
+                println!("{difference}");
+                return ExitCode::FAILURE;
+            }
         }
-        Err(difference) => {
-            println!("{difference}");
-            ExitCode::FAILURE
+    }
+    ExitCode::SUCCESS
+}
+
+/// What is asked for: comparisons, each with a count and a seed.
+fn runs<'a>(words: &[&'a str]) -> Option<Vec<(&'a str, u64, u64)>> {
+    let number = |word: &str| word.replace('_', "").parse().ok();
+    let all = |pick: fn(u64, u64) -> u64, seed| {
+        COMPARISONS.iter().map(|&(what, quick, long)| (what, pick(quick, long), seed)).collect()
+    };
+    Some(match *words {
+        ["quick"] => all(|quick, _| quick, 1),
+        ["quick", seed] => all(|quick, _| quick, number(seed)?),
+        ["long"] => all(|_, long| long, 1),
+        ["long", seed] => all(|_, long| long, number(seed)?),
+        [what, count] if COMPARISONS.iter().any(|c| c.0 == what) => vec![(what, number(count)?, 1)],
+        [what, count, seed] if COMPARISONS.iter().any(|c| c.0 == what) => vec![(what, number(count)?, number(seed)?)],
+        _ => return None,
+    })
+}
+
+fn compared(what: &str, count: u64, seed: u64) -> Result<String, Difference> {
+    let names = |entries: &[call::Entry]| entries.iter().map(|entry| entry.name).collect::<Vec<_>>().join(", ");
+    match what {
+        "reader" => bits::compare(bits::razvolk, bits::reference, seed, count)
+            .map(|compared| compared.to_string())
+            .map_err(|difference| Difference(difference.to_string())),
+        "v0" => {
+            let entries = call::razvolk_of(false);
+            v0::compare(&entries, seed, count).map(|seen| format!("{seen}: {}", names(&entries)))
+        }
+        _ => {
+            let entries = call::razvolk();
+            refusals::compare(&entries, seed, count).map(|seen| format!("{seen}: {}", names(&entries)))
         }
     }
 }
