@@ -7,3 +7,4 @@ pub mod random;
 pub mod refusals;
 pub mod stream;
 pub mod v0;
+pub mod v2;

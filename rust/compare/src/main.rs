@@ -1,16 +1,20 @@
 //! The comparisons with the Rust, as long as wanted. Each prints its seed, and how much was compared.
 
 use compare::call::{self, Difference};
-use compare::{bits, refusals, v0};
+use compare::{bits, refusals, v0, v2};
 use std::process::ExitCode;
 
 const USAGE: &str = "usage: compare quick [SEED]
        compare long [SEED]
-       compare reader|v0|refusals COUNT [SEED]";
+       compare reader|v0|v2|refusals COUNT [SEED]";
 
 /// How much is compared in the quick part, which the gate runs, and in the long one.
-const COMPARISONS: [(&str, u64, u64); 3] =
-    [("reader", 20_000_000, 1_000_000_000), ("v0", 60_000, 1_000_000), ("refusals", 5_000, 50_000)];
+const COMPARISONS: [(&str, u64, u64); 4] = [
+    ("reader", 20_000_000, 1_000_000_000),
+    ("v0", 60_000, 1_000_000),
+    ("v2", 300, 20_000),
+    ("refusals", 5_000, 50_000),
+];
 
 fn main() -> ExitCode {
     let words: Vec<String> = std::env::args().skip(1).collect();
@@ -57,6 +61,10 @@ fn compared(what: &str, count: u64, seed: u64) -> Result<String, Difference> {
         "v0" => {
             let entries = call::razvolk_of(false);
             v0::compare(&entries, seed, count).map(|seen| format!("{seen}: {}", names(&entries)))
+        }
+        "v2" => {
+            let entries = call::razvolk_of(true);
+            v2::compare(&entries, seed, count).map(|seen| format!("{seen}: {}", names(&entries)))
         }
         _ => {
             let entries = call::razvolk();

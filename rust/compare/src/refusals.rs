@@ -40,6 +40,9 @@ pub fn number(decoder: Decoder, map: bool, width: usize, height: usize, lens: Le
 
 /// A size: small, about a limit, or absurd. The longest frame that is not refused has about 300,000 samples.
 fn size(random: &mut Random) -> (usize, usize) {
+    if random.once_in(8) {
+        return (646, 436);
+    }
     let mut side = |small: u64, least: usize| match random.below(16) {
         0 => 16_384,
         1 => 16_385,
