@@ -3,6 +3,7 @@
 
 pub mod bits;
 pub mod call;
+pub mod lists;
 pub mod random;
 pub mod refusals;
 pub mod stream;

@@ -1,19 +1,20 @@
 //! The comparisons with the Rust, as long as wanted. Each prints its seed, and how much was compared.
 
 use compare::call::{self, Difference};
-use compare::{bits, refusals, v0, v2};
+use compare::{bits, lists, refusals, v0, v2};
 use std::process::ExitCode;
 
 const USAGE: &str = "usage: compare quick [SEED]
        compare long [SEED]
-       compare reader|v0|v2|refusals COUNT [SEED]";
+       compare reader|v0|v2|refusals|lists COUNT [SEED]";
 
 /// How much is compared in the quick part, which the gate runs, and in the long one.
-const COMPARISONS: [(&str, u64, u64); 4] = [
+const COMPARISONS: [(&str, u64, u64); 5] = [
     ("reader", 20_000_000, 1_000_000_000),
     ("v0", 60_000, 1_000_000),
     ("v2", 300, 20_000),
     ("refusals", 5_000, 50_000),
+    ("lists", 1_000, 10_000),
 ];
 
 fn main() -> ExitCode {
@@ -53,22 +54,25 @@ fn runs<'a>(words: &[&'a str]) -> Option<Vec<(&'a str, u64, u64)>> {
 }
 
 fn compared(what: &str, count: u64, seed: u64) -> Result<String, Difference> {
-    let names = |entries: &[call::Entry]| entries.iter().map(|entry| entry.name).collect::<Vec<_>>().join(", ");
-    match what {
-        "reader" => bits::compare(bits::razvolk, bits::reference, seed, count)
+    if what == "reader" {
+        return bits::compare(bits::razvolk, bits::reference, seed, count)
             .map(|compared| compared.to_string())
-            .map_err(|difference| Difference(difference.to_string())),
-        "v0" => {
-            let entries = call::razvolk_of(false);
-            v0::compare(&entries, seed, count).map(|seen| format!("{seen}: {}", names(&entries)))
-        }
-        "v2" => {
-            let entries = call::razvolk_of(true);
-            v2::compare(&entries, seed, count).map(|seen| format!("{seen}: {}", names(&entries)))
-        }
-        _ => {
-            let entries = call::razvolk();
-            refusals::compare(&entries, seed, count).map(|seen| format!("{seen}: {}", names(&entries)))
-        }
+            .map_err(|difference| Difference(difference.to_string()));
     }
+    let entries = match what {
+        "v0" => call::razvolk_of(false),
+        "v2" => call::razvolk_of(true),
+        _ => call::razvolk(),
+    };
+    if entries.is_empty() {
+        return Ok(format!("{what}: left out, since the archive has no entry of it yet"));
+    }
+    let text = match what {
+        "v0" => v0::compare(&entries, seed, count)?.to_string(),
+        "v2" => v2::compare(&entries, seed, count)?.to_string(),
+        "lists" => lists::compare(&entries, seed, count)?.to_string(),
+        _ => refusals::compare(&entries, seed, count)?.to_string(),
+    };
+    let names: Vec<&str> = entries.iter().map(|entry| entry.name).collect();
+    Ok(format!("{text}: {}", names.join(", ")))
 }
