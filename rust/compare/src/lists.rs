@@ -65,10 +65,10 @@ impl Pool {
     fn new(random: &mut Random) -> Pool {
         let mut streams = Vec::new();
         for i in 0..32 {
-            let style = v2::streams::Style::any(random, i);
+            let style = v2::streams::Style::any(random, (i + i / 4) % 16);
             let row = random.index(436);
-            let planted =
-                (i % 4 == 3).then_some(v2::streams::Planted { number: 5 + i / 4 % 3, row: row % 3, block: 0 });
+            let (number, at) = [(5, row % 2), (6, 2), (7, row)][i as usize / 4 % 3];
+            let planted = (i % 4 == 3).then_some(v2::streams::Planted { number, row: at, block: 0 });
             let whole = v2::streams::written(random, &style, 646, 436, planted);
             streams.push(if i % 4 == 1 { whole.cut(random, row) } else { whole });
         }
