@@ -3,6 +3,7 @@
 
 pub mod bits;
 pub mod call;
+pub mod jobs;
 pub mod lists;
 pub mod random;
 pub mod refusals;

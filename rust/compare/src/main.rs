@@ -1,12 +1,16 @@
 //! The comparisons with the Rust, as long as wanted. Each prints its seed, and how much was compared.
 
 use compare::call::{self, Difference};
-use compare::{bits, lists, refusals, v0, v2};
+use compare::{bits, jobs, lists, refusals, v0, v2};
+use std::path::Path;
 use std::process::ExitCode;
+use std::{env, io};
 
 const USAGE: &str = "usage: compare quick [SEED]
        compare long [SEED]
-       compare reader|v0|v2|refusals|lists COUNT [SEED]";
+       compare reader|v0|v2|refusals|lists COUNT [SEED]
+       compare jobs FOLDER           writes the job program's cases
+       compare jobs-check FOLDER     finds them equal";
 
 /// How much is compared in the quick part, which the gate runs, and in the long one.
 const COMPARISONS: [(&str, u64, u64); 5] = [
@@ -18,22 +22,54 @@ const COMPARISONS: [(&str, u64, u64); 5] = [
 ];
 
 fn main() -> ExitCode {
-    let words: Vec<String> = std::env::args().skip(1).collect();
+    let words: Vec<String> = env::args().skip(1).collect();
     let words: Vec<&str> = words.iter().map(String::as_str).collect();
-    let Some(runs) = runs(&words) else {
-        eprintln!("{USAGE}");
-        return ExitCode::from(2);
+    let done = match *words {
+        ["jobs", folder] => written(jobs::write(Path::new(folder)), folder),
+        ["jobs-check", folder] => checked(jobs::differences(Path::new(folder)), folder),
+        _ => match runs(&words) {
+            Some(runs) => all_compared(&runs),
+            None => {
+                eprintln!("{USAGE}");
+                return ExitCode::from(2);
+            }
+        },
     };
-    for (what, count, seed) in runs {
+    if done { ExitCode::SUCCESS } else { ExitCode::FAILURE }
+}
+
+/// Says how much was written.
+fn written(files: io::Result<usize>, place: &str) -> bool {
+    match &files {
+        Ok(files) => println!("{place}: {files} written"),
+        Err(e) => println!("{place}: {e}"),
+    }
+    files.is_ok()
+}
+
+/// Says what differs from what would be written.
+fn checked(found: io::Result<Vec<String>>, place: &str) -> bool {
+    let found = found.unwrap_or_else(|e| vec![e.to_string()]);
+    for what in &found {
+        println!("{place}: {what}");
+    }
+    if found.is_empty() {
+        println!("{place}: as it would be written");
+    }
+    found.is_empty()
+}
+
+fn all_compared(runs: &[(&str, u64, u64)]) -> bool {
+    for &(what, count, seed) in runs {
         match compared(what, count, seed) {
             Ok(text) => println!("{text}"),
             Err(difference) => {
                 println!("{difference}");
-                return ExitCode::FAILURE;
+                return false;
             }
         }
     }
-    ExitCode::SUCCESS
+    true
 }
 
 /// What is asked for: comparisons, each with a count and a seed.
