@@ -6,6 +6,7 @@ pub mod call;
 pub mod jobs;
 pub mod lists;
 pub mod random;
+pub mod record;
 pub mod refusals;
 pub mod stream;
 pub mod v0;

@@ -1,7 +1,7 @@
 //! The comparisons with the Rust, as long as wanted. Each prints its seed, and how much was compared.
 
 use compare::call::{self, Difference};
-use compare::{bits, jobs, lists, refusals, v0, v2};
+use compare::{bits, jobs, lists, record, refusals, v0, v2};
 use std::path::Path;
 use std::process::ExitCode;
 use std::{env, io};
@@ -9,6 +9,8 @@ use std::{env, io};
 const USAGE: &str = "usage: compare quick [SEED]
        compare long [SEED]
        compare reader|v0|v2|refusals|lists COUNT [SEED]
+       compare record FILE           writes recorded calls of the Rust
+       compare record-check FILE     finds them equal
        compare jobs FOLDER           writes the job program's cases
        compare jobs-check FOLDER     finds them equal";
 
@@ -25,6 +27,8 @@ fn main() -> ExitCode {
     let words: Vec<String> = env::args().skip(1).collect();
     let words: Vec<&str> = words.iter().map(String::as_str).collect();
     let done = match *words {
+        ["record", file] => written(record::write(Path::new(file)), file),
+        ["record-check", file] => checked(record::differences(Path::new(file)), file),
         ["jobs", folder] => written(jobs::write(Path::new(folder)), folder),
         ["jobs-check", folder] => checked(jobs::differences(Path::new(folder)), folder),
         _ => match runs(&words) {
