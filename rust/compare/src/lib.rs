@@ -3,6 +3,7 @@
 
 pub mod bits;
 pub mod call;
+mod faults;
 pub mod jobs;
 pub mod lists;
 pub mod random;

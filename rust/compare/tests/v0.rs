@@ -38,6 +38,6 @@ fn a_decoder_of_its_own_without_a_fault_is_alike() {
 #[test]
 fn a_wrong_decoder_is_found_out() {
     let found_out = |fault: &Fault| v0::compare(&own(*fault), 7, 4_000).is_err();
-    let missed: Vec<Fault> = Fault::ALL.into_iter().filter(|fault| !found_out(fault)).collect();
+    let missed: Vec<Fault> = Fault::ALL.iter().copied().filter(|fault| !found_out(fault)).collect();
     assert!(missed.is_empty(), "not found out: {missed:?}");
 }

@@ -14,6 +14,7 @@ fn razvolk_decodes_v2_as_the_rust_does() {
     let seen = v2::compare(&entries, 0x5eed, 120).unwrap_or_else(|difference| panic!("{difference}"));
     println!("{seen}");
     assert!([0, 5, 6, 7, 8].iter().all(|&i| seen.numbers[i] > 0), "{seen}");
+    assert!(seen.used.motions.iter().chain(&seen.used.flags).chain(&seen.used.held).all(|&n| n > 1_000), "{seen}");
     assert!(seen.deep > 60 && seen.marked > 1_000_000, "{seen}");
 }
 

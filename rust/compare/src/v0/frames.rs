@@ -63,7 +63,7 @@ pub fn skipped(width: usize, height: usize, row: usize, col: usize, c: usize, di
 }
 
 /// The samples of a block in the order of the stream, each with the number of its length.
-pub fn order() -> impl Iterator<Item = (usize, usize)> {
+pub fn order() -> impl Iterator<Item = (usize, usize)> + Clone {
     (0..16).step_by(2).chain((1..16).step_by(2)).map(|c| (c, 2 * (c % 2) + c / 8))
 }
 
@@ -88,9 +88,8 @@ fn write_row(random: &mut Random, style: &Style, width: usize, height: usize, ro
                 _ => {}
             }
         }
-        for (c, j) in order().filter(|&(c, _)| !skipped(width, height, row, col, c, direction)) {
+        for (_, j) in order().filter(|&(c, _)| !skipped(width, height, row, col, c, direction)) {
             writer.put(style.residual(random), lengths[j].clamp(0, 32) as u32);
-            debug_assert!(c < 16);
         }
     }
     writer.finish()

@@ -5,10 +5,7 @@ use crate::call::{Answer, Ask, Decoder, Entry, Lent};
 use crate::refusals;
 use crate::stream::Reader;
 
-/// What is wrong.
-#[derive(Clone, Copy, Debug, PartialEq, Eq)]
-pub enum Fault {
-    None,
+crate::faults::faults!(
     SkippedReadsBits,
     PredictsInsideTheBlock,
     OddsFirst,
@@ -22,12 +19,12 @@ pub enum Fault {
     DroppedSpill,
     NoExchange,
     ExchangesTheLastColumn,
+    ExchangesOneRowLess,
     SaturatingSum,
     WritesPastTheFrame,
     ClearsTheBuffer,
     PaintsSkipped,
     RefusesOverrun,
-    SizeByRowTwo,
     MapAllOld,
     MapAllNew,
     MapNotExchanged,
@@ -40,43 +37,7 @@ pub enum Fault {
     LongDirections,
     DirectionsOfAllRows,
     SpillOverResiduals,
-}
-
-impl Fault {
-    pub const ALL: [Fault; 31] = [
-        Fault::SkippedReadsBits,
-        Fault::PredictsInsideTheBlock,
-        Fault::OddsFirst,
-        Fault::LengthsMixedUp,
-        Fault::LongLengthsWrap,
-        Fault::NegativeLengthsRead,
-        Fault::OneFreshLength,
-        Fault::UnsignedResiduals,
-        Fault::UpTheOtherWay,
-        Fault::NoConstant,
-        Fault::DroppedSpill,
-        Fault::NoExchange,
-        Fault::ExchangesTheLastColumn,
-        Fault::SaturatingSum,
-        Fault::WritesPastTheFrame,
-        Fault::ClearsTheBuffer,
-        Fault::PaintsSkipped,
-        Fault::RefusesOverrun,
-        Fault::SizeByRowTwo,
-        Fault::MapAllOld,
-        Fault::MapAllNew,
-        Fault::MapNotExchanged,
-        Fault::MapKeptFromEntry,
-        Fault::MapPastTheFrame,
-        Fault::MapWithoutSpill,
-        Fault::MarkedConstant,
-        Fault::TouchesAMapNotLent,
-        Fault::ShortDirections,
-        Fault::LongDirections,
-        Fault::DirectionsOfAllRows,
-        Fault::SpillOverResiduals,
-    ];
-}
+);
 
 /// The entry of a decoder with a fault.
 pub fn entry(fault: Fault, decoder: Decoder, map: bool) -> Entry {
@@ -92,6 +53,8 @@ struct Work<'a> {
     ask: &'a Ask<'a>,
     /// As long as the lent samples; the frame is the first N.
     cells: Vec<Cell>,
+    /// One for each block read.
+    directions: Vec<u8>,
 }
 
 pub fn decode(fault: Fault, decoder: Decoder, map: bool, ask: &Ask, lent: &mut Lent) -> Answer {
@@ -103,18 +66,10 @@ pub fn decode(fault: Fault, decoder: Decoder, map: bool, ask: &Ask, lent: &mut L
     if fault == Fault::ClearsTheBuffer {
         lent.samples[..n].fill(0);
     }
-    let entry_mark = |i: usize| if fault == Fault::MapKeptFromEntry && map { lent.map[i] } else { 1 };
-    let cells = lent.samples.iter().enumerate().map(|(i, &s)| (s, if i < n { entry_mark(i) } else { 0 })).collect();
-    let mut work = Work { fault, ask, cells };
-    let mut directions = Vec::new();
-    let mut overrun = false;
-    let late = |row: usize| decoder == Decoder::TwoPhase && row >= 2;
-    for row in 0..ask.height {
-        overrun |= work.row(row, late(row), &mut directions);
-    }
-    if fault == Fault::SpillOverResiduals && ask.height > 2 {
-        work.row(1, false, &mut Vec::new());
-    }
+    let mark = |i: usize| if map && fault == Fault::MapKeptFromEntry { lent.map[i] } else { 1 };
+    let cells = lent.samples.iter().enumerate().map(|(i, &s)| (s, if i < n { mark(i) } else { 0 })).collect();
+    let mut work = Work { fault, ask, cells, directions: Vec::new() };
+    let overrun = work.rows(decoder);
     if fault == Fault::RefusesOverrun && overrun {
         return Answer { number: 8, row: 0 };
     }
@@ -123,22 +78,27 @@ pub fn decode(fault: Fault, decoder: Decoder, map: bool, ask: &Ask, lent: &mut L
     for (sample, cell) in lent.samples.iter_mut().zip(&work.cells) {
         *sample = cell.0;
     }
-    let marks: Vec<u8> = match fault {
-        Fault::MapAllOld => vec![1; n],
-        Fault::MapAllNew => vec![0; n],
-        Fault::MapNotExchanged => before[..n].iter().map(|cell| cell.1).collect(),
-        _ => work.cells[..n].iter().map(|cell| cell.1).collect(),
-    };
     if map || fault == Fault::TouchesAMapNotLent && lent.map.len() >= n {
-        lent.map[..n].copy_from_slice(&marks);
-        if fault == Fault::MapPastTheFrame && lent.map.len() > n {
-            lent.map[n] ^= 1;
-        }
+        let cells = if fault == Fault::MapNotExchanged { &before } else { &work.cells };
+        leave_marks(fault, &cells[..n], lent.map);
     }
     if decoder == Decoder::TwoPhase {
-        leave_directions(fault, ask, &directions, lent.scratch);
+        leave_directions(fault, ask, &work.directions, lent.scratch);
     }
     Answer::DONE
+}
+
+fn leave_marks(fault: Fault, cells: &[Cell], map: &mut [u8]) {
+    for (byte, cell) in map.iter_mut().zip(cells) {
+        *byte = match fault {
+            Fault::MapAllOld => 1,
+            Fault::MapAllNew => 0,
+            _ => cell.1,
+        };
+    }
+    if fault == Fault::MapPastTheFrame && map.len() > cells.len() {
+        map[cells.len()] ^= 1;
+    }
 }
 
 fn leave_directions(fault: Fault, ask: &Ask, directions: &[u8], scratch: &mut [u8]) {
@@ -154,17 +114,39 @@ fn leave_directions(fault: Fault, ask: &Ask, directions: &[u8], scratch: &mut [u
     }
 }
 
+/// Where a sample stands, and in a block of which direction.
+#[derive(Clone, Copy)]
+struct Place {
+    row: usize,
+    col: usize,
+    c: usize,
+    direction: u32,
+    /// Whether the row is one of phase one: nothing in it is skipped, and its spill is dropped.
+    late: bool,
+}
+
 impl Work<'_> {
-    /// Reads a row, and tells whether the stream ended in it. A late row is one of phase one: nothing in it is skipped, and
-    /// its spill is dropped.
-    fn row(&mut self, row: usize, late: bool, directions: &mut Vec<u8>) -> bool {
-        let fault = self.fault;
+    /// Reads all rows, and tells whether the stream ended in one.
+    fn rows(&mut self, decoder: Decoder) -> bool {
+        let mut overrun = false;
+        for row in 0..self.ask.height {
+            overrun |= self.row(row, decoder == Decoder::TwoPhase && row >= 2);
+        }
+        if self.fault == Fault::SpillOverResiduals && self.ask.height > 2 {
+            let directions = self.directions.len();
+            self.row(1, false);
+            self.directions.truncate(directions);
+        }
+        overrun
+    }
+
+    fn row(&mut self, row: usize, late: bool) -> bool {
         let mut reader = Reader::new(self.ask.src, u64::from(self.ask.offsets[row]));
-        let fresh = if row < 2 && fault != Fault::OneFreshLength { 7 } else { 4 };
+        let fresh = if row < 2 && self.fault != Fault::OneFreshLength { 7 } else { 4 };
         let mut lengths = [fresh; 4];
         for col in (0..self.ask.width).step_by(16) {
             let direction = reader.get(1);
-            directions.push(direction as u8);
+            self.directions.push(direction as u8);
             let operations = [0; 4].map(|_| reader.get(2));
             for (length, operation) in lengths.iter_mut().zip(operations) {
                 match operation {
@@ -174,26 +156,16 @@ impl Work<'_> {
                     _ => {}
                 }
             }
-            let mut samples: Vec<(usize, usize)> = order().collect();
-            if fault == Fault::OddsFirst {
-                samples.rotate_left(8);
-            }
-            for (c, j) in samples {
-                let j = if fault == Fault::LengthsMixedUp { j.reverse_bits() >> (usize::BITS - 2) } else { j };
-                self.sample((row, col, c), direction, lengths[j], late, &mut reader);
+            let odds = if self.fault == Fault::OddsFirst { 8 } else { 0 };
+            for (c, j) in order().cycle().skip(odds).take(16) {
+                let j = if self.fault == Fault::LengthsMixedUp { [0, 2, 1, 3][j] } else { j };
+                self.sample(Place { row, col, c, direction, late }, lengths[j], &mut reader);
             }
         }
         reader.overrun()
     }
 
-    fn sample(
-        &mut self,
-        (row, col, c): (usize, usize, usize),
-        direction: u32,
-        length: i32,
-        late: bool,
-        reader: &mut Reader,
-    ) {
+    fn sample(&mut self, place: Place, length: i32, reader: &mut Reader) {
         let (fault, n) = (self.fault, self.ask.n());
         let Ask { width, height, .. } = *self.ask;
         let bits = match fault {
@@ -201,13 +173,13 @@ impl Work<'_> {
             Fault::NegativeLengthsRead => length.abs().min(32) as u32,
             _ => length.clamp(0, 32) as u32,
         };
-        let place = row * width + col + c;
-        if !late && skipped(width, height, row, col, c, direction) {
+        let at = place.row * width + place.col + place.c;
+        if !place.late && skipped(width, height, place.row, place.col, place.c, place.direction) {
             if fault == Fault::SkippedReadsBits {
                 reader.get(bits);
             }
-            if fault == Fault::PaintsSkipped && place < n {
-                self.cells[place] = (0, 0);
+            if fault == Fault::PaintsSkipped && at < n {
+                self.cells[at] = (0, 0);
             }
             return;
         }
@@ -215,49 +187,44 @@ impl Work<'_> {
             Fault::UnsignedResiduals => i64::from(reader.get(bits)),
             _ => reader.signed(bits),
         };
-        let at = self.predictor(place, row, col, c, direction);
-        let outside = col + c >= width;
-        if outside && (late || fault == Fault::DroppedSpill) {
-            return;
-        }
-        let (value, mut mark) = match at {
-            None => (if fault == Fault::NoConstant { 0 } else { 128 }, u8::from(fault == Fault::MarkedConstant)),
-            Some(at) if at < n => self.cells[at],
-            // Such a sample lies past the frame, too, and is not written.
-            Some(_) => (0, 0),
-        };
-        let limit = if fault == Fault::WritesPastTheFrame { self.cells.len() } else { n };
-        if place < limit {
-            if fault == Fault::MapWithoutSpill && outside {
-                mark = self.cells[place].1;
-            }
-            let sum = match fault {
-                Fault::SaturatingSum => (i64::from(value) + residual).clamp(0, 65_535) as u16,
-                _ => value.wrapping_add(residual as u16),
-            };
-            self.cells[place] = (sum, mark);
+        let outside = place.col + place.c >= width;
+        let dropped = outside && (place.late || fault == Fault::DroppedSpill);
+        let end = if fault == Fault::WritesPastTheFrame { self.cells.len() } else { n };
+        if !dropped && at < end {
+            let keeps_mark = outside && fault == Fault::MapWithoutSpill;
+            self.write(at, self.predicted(place), residual, keeps_mark);
         }
     }
 
-    /// The place that a sample is predicted from; none at column 0.
-    fn predictor(&self, place: usize, row: usize, col: usize, c: usize, direction: u32) -> Option<usize> {
-        let odd = c % 2;
-        let first = row * self.ask.width + col;
-        if direction == 1 {
-            let up = if self.fault == Fault::UpTheOtherWay && row >= 2 { 2 - odd } else { 1 + odd };
-            return Some(place - up * self.ask.width);
-        }
-        match self.fault {
-            Fault::PredictsInsideTheBlock if c >= 2 => Some(first + c - 2),
-            _ if col == 0 => None,
-            _ => Some(first + odd - 2),
-        }
+    fn write(&mut self, at: usize, (value, mark): Cell, residual: i64, keeps_mark: bool) {
+        let sum = match self.fault {
+            Fault::SaturatingSum => (i64::from(value) + residual).clamp(0, 65_535) as u16,
+            _ => value.wrapping_add(residual as u16),
+        };
+        self.cells[at] = (sum, if keeps_mark { self.cells[at].1 } else { mark });
+    }
+
+    /// The cell that a sample is predicted from. One that lies past the frame counts as 0; so does the sample then, which is
+    /// not written.
+    fn predicted(&self, place: Place) -> Cell {
+        let Place { row, col, c, direction, .. } = place;
+        let (odd, first) = (c % 2, row * self.ask.width + col);
+        let at = match self.fault {
+            Fault::UpTheOtherWay if direction == 1 && row >= 2 => first + c - (2 - odd) * self.ask.width,
+            _ if direction == 1 => first + c - (1 + odd) * self.ask.width,
+            Fault::PredictsInsideTheBlock if c >= 2 => first + c - 2,
+            Fault::NoConstant if col == 0 => return (0, 0),
+            Fault::MarkedConstant if col == 0 => return (128, 1),
+            _ if col == 0 => return (128, 0),
+            _ => first + odd - 2,
+        };
+        if at < self.ask.n() { self.cells[at] } else { (0, 0) }
     }
 
     fn exchange(&mut self) {
         let Ask { width, height, .. } = *self.ask;
         let last = usize::from(self.fault != Fault::ExchangesTheLastColumn);
-        let rows = if self.fault == Fault::SizeByRowTwo { height.max(1) - 1 } else { height };
+        let rows = height - usize::from(self.fault == Fault::ExchangesOneRowLess && height > 0);
         for row in (0..rows).step_by(2).filter(|row| row + 1 < rows) {
             for col in (0..width).step_by(2).filter(|col| col + last < width) {
                 let (right, below) = (row * width + col + 1, (row + 1) * width + col);

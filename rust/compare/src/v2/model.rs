@@ -6,19 +6,7 @@ use crate::call::{Answer, Ask, Decoder, Entry, Lent};
 use crate::refusals;
 use crate::stream::Reader;
 
-macro_rules! faults {
-    ($($name:ident),* $(,)?) => {
-        /// What is wrong.
-        #[derive(Clone, Copy, Debug, PartialEq, Eq)]
-        pub enum Fault { None, $($name),* }
-
-        impl Fault {
-            pub const ALL: &'static [Fault] = &[$(Fault::$name),*];
-        }
-    };
-}
-
-faults!(
+crate::faults::faults!(
     OverrunFirst,
     FaultyBlockWritten,
     LastRowWithheld,
@@ -63,6 +51,31 @@ pub fn entry(fault: Fault, map: bool) -> Entry {
 
 const OFFSETS: [i64; 7] = [-4, -2, -2, 0, 0, 2, 4];
 
+/// What a stream makes use of.
+#[derive(Clone, Debug, Default, PartialEq, Eq)]
+pub struct Used {
+    /// Blocks with each motion, lengths by each flag, and blocks without lengths.
+    pub motions: [u64; 8],
+    pub flags: [u64; 4],
+    pub none: u64,
+    /// The lowest and the highest scale.
+    pub scales: [i64; 2],
+    /// Samples held to 0 and to the top.
+    pub held: [u64; 2],
+}
+
+impl Used {
+    /// Adds what another stream makes use of.
+    pub fn add(&mut self, other: &Used) {
+        let pairs = self.motions.iter_mut().zip(other.motions).chain(self.flags.iter_mut().zip(other.flags));
+        for (mine, others) in pairs.chain(self.held.iter_mut().zip(other.held)) {
+            *mine += others;
+        }
+        self.none += other.none;
+        self.scales = [self.scales[0].min(other.scales[0]), self.scales[1].max(other.scales[1])];
+    }
+}
+
 struct Work<'a> {
     fault: Fault,
     ask: &'a Ask<'a>,
@@ -71,6 +84,7 @@ struct Work<'a> {
     initial: u16,
     samples: &'a mut [u16],
     marks: Vec<u8>,
+    used: Used,
 }
 
 /// What a row's blocks hand on.
@@ -81,8 +95,8 @@ struct Row {
     mode: [[u32; 2]; 3],
 }
 
-/// Decodes, and gives the marks where the stream was read.
-pub fn marked(fault: Fault, ask: &Ask, samples: &mut [u16]) -> (Answer, Vec<u8>) {
+/// Decodes a frame that is not refused by 1 to 4, and gives the marks and what was made use of.
+pub fn marked(fault: Fault, ask: &Ask, samples: &mut [u16]) -> (Answer, Vec<u8>, Used) {
     let mut header = Reader::new(ask.src, 0);
     header.get(20);
     let depth = header.get(4) + 1;
@@ -91,9 +105,10 @@ pub fn marked(fault: Fault, ask: &Ask, samples: &mut [u16]) -> (Answer, Vec<u8>)
     let options = header.get(4);
     header.get(26);
     let initial = header.get(14) as u16;
-    let mut work = Work { fault, ask, depth, options, initial, samples, marks: vec![1; ask.n()] };
+    let mut work =
+        Work { fault, ask, depth, options, initial, samples, marks: vec![1; ask.n()], used: Used::default() };
     let answer = work.rows();
-    (answer, work.marks)
+    (answer, work.marks, work.used)
 }
 
 pub fn decode(fault: Fault, map: bool, ask: &Ask, lent: &mut Lent) -> Answer {
@@ -108,7 +123,7 @@ pub fn decode(fault: Fault, map: bool, ask: &Ask, lent: &mut Lent) -> Answer {
         Fault::MapPastTheFrame if map && lent.map.len() > n => lent.map[n] ^= 1,
         _ => {}
     }
-    let (answer, marks) = marked(fault, ask, lent.samples);
+    let (answer, marks, _) = marked(fault, ask, lent.samples);
     let untouched = fault == Fault::MapAfterDoneOnly && answer != Answer::DONE;
     if (map || fault == Fault::TouchesAMapNotLent && lent.map.len() >= n) && !untouched {
         for (byte, mark) in lent.map.iter_mut().zip(marks) {
@@ -157,27 +172,13 @@ impl Work<'_> {
     }
 
     fn block(&mut self, state: &mut Row, col: usize, reader: &mut Reader) -> Result<(), u32> {
-        let every = if self.fault == Fault::ScaleAtEachBlock { 16 } else { 64 };
-        if self.options & 4 == 0 && col.is_multiple_of(every) {
-            let step = if self.fault == Fault::ScaleByOne { 1 } else { 2 };
-            match reader.get(2) {
-                0 => {}
-                1 => state.scale -= step,
-                2 => state.scale += step,
-                _ => state.scale = i64::from(reader.get(12)),
-            }
-        }
-        if self.options & 2 != 0 {
-            let up = reader.get(1) == 1 || self.fault == Fault::MotionThreeAlways && state.row >= 2;
-            state.motion = if up { 3 } else { 7 };
-        } else if reader.get(1) == 0 {
-            state.motion = reader.get(3);
-        }
+        self.scale(state, col, reader);
+        self.motion(state, reader);
         let base = self.base(state, col)?;
-        let written = self.fault == Fault::FaultyBlockWritten;
+        let first = state.row * self.ask.width + col;
         let lengths = self.lengths(state, reader).inspect_err(|_| {
-            if written {
-                self.samples[state.row * self.ask.width + col] = base[0].0;
+            if self.fault == Fault::FaultyBlockWritten {
+                self.samples[first] = base[0].0;
             }
         })?;
         let mut differences = [0; 16];
@@ -186,74 +187,120 @@ impl Work<'_> {
             let position = if odd { 2 * (k % 8) + 1 - k / 8 } else { 2 * (k % 8) + k / 8 };
             differences[position] = reader.signed(lengths[k / 4]);
         }
-        let top = match self.fault {
-            Fault::HoldToSixteenBits => 65_535,
-            _ => (1 << self.depth) - 1,
-        };
         for (i, (sample, mark)) in base.into_iter().enumerate() {
             let value = i64::from(sample) + differences[i] * (2 * state.scale + 1) + state.scale;
-            let place = state.row * self.ask.width + col + i;
-            let held = if self.fault == Fault::NoHold { value } else { value.clamp(0, top) };
-            self.samples[place] = held as u16;
-            self.marks[place] = mark;
+            self.samples[first + i] = self.held(value);
+            self.marks[first + i] = mark;
         }
         Ok(())
     }
 
+    fn held(&mut self, value: i64) -> u16 {
+        let top = match self.fault {
+            Fault::HoldToSixteenBits => 65_535,
+            _ => (1 << self.depth) - 1,
+        };
+        self.used.held[0] += u64::from(value < 0);
+        self.used.held[1] += u64::from(value > top);
+        if self.fault == Fault::NoHold { value as u16 } else { value.clamp(0, top) as u16 }
+    }
+
+    fn scale(&mut self, state: &mut Row, col: usize, reader: &mut Reader) {
+        let every = if self.fault == Fault::ScaleAtEachBlock { 16 } else { 64 };
+        if self.options & 4 != 0 || !col.is_multiple_of(every) {
+            return;
+        }
+        let step = if self.fault == Fault::ScaleByOne { 1 } else { 2 };
+        match reader.get(2) {
+            0 => {}
+            1 => state.scale -= step,
+            2 => state.scale += step,
+            _ => state.scale = i64::from(reader.get(12)),
+        }
+        self.used.scales = [self.used.scales[0].min(state.scale), self.used.scales[1].max(state.scale)];
+    }
+
+    fn motion(&mut self, state: &mut Row, reader: &mut Reader) {
+        if self.options & 2 != 0 {
+            let up = reader.get(1) == 1 || self.fault == Fault::MotionThreeAlways && state.row >= 2;
+            state.motion = if up { 3 } else { 7 };
+        } else if reader.get(1) == 0 {
+            state.motion = reader.get(3);
+        }
+        self.used.motions[state.motion as usize] += 1;
+    }
+
     /// The base of each sample, with its mark.
     fn base(&self, state: &Row, col: usize) -> Result<[(u16, u8); 16], u32> {
-        let width = self.ask.width;
-        let first = state.row * width + col;
-        let cell = |at: usize| (self.samples[at], self.marks[at]);
-        let mut base = [(self.initial, 0); 16];
         if state.motion == 7 {
-            if col > 0 && self.fault != Fault::InitialInEveryBlock {
-                for (i, b) in base.iter_mut().enumerate() {
-                    let one = self.fault == Fault::RepeatsOneSample;
-                    *b = cell(first - if i % 2 == 0 && !one { 2 } else { 1 });
-                    if self.fault == Fault::MapOfTheFirst {
-                        b.1 = self.marks[first - 2];
-                    }
-                }
-            }
-            return Ok(base);
+            return Ok(self.repeated(state.row * self.ask.width + col, col));
         }
         if state.row < 2 {
             return Err(5);
         }
-        let average = [2, 4].contains(&state.motion);
-        let further = if self.fault == Fault::AverageOfNeighbours { 1 } else { 2 };
-        let mut offset = OFFSETS[state.motion as usize];
-        if self.fault == Fault::WrongOffset && state.motion == 5 {
-            offset = 4;
-        }
+        let mut base = [(0, 0); 16];
         for (i, b) in base.iter_mut().enumerate() {
-            let side = if i % 2 == 0 { 1 } else { -1 };
-            let green = (state.row + i) % 2 == 0;
-            let up = if green { 1 } else { 2 } * width as i64;
-            let side = if green && self.fault != Fault::StraightGreen { side } else { 0 };
-            let at = (first + i) as i64 - up + offset + side;
-            if at < 0 || at + if average { 2 } else { 0 } >= self.ask.n() as i64 {
-                if self.fault == Fault::StrayCountsAsZero {
-                    *b = (0, 0);
-                    continue;
-                }
-                return Err(6);
-            }
-            *b = cell(at as usize);
-            if average {
-                let other = cell(at as usize + further);
-                let up = u32::from(self.fault != Fault::AverageRoundsDown);
-                let mark = if self.fault == Fault::MapOfOneInAverage { b.1 } else { b.1 | other.1 };
-                *b = (((u32::from(b.0) + u32::from(other.0) + up) / 2) as u16, mark);
-            }
+            *b = match self.referred(state, col, i) {
+                None if self.fault == Fault::StrayCountsAsZero => (0, 0),
+                None => return Err(6),
+                Some(cell) => cell,
+            };
         }
         Ok(base)
     }
 
-    fn lengths(&self, state: &mut Row, reader: &mut Reader) -> Result<[u32; 4], u32> {
+    /// The two samples before the block, again and again; at column 0 the initial sample.
+    fn repeated(&self, first: usize, col: usize) -> [(u16, u8); 16] {
+        let mut base = [(self.initial, 0); 16];
+        if col == 0 || self.fault == Fault::InitialInEveryBlock {
+            return base;
+        }
+        for (i, b) in base.iter_mut().enumerate() {
+            let even = i % 2 == 0 && self.fault != Fault::RepeatsOneSample;
+            *b = self.cell(first - if even { 2 } else { 1 });
+            if self.fault == Fault::MapOfTheFirst {
+                b.1 = self.marks[first - 2];
+            }
+        }
+        base
+    }
+
+    fn cell(&self, at: usize) -> (u16, u8) {
+        (self.samples[at], self.marks[at])
+    }
+
+    /// What sample `i` refers to in the rows above; nothing where that lies outside the frame.
+    fn referred(&self, state: &Row, col: usize, i: usize) -> Option<(u16, u8)> {
+        let average = [2, 4].contains(&state.motion);
+        let offset = match self.fault {
+            Fault::WrongOffset if state.motion == 5 => 4,
+            _ => OFFSETS[state.motion as usize],
+        };
+        let width = self.ask.width as i64;
+        let side = if i % 2 == 0 { 1 } else { -1 };
+        let (up, side) = match (state.row + i) % 2 {
+            1 => (2 * width, 0),
+            _ if self.fault == Fault::StraightGreen => (width, 0),
+            _ => (width, side),
+        };
+        let at = (state.row * self.ask.width + col + i) as i64 - up + offset + side;
+        if at < 0 || at + if average { 2 } else { 0 } >= self.ask.n() as i64 {
+            return None;
+        }
+        let one = self.cell(at as usize);
+        if !average {
+            return Some(one);
+        }
+        let other = self.cell(at as usize + if self.fault == Fault::AverageOfNeighbours { 1 } else { 2 });
+        let round = u32::from(self.fault != Fault::AverageRoundsDown);
+        let mark = if self.fault == Fault::MapOfOneInAverage { one.1 } else { one.1 | other.1 };
+        Some((((u32::from(one.0) + u32::from(other.0) + round) / 2) as u16, mark))
+    }
+
+    fn lengths(&mut self, state: &mut Row, reader: &mut Reader) -> Result<[u32; 4], u32> {
         let mut lengths = [0; 4];
         if self.options & 1 == 0 && reader.get(1) == 1 {
+            self.used.none += 1;
             if self.fault == Fault::RemembersNoLengths {
                 state.mode = [[0; 2]; 3];
             }
@@ -261,6 +308,7 @@ impl Work<'_> {
         }
         let flags = [0; 4].map(|_| reader.get(2));
         for (j, flag) in flags.into_iter().enumerate() {
+            self.used.flags[flag as usize] += 1;
             let mode = &mut state.mode[colour(state.row, j)];
             let first = if self.fault == Fault::RemembersTheLast { mode[1] } else { mode[0] };
             let length = match flag {
