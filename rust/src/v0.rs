@@ -224,7 +224,7 @@ mod tests {
         }
         if landed::V0 {
             plain.push(|s, o, w, h, out, _, scratch| decode_v0(s, o, w, h, out, scratch));
-            marked.push(|s, o, w, h, out, map, scratch| decode_v0_map(s, o, w, h, out, map, scratch));
+            marked.push(decode_v0_map);
         }
         (plain, marked)
     }

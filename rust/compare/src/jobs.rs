@@ -71,20 +71,34 @@ fn bare(width: usize, height: usize) -> Frame {
     Frame { src: Vec::new(), offsets: vec![0; height], width, height }
 }
 
+/// The document's frames: one whose first row is skipped, one with spill, one of a single sample.
+fn documents() -> [Frame; 3] {
+    let skipped = vec![0, 0, 0, 0x80, 0x18, 0x20, 0xa0, 0x7f, 0, 0, 0x70, 0];
+    let spill = vec![0x18, 0x20, 0xa0, 0x7f, 0, 0, 0x70, 0, 0x08, 0, 0xa0, 0xff, 0, 0, 0, 0];
+    let two = |src, second| Frame { src, offsets: vec![0, second], width: 2, height: 2 };
+    [two(skipped, 4), two(spill, 8), bare(1, 1)]
+}
+
 /// Every input: the document's, every fault, in every order of two faults, sizes at their limits, and frames of every kind.
 pub fn inputs() -> Vec<Vec<u8>> {
     let mut random = Random::new(1);
-    let mut inputs = Vec::new();
-    // The document's frames.
-    let skipped = [0, 0, 0, 0x80, 0x18, 0x20, 0xa0, 0x7f, 0, 0, 0x70, 0];
-    let spill = [0x18, 0x20, 0xa0, 0x7f, 0, 0, 0x70, 0, 0x08, 0, 0xa0, 0xff, 0, 0, 0, 0];
-    let two = |src: &[u8], second| Frame { src: src.to_vec(), offsets: vec![0, second], width: 2, height: 2 };
-    inputs.push(input(&two(&skipped, 4)));
-    inputs.push(input(&two(&spill, 8)));
-    inputs.push(input(&bare(1, 1)));
+    let mut inputs: Vec<Vec<u8>> = documents().iter().map(input).collect();
+    inputs.extend(faults());
+    inputs.extend(limits(&mut random));
+    for i in 0..60 {
+        let (width, height) = (random.index(36), random.index(7));
+        inputs.push(match i % 3 {
+            0 => input(&frames::written(&mut random, width, height)),
+            _ => input(&frames::any(&mut random, width, height)),
+        });
+    }
+    inputs
+}
+
+fn faults() -> Vec<Vec<u8>> {
+    let whole = input(&documents()[0]);
     // Under 9 bytes, with and without the mark.
-    let whole = input(&two(&skipped, 4));
-    inputs.extend([0, 1, 3, 8].map(|len| whole[..len].to_vec()));
+    let mut inputs: Vec<Vec<u8>> = [0, 1, 3, 8].map(|len| whole[..len].to_vec()).into();
     inputs.push(b"XYZ".to_vec());
     // Mark and version; then with a cut table and with too many samples.
     for (at, byte) in [(0, b's'), (1, b'N'), (2, 0), (3, 0), (3, 2), (4, 1)] {
@@ -100,34 +114,28 @@ pub fn inputs() -> Vec<Vec<u8>> {
     inputs.push(input(&bare(91, 91))[..9 + 4 * 90].to_vec());
     // Too many samples.
     inputs.extend([(8_193, 1), (91, 91), (2, 4_097), (16_385, 1), (65_535, 1)].map(|(w, h)| input(&bare(w, h))));
-    // A frame that is refused, and the widest that isn't.
-    inputs.extend([(16_385, 0), (65_535, 0), (16_384, 0), (0, 0), (0, 1), (1, 0)].map(|(w, h)| input(&bare(w, h))));
-    // The most rows, the most samples, the longest input; one byte longer, whatever it holds.
-    inputs.push(input(&bare(0, 8_189)));
-    inputs.push(long(b"SMR\x01\x00", MOST_INPUT + 1, &mut random));
+    inputs
+}
+
+fn limits(random: &mut Random) -> Vec<Vec<u8>> {
+    // Frames that are refused, the widest that isn't, and other empty ones, up to the most rows.
+    let sizes = [(16_385, 0), (65_535, 0), (16_384, 0), (0, 0), (0, 1), (1, 0), (0, 8_189)];
+    let mut inputs: Vec<Vec<u8>> = sizes.map(|(w, h)| input(&bare(w, h))).into();
+    // One byte too long, whatever it holds; the most samples; the longest input.
+    inputs.push(long(b"SMR\x01\x00".to_vec(), MOST_INPUT + 1, random));
     inputs.push(vec![0; MOST_INPUT + 1]);
     for (width, height) in [(8_192, 1), (4_096, 2), (128, 64), (3, 2_730)] {
-        inputs.push(input(&fitting(&mut random, width, height)));
+        inputs.push(input(&fitting(random, width, height)));
     }
-    let mut longest = input(&frames::written(&mut random, 61, 17));
-    let more = random.bytes(MOST_INPUT - longest.len());
-    longest.extend(more);
-    inputs.push(longest);
-    // Frames of every kind.
-    for i in 0..60 {
-        let (width, height) = (random.index(36), random.index(7));
-        inputs.push(match i % 3 {
-            0 => input(&frames::written(&mut random, width, height)),
-            _ => input(&frames::any(&mut random, width, height)),
-        });
-    }
+    let frame = frames::written(random, 61, 17);
+    inputs.push(long(input(&frame), MOST_INPUT, random));
     inputs
 }
 
 /// Bytes that begin as given, and are random from there on.
-fn long(first: &[u8], len: usize, random: &mut Random) -> Vec<u8> {
+fn long(first: Vec<u8>, len: usize, random: &mut Random) -> Vec<u8> {
     let rest = random.bytes(len - first.len());
-    [first, &rest].concat()
+    [first, rest].concat()
 }
 
 /// A written frame whose input is short enough.

@@ -210,8 +210,7 @@ fn write_lengths_and_differences(
         }
     }
     let mut fields = [(0, 0); 4];
-    let mut lengths = [0; 4];
-    for j in 0..4 {
+    for (j, field) in fields.iter_mut().enumerate() {
         let mode = &mut state.mode[colour(state.row, j)];
         let (flag, length) = match (planted, soon) {
             (Some(7), _) => too_long(mode[0], style.header.depth + 1),
@@ -219,8 +218,7 @@ fn write_lengths_and_differences(
             _ => fitting(random, style, mode[0]),
         };
         *mode = [mode[1], length];
-        fields[j] = (flag, length);
-        lengths[j] = length;
+        *field = (flag, length);
     }
     for (flag, _) in fields {
         writer.put(flag, 2);
@@ -228,7 +226,7 @@ fn write_lengths_and_differences(
     for (_, length) in fields.into_iter().filter(|field| field.0 == 3) {
         writer.put(length, 4);
     }
-    for length in lengths.into_iter().filter(|&length| length <= style.header.depth + 1) {
+    for (_, length) in fields.into_iter().filter(|field| field.1 <= style.header.depth + 1) {
         for _ in 0..4 {
             let bits = random.number() as u32;
             writer.put(if style.any { bits } else { (bits % 5).wrapping_sub(2) }, length);
