@@ -163,10 +163,17 @@ fn list(
     Ok(Returned { found, answer, samples: buffer, map })
 }
 
-/// The rules' marks of a frame, and in V0 the position and amount of each sample, found by runs of the Rust.
-fn rules(asked: &Asked, pool: &Pool) -> Result<(Vec<u8>, Vec<(usize, u16)>), String> {
+/// The rules' marks of a frame, and in V0 the position and amount of each sample.
+struct Rules {
+    marks: Vec<u8>,
+    origins: Vec<(usize, u16)>,
+}
+
+/// V0's are found by runs of the Rust over chosen old values: zeros give the amounts, ones the marks, and each sample's own
+/// place, in two parts of 16 bits, the positions.
+fn rules(asked: &Asked, pool: &Pool) -> Result<Rules, String> {
     let frame = match asked {
-        Asked::V2(i) => return Ok((pool.0[*i].1.clone(), Vec::new())),
+        Asked::V2(i) => return Ok(Rules { marks: pool.0[*i].1.clone(), origins: Vec::new() }),
         Asked::V0(frame) => frame,
     };
     let n = frame.width * frame.height;
@@ -176,7 +183,7 @@ fn rules(asked: &Asked, pool: &Pool) -> Result<(Vec<u8>, Vec<(usize, u16)>), Str
     let (low, high) = (run(&|i| i as u16), run(&|i| (i >> 16) as u16));
     let part = |run: &[u16], i: usize| usize::from(run[i].wrapping_sub(zeros[i]));
     let origins = (0..n).map(|i| (part(&low, i) | part(&high, i) << 16, zeros[i])).collect();
-    Ok((marks, origins))
+    Ok(Rules { marks, origins })
 }
 
 /// Compares one pair.
@@ -193,7 +200,7 @@ fn pair(entries: &[Entry], random: &mut Random, pool: &Pool, seen: &mut Seen) ->
     if returned[0].answer != returned[1].answer || !returned[0].answer.is_decoded() {
         return Err(format!("{name}: answers {} and {}", returned[0].answer, returned[1].answer));
     }
-    let (marks, origins) = rules(&one.asked, pool)?;
+    let Rules { marks, origins } = rules(&one.asked, pool)?;
     for (coming, after) in [&one, &other].into_iter().zip(&returned) {
         if entries[coming.entry].map && after.map[..marks.len()] != marks {
             return Err(format!("{name}: the map is not the rules'"));

@@ -125,7 +125,7 @@ fn note(frame: &Frame, expected: &Expected, seen: &mut Seen) {
     let marked = expected.marks.iter().map(|&mark| u64::from(mark)).sum::<u64>();
     seen.marked += marked;
     seen.old += u64::from(marked > 0);
-    seen.spill += u64::from(frame.width % 16 != 0 && frame.height > 1);
+    seen.spill += u64::from(!frame.width.is_multiple_of(16) && frame.height > 1);
     let overruns = parse::heads(frame, |head| {
         seen.blocks += 1;
         seen.upward += u64::from(head.row < 2 && head.direction == 1);

@@ -55,7 +55,7 @@ pub fn skipped(width: usize, height: usize, row: usize, col: usize, c: usize, di
     let limit = width * (height + 7);
     let place = row * width + col + c;
     if direction == 0 {
-        let before = if c % 2 == 0 { 2 } else { 1 };
+        let before = 2 - c % 2;
         return col > 0 && (place >= limit || row * width + col - before >= limit);
     }
     let up = 1 + c % 2;

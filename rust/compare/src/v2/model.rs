@@ -256,8 +256,8 @@ impl Work<'_> {
             return base;
         }
         for (i, b) in base.iter_mut().enumerate() {
-            let even = i % 2 == 0 && self.fault != Fault::RepeatsOneSample;
-            *b = self.cell(first - if even { 2 } else { 1 });
+            let before = if self.fault == Fault::RepeatsOneSample { 1 } else { 2 - i % 2 };
+            *b = self.cell(first - before);
             if self.fault == Fault::MapOfTheFirst {
                 b.1 = self.marks[first - 2];
             }
@@ -277,7 +277,7 @@ impl Work<'_> {
             _ => OFFSETS[state.motion as usize],
         };
         let width = self.ask.width as i64;
-        let side = if i % 2 == 0 { 1 } else { -1 };
+        let side = 1 - 2 * (i as i64 % 2);
         let (up, side) = match (state.row + i) % 2 {
             1 => (2 * width, 0),
             _ if self.fault == Fault::StraightGreen => (width, 0),
