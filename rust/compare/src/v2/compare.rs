@@ -1,7 +1,7 @@
 //! V2's entries against the Rust: the refusal's number, its row, samples over the whole buffer, and marks.
 
 use super::model::{self, Fault, Used};
-use super::streams::{self, Planted, Stream, Style};
+use super::streams::{self, Planted, Scale, Stream, Style};
 use crate::call::{Answer, Difference, Entry, Lent, first_difference};
 use crate::random::Random;
 use reference::Error;
@@ -139,12 +139,22 @@ impl Seen {
 /// The size of stream number `i`: mostly just above the least; now and then as wide, as high or as large as can be.
 pub fn size(random: &mut Random, i: u64) -> (usize, usize) {
     match i {
-        40 => (16_384, 436),
+        40 | 41 => (16_384, 436),
         200 => (646, 16_384),
         600 => (6_496, 4_336),
         _ if i % 500 == 300 => (646 + random.index(15_739), 436),
         _ => (646 + random.index(30), 436 + random.index(4)),
     }
+}
+
+/// The style of stream number `i`; the two widest take the scale to its ends.
+fn style(random: &mut Random, i: u64) -> Style {
+    let mut style = Style::any(random, ((i + i / 4) % 16) as u32);
+    if let 40 | 41 = i {
+        style.header.options &= !4;
+        style.scale = if i == 40 { Scale::Rises } else { Scale::Sinks };
+    }
+    style
 }
 
 /// A refusal to meet in every fourth stream.
@@ -167,7 +177,7 @@ pub fn compare(entries: &[Entry], seed: u64, calls: u64) -> Result<Seen, Differe
         let i = seen.streams;
         seen.streams += 1;
         let (width, height) = size(&mut random, i);
-        let style = Style::any(&mut random, ((i + i / 4) % 16) as u32);
+        let style = style(&mut random, i);
         let planted = planted(&mut random, i, width, height);
         let whole = streams::written(&mut random, &style, width, height, planted);
         for change in changes(&mut random, i, &whole).into_iter().take((calls - seen.calls) as usize) {
