@@ -1,4 +1,4 @@
-.PHONY: run test compare fmt
+.PHONY: run test compare bench fmt
 
 run:
 	@echo "There is no program to run yet; this proves the crates that there are."
@@ -8,9 +8,13 @@ run:
 test:
 	bash .ci/run
 
-# The long comparison with the Rust, a minute or two.
+# The long comparison with the Rust, some minutes.
 compare:
-	cd rust && cargo run --release --offline --locked -p compare -- 1_000_000_000
+	cd rust && cargo run --release --offline --locked -p compare -- long
+
+# Razvolk and the Rust timed in turn on the same frames, two or three minutes.
+bench:
+	cd rust && cargo run --release --offline --locked -p bench
 
 fmt:
 	rt fmt

@@ -1,7 +1,8 @@
 /* Razvolk: Samsung raw decoders in Rattle, for C and C++ on x86-64 Linux. Link target/staticlib/librazvolk.a.
  *
  * Every function is proved to return on every input. A slice is a pointer and a length in elements: the pointer must be good
- * for that many elements, and not null, also where the length is 0 and nothing is read. */
+ * for that many elements, and not null, also where the length is 0 and nothing is read. Slices that are written must overlap
+ * no other slice of the call. */
 #ifndef RAZVOLK_H
 #define RAZVOLK_H
 
@@ -12,6 +13,66 @@
 #ifdef __cplusplus
 extern "C" {
 #endif
+
+/* What a decoder answers. N below is width times height.
+ *
+ *   number                                                                      left behind
+ *   0  done                                                                     the frame, in the first N samples
+ *   1  width or height is above 16,384                                          every buffer as it was
+ *   2  V2: width is below 646 or height below 436                               every buffer as it was
+ *   3  fewer than N samples are lent, or in V0 fewer offsets than rows          every buffer as it was
+ *   4  the map is shorter than N bytes, or the scratch than RAZVOLK_SCRATCH     every buffer as it was
+ *   5  V2: a block of row 0 or 1 predicts from the rows above                   the blocks before it are written
+ *   6  V2: a block predicts from outside the frame                              the blocks before it are written
+ *   7  V2: a difference is longer than the depth allows                         the blocks before it are written
+ *   8  V2: the stream ended                                                     that row and those before it are written
+ *
+ * 1 to 4 are tested in this order; then the stream decides. `row` is the row at fault of 5 to 8, else 0. Samples and map
+ * bytes from N on never change. */
+typedef struct {
+    uint32_t number;
+    uint32_t row;
+} razvolk_answer;
+
+/* The bytes of scratch that a two-phase frame within the limits needs: one for each block of 16 columns of rows 2 on. */
+#define RAZVOLK_SCRATCH(width, height) ((height) > 2 ? ((size_t)(width) + 15) / 16 * ((size_t)(height) - 2) : (size_t)0)
+
+/* V0, decoded directly. Row r is read from byte offsets[r] of src on; missing bits are ones. A sample that the stream skips
+ * keeps what the buffer held, and later samples build on it.
+ * Answers: 0, 1, 3. */
+razvolk_answer razvolk_decode_v0_reference(const uint8_t *src, size_t src_len, const uint32_t *offsets, size_t offsets_len,
+                                           size_t width, size_t height, uint16_t *samples, size_t samples_len);
+
+/* The same samples, and in the first N bytes of the map what each rests on: 1, on what the buffer held; 0, on the stream
+ * alone. What the map holds before does not matter.
+ * Answers: 0, 1, 3, 4. */
+razvolk_answer razvolk_decode_v0_reference_map(const uint8_t *src, size_t src_len, const uint32_t *offsets,
+                                               size_t offsets_len, size_t width, size_t height, uint16_t *samples,
+                                               size_t samples_len, uint8_t *map, size_t map_len);
+
+/* V0 in two phases, residuals and then predictions: the same samples. What the scratch holds before does not matter; done, its
+ * first RAZVOLK_SCRATCH(width, height) bytes are the directions of the blocks of rows 2 on, 0 or 1, and the rest is as before.
+ * Answers: 0, 1, 3, 4. */
+razvolk_answer razvolk_decode_v0(const uint8_t *src, size_t src_len, const uint32_t *offsets, size_t offsets_len,
+                                 size_t width, size_t height, uint16_t *samples, size_t samples_len, uint8_t *scratch,
+                                 size_t scratch_len);
+
+/* The same with a map.
+ * Answers: 0, 1, 3, 4. */
+razvolk_answer razvolk_decode_v0_map(const uint8_t *src, size_t src_len, const uint32_t *offsets, size_t offsets_len,
+                                     size_t width, size_t height, uint16_t *samples, size_t samples_len, uint8_t *map,
+                                     size_t map_len, uint8_t *scratch, size_t scratch_len);
+
+/* V2. The last (width modulo 16) samples of a row are not written: they keep what the buffer held, and later rows may build on
+ * them.
+ * Answers: 0, 1, 2, 3, 5, 6, 7, 8. */
+razvolk_answer razvolk_decode_v2(const uint8_t *src, size_t src_len, size_t width, size_t height, uint16_t *samples,
+                                 size_t samples_len);
+
+/* The same samples, and a map. After 5 to 8 the map tells of the samples as they are left.
+ * Answers: 0 to 8. */
+razvolk_answer razvolk_decode_v2_map(const uint8_t *src, size_t src_len, size_t width, size_t height, uint16_t *samples,
+                                     size_t samples_len, uint8_t *map, size_t map_len);
 
 /* A bit reader's state. The stream is words of 4 bytes, lowest byte first, and a word's highest bit is read first. A reader
  * that starts at a byte position is { position, 0, 0, false }. */

@@ -1,8 +1,11 @@
 /* Calls every function of include/razvolk.h from C, and from C++: that the header and the archive agree on how a structure
- * is laid out and handed over. What the functions compute is proved, and compared in rust/compare. */
+ * is laid out and handed over, and in which order the arguments come. What the functions compute is proved, and compared in
+ * rust/compare. WITHOUT_V0_REFERENCE, WITHOUT_V0 and WITHOUT_V2 leave out decoders that the archive does not have. */
 #include "razvolk.h"
 
 #include <stdio.h>
+#include <stdlib.h>
+#include <string.h>
 
 static int failed = 0;
 
@@ -13,7 +16,7 @@ static void expect(bool holds, const char *what) {
     }
 }
 
-int main(void) {
+static void reader(void) {
     static const uint8_t stream[7] = {0x78, 0x56, 0x34, 0x12, 0xff, 0x00, 0x00};
     razvolk_bits state = {0, 0, 0, false};
     razvolk_got got;
@@ -36,7 +39,99 @@ int main(void) {
 
     got = razvolk_get(stream, 0, state, 1);
     expect(got.value == 1 && got.bits.pos == 3 && got.bits.count == 31, "the position wraps at 2^64");
+}
 
+#if !defined WITHOUT_V0_REFERENCE || !defined WITHOUT_V0
+/* A frame of 2 by 3, whose first row is skipped: stream, offsets, what the buffers hold before and after. The seventh sample and
+ * map byte, and the second byte of scratch, lie past the frame. */
+static const uint8_t stream[12] = {0x00, 0x00, 0x00, 0x80, 0x18, 0x20, 0xa0, 0x7f, 0x00, 0x00, 0x70, 0x00};
+static const uint32_t offsets[3] = {0, 4, 0};
+static const uint16_t after[7] = {7, 131, 8, 126, 131, 12, 77};
+static const uint8_t marks[7] = {1, 0, 1, 0, 0, 1, 9};
+static uint16_t samples[7];
+static uint8_t map[7], scratch[2];
+
+static void before(void) {
+    static const uint16_t old[7] = {7, 8, 9, 10, 11, 12, 77};
+    memcpy(samples, old, sizeof samples);
+    memset(map, 9, sizeof map);
+    memset(scratch, 9, sizeof scratch);
+}
+
+static void done(razvolk_answer answer, bool with_map, bool with_scratch, const char *what) {
+    static const uint8_t untouched[7] = {9, 9, 9, 9, 9, 9, 9};
+    expect(answer.number == 0 && answer.row == 0, what);
+    expect(memcmp(samples, after, sizeof samples) == 0, what);
+    expect(memcmp(map, with_map ? marks : untouched, sizeof map) == 0, what);
+    expect(scratch[0] == (with_scratch ? 1 : 9) && scratch[1] == 9, what);
+}
+#endif
+
+#ifndef WITHOUT_V0_REFERENCE
+static void v0_reference(void) {
+    razvolk_answer answer;
+    before();
+    done(razvolk_decode_v0_reference(stream, 12, offsets, 3, 2, 3, samples, 7), false, false, "decode_v0_reference");
+    before();
+    done(razvolk_decode_v0_reference_map(stream, 12, offsets, 3, 2, 3, samples, 7, map, 7), true, false,
+         "decode_v0_reference_map");
+    answer = razvolk_decode_v0_reference(stream, 12, offsets, 3, 16385, 0, samples, 7);
+    expect(answer.number == 1 && answer.row == 0, "a width of 16,385 is refused by 1");
+    answer = razvolk_decode_v0_reference_map(stream, 12, offsets, 3, 2, 3, samples, 7, map, 5);
+    expect(answer.number == 4 && answer.row == 0, "a map of 5 bytes for 6 samples is refused by 4");
+    answer = razvolk_decode_v0_reference_map(stream, 12, offsets, 3, 2, 3, samples, 5, map, 5);
+    expect(answer.number == 3 && answer.row == 0, "5 samples for a frame of 6 are refused by 3");
+}
+#endif
+
+#ifndef WITHOUT_V0
+static void v0(void) {
+    razvolk_answer answer;
+    before();
+    done(razvolk_decode_v0(stream, 12, offsets, 3, 2, 3, samples, 7, scratch, 2), false, true, "decode_v0");
+    before();
+    done(razvolk_decode_v0_map(stream, 12, offsets, 3, 2, 3, samples, 7, map, 7, scratch, 2), true, true,
+         "decode_v0_map");
+    expect(RAZVOLK_SCRATCH(2, 3) == 1 && RAZVOLK_SCRATCH(17, 5) == 6 && RAZVOLK_SCRATCH(17, 2) == 0, "RAZVOLK_SCRATCH");
+    answer = razvolk_decode_v0(stream, 12, offsets, 3, 2, 3, samples, 7, scratch, 0);
+    expect(answer.number == 4 && answer.row == 0, "no scratch for a frame of 3 rows is refused by 4");
+}
+#endif
+
+#ifndef WITHOUT_V2
+static void v2(void) {
+    const size_t n = 646 * 436;
+    static const uint8_t zeros[16] = {0};
+    uint16_t *out = (uint16_t *)calloc(n, sizeof(uint16_t));
+    uint8_t *marked = (uint8_t *)calloc(n, 1);
+    razvolk_answer answer;
+    if (out == NULL || marked == NULL) {
+        expect(false, "there is memory for a frame");
+        return;
+    }
+    answer = razvolk_decode_v2(zeros, 0, 646, 436, out, n);
+    expect(answer.number == 5 && answer.row == 0 && out[0] == 0, "decode_v2 refuses no bytes by 5");
+    answer = razvolk_decode_v2_map(zeros, 16, 646, 436, out, n, marked, n);
+    expect(answer.number == 8 && answer.row == 0, "decode_v2_map refuses sixteen zero bytes by 8");
+    expect(out[639] == 1 && out[640] == 0 && marked[639] == 0 && marked[640] == 1, "and has written 640 samples");
+    answer = razvolk_decode_v2(zeros, 16, 645, 436, out, n);
+    expect(answer.number == 2 && answer.row == 0, "a width of 645 is refused by 2");
+    free(out);
+    free(marked);
+}
+#endif
+
+int main(void) {
+    reader();
+#ifndef WITHOUT_V0_REFERENCE
+    v0_reference();
+#endif
+#ifndef WITHOUT_V0
+    v0();
+#endif
+#ifndef WITHOUT_V2
+    v2();
+#endif
     puts(failed ? "header: FAILED" : "header: ok");
     return failed;
 }

@@ -20,7 +20,32 @@ impl Random {
         self.number() % n
     }
 
+    /// The same for places and lengths.
+    pub fn index(&mut self, n: usize) -> usize {
+        self.below(n as u64) as usize
+    }
+
+    /// Whether it happens, once in `n` times.
+    pub fn once_in(&mut self, n: u64) -> bool {
+        self.below(n) == 0
+    }
+
     pub fn bytes(&mut self, len: usize) -> Vec<u8> {
-        (0..len).map(|_| self.number() as u8).collect()
+        let mut bytes = Vec::with_capacity(len + 8);
+        while bytes.len() < len {
+            bytes.extend(self.number().to_le_bytes());
+        }
+        bytes.truncate(len);
+        bytes
+    }
+
+    pub fn samples(&mut self, len: usize) -> Vec<u16> {
+        let mut samples = Vec::with_capacity(len + 4);
+        while samples.len() < len {
+            let n = self.number();
+            samples.extend([n as u16, (n >> 16) as u16, (n >> 32) as u16, (n >> 48) as u16]);
+        }
+        samples.truncate(len);
+        samples
     }
 }

@@ -1,0 +1,7 @@
+//! Frames to time decoders on, and how they are timed.
+
+pub mod hostile;
+pub mod measure;
+pub mod photo;
+pub mod v0;
+pub mod v2;

@@ -1,0 +1,153 @@
+//! A call of a decoder, whichever it is: what is asked for, what is lent, and what is answered.
+
+use razvolk::landed;
+use std::fmt;
+
+/// What a call asks for. V2 has no offsets.
+#[derive(Clone, Copy, Debug)]
+pub struct Ask<'a> {
+    pub src: &'a [u8],
+    pub offsets: &'a [u32],
+    pub width: usize,
+    pub height: usize,
+}
+
+impl Ask<'_> {
+    /// How many samples the frame has.
+    pub fn n(&self) -> usize {
+        self.width * self.height
+    }
+}
+
+/// The buffers that a call is lent. An entry that takes no map or no scratch is handed them all the same here, and must leave
+/// them alone.
+#[derive(Debug)]
+pub struct Lent<'a> {
+    pub samples: &'a mut [u16],
+    pub map: &'a mut [u8],
+    pub scratch: &'a mut [u8],
+}
+
+/// Number 0 is done.
+#[derive(Clone, Copy, Debug, PartialEq, Eq)]
+pub struct Answer {
+    pub number: u32,
+    pub row: u32,
+}
+
+impl Answer {
+    pub const DONE: Answer = Answer { number: 0, row: 0 };
+
+    /// Refusals 1 to 4, which name no row.
+    pub fn refused(number: u32) -> Answer {
+        Answer { number, row: 0 }
+    }
+
+    /// Whether the stream was decoded, to its end or up to a refusal.
+    pub fn is_decoded(self) -> bool {
+        !(1..=4).contains(&self.number)
+    }
+}
+
+impl fmt::Display for Answer {
+    fn fmt(&self, f: &mut fmt::Formatter<'_>) -> fmt::Result {
+        write!(f, "{}, row {}", self.number, self.row)
+    }
+}
+
+/// Which decoder; its entries with and without a map are one decoder.
+#[derive(Clone, Copy, Debug, PartialEq, Eq)]
+pub enum Decoder {
+    Direct,
+    TwoPhase,
+    V2,
+}
+
+/// An entry under test.
+pub struct Entry {
+    pub name: &'static str,
+    pub decoder: Decoder,
+    pub map: bool,
+    pub call: Box<Call>,
+}
+
+/// How an entry is called.
+pub type Call = dyn Fn(&Ask, &mut Lent) -> Answer;
+
+impl Entry {
+    pub fn new(
+        name: &'static str,
+        decoder: Decoder,
+        map: bool,
+        call: impl Fn(&Ask, &mut Lent) -> Answer + 'static,
+    ) -> Entry {
+        Entry { name, decoder, map, call: Box::new(call) }
+    }
+
+    pub fn call(&self, ask: &Ask, lent: &mut Lent) -> Answer {
+        (self.call)(ask, lent)
+    }
+}
+
+fn answer(result: Result<(), razvolk::Refusal>) -> Answer {
+    match result {
+        Ok(()) => Answer::DONE,
+        Err(refusal) => Answer { number: refusal.number, row: refusal.row },
+    }
+}
+
+/// Razvolk's six entries; those that the archive does not have yet are left out.
+pub fn razvolk() -> Vec<Entry> {
+    let mut entries = Vec::new();
+    if landed::V0_REFERENCE {
+        entries.push(Entry::new("decode_v0_reference", Decoder::Direct, false, |a, l| {
+            answer(razvolk::decode_v0_reference(a.src, a.offsets, a.width, a.height, l.samples))
+        }));
+        entries.push(Entry::new("decode_v0_reference_map", Decoder::Direct, true, |a, l| {
+            answer(razvolk::decode_v0_reference_map(a.src, a.offsets, a.width, a.height, l.samples, l.map))
+        }));
+    }
+    if landed::V0 {
+        entries.push(Entry::new("decode_v0", Decoder::TwoPhase, false, |a, l| {
+            answer(razvolk::decode_v0(a.src, a.offsets, a.width, a.height, l.samples, l.scratch))
+        }));
+        entries.push(Entry::new("decode_v0_map", Decoder::TwoPhase, true, |a, l| {
+            answer(razvolk::decode_v0_map(a.src, a.offsets, a.width, a.height, l.samples, l.map, l.scratch))
+        }));
+    }
+    if landed::V2 {
+        entries.push(Entry::new("decode_v2", Decoder::V2, false, |a, l| {
+            answer(razvolk::decode_v2(a.src, a.width, a.height, l.samples))
+        }));
+        entries.push(Entry::new("decode_v2_map", Decoder::V2, true, |a, l| {
+            answer(razvolk::decode_v2_map(a.src, a.width, a.height, l.samples, l.map))
+        }));
+    }
+    entries
+}
+
+/// Those of V0, or those of V2.
+pub fn razvolk_of(v2: bool) -> Vec<Entry> {
+    razvolk().into_iter().filter(|entry| (entry.decoder == Decoder::V2) == v2).collect()
+}
+
+/// A difference that a comparison found, with what is needed to have it again.
+#[derive(Debug)]
+pub struct Difference(pub String);
+
+impl fmt::Display for Difference {
+    fn fmt(&self, f: &mut fmt::Formatter<'_>) -> fmt::Result {
+        f.write_str(&self.0)
+    }
+}
+
+/// Where two lists first differ, in words.
+pub fn first_difference<T: PartialEq + fmt::Debug>(found: &[T], expected: &[T]) -> Option<String> {
+    if found == expected {
+        return None;
+    }
+    Some(match found.iter().zip(expected).position(|(a, b)| a != b) {
+        Some(i) => format!("at {i} there is {:?}, expected {:?}", found[i], expected[i]),
+        None => format!("there are {}, expected {}", found.len(), expected.len()),
+    })
+}

@@ -1,0 +1,167 @@
+//! Calls of the Rust with what it answered and left, as a file that a program can replay without the Rust. docs/RECORD.md says
+//! how the file is laid out.
+
+use crate::call::Answer;
+use crate::random::Random;
+use crate::v0::{self, Frame};
+use crate::v2::streams::{Header, Planted, Scale, Stream, Style, written};
+use crate::v2::{self};
+use reference::Error;
+use std::fs;
+use std::io;
+use std::path::Path;
+
+/// The numbers of the decoders in the file.
+const V0: u32 = 0;
+const V2: u32 = 2;
+
+/// In place of a row that the Rust does not tell.
+const NOT_TOLD: u32 = u32::MAX;
+
+/// The old samples of a call: x becomes 25,173 x + 13,849 modulo 65,536 before each.
+pub fn old(seed: u16, len: usize) -> Vec<u16> {
+    let mut x = seed;
+    let mut next = || {
+        x = x.wrapping_mul(25_173).wrapping_add(13_849);
+        x
+    };
+    (0..len).map(|_| next()).collect()
+}
+
+/// The sum of samples: s becomes 31 s plus the sample, modulo 2^32, from 0 on.
+pub fn sum(samples: &[u16]) -> u32 {
+    samples.iter().fold(0, |sum: u32, &sample| sum.wrapping_mul(31).wrapping_add(u32::from(sample)))
+}
+
+/// The file while it is written.
+struct File {
+    bytes: Vec<u8>,
+    calls: u32,
+}
+
+impl File {
+    fn number(&mut self, number: usize) {
+        self.bytes.extend(u32::try_from(number).expect("a number of 32 bits").to_le_bytes());
+    }
+
+    /// One call, up to the seed; then what came of it.
+    fn call(&mut self, decoder: u32, frame: &Frame, lent: usize, seed: u16, answer: Answer, after: &[u16]) {
+        self.calls += 1;
+        self.number(decoder as usize);
+        self.number(frame.width);
+        self.number(frame.height);
+        self.number(frame.offsets.len());
+        for &offset in &frame.offsets {
+            self.number(offset as usize);
+        }
+        self.number(frame.src.len());
+        self.bytes.extend(&frame.src);
+        self.number(lent);
+        self.number(usize::from(seed));
+        self.number(answer.number as usize);
+        self.number(answer.row as usize);
+        self.number(sum(after) as usize);
+    }
+
+    fn v0(&mut self, frame: &Frame, lent: usize, random: &mut Random) {
+        let seed = random.number() as u16;
+        let mut out = old(seed, lent);
+        let answer =
+            match reference::decode_v0_reference(&frame.src, &frame.offsets, frame.width, frame.height, &mut out) {
+                Ok(()) => Answer::DONE,
+                Err(Error::InvalidArgument(_)) => Answer::refused(3),
+                Err(other) => panic!("the Rust answers {other:?}"),
+            };
+        self.call(V0, frame, lent, seed, answer, &out);
+    }
+
+    fn v2(&mut self, stream: &Stream, lent: usize, random: &mut Random) {
+        let seed = random.number() as u16;
+        let (mut answer, out) = v2::compare::rust(stream, &old(seed, lent));
+        if (5..=7).contains(&answer.number) {
+            answer.row = NOT_TOLD;
+        }
+        let frame = Frame { src: stream.src.clone(), offsets: Vec::new(), width: stream.width, height: stream.height };
+        self.call(V2, &frame, lent, seed, answer, &out);
+    }
+}
+
+/// The whole file.
+pub fn file() -> Vec<u8> {
+    let mut random = Random::new(1);
+    let mut file = File { bytes: vec![0; 4], calls: 0 };
+    frames_of_v0(&mut file, &mut random);
+    streams_of_v2(&mut file, &mut random);
+    file.bytes.splice(..4, file.calls.to_le_bytes());
+    file.bytes
+}
+
+fn frames_of_v0(file: &mut File, random: &mut Random) {
+    for i in 0..280 {
+        let (width, height) = match i {
+            200..240 => (1 + i % 20, i % 7),
+            240..250 => (random.index(200), random.index(6)),
+            _ => (i % 41, i / 8 % 9),
+        };
+        let mut frame = v0::frames::any(random, width, height);
+        let n = width * height;
+        let lent = if i % 3 == 0 { n } else { n + random.index(20) };
+        match i % 40 {
+            38 => frame.offsets.truncate(height.saturating_sub(1)),
+            39 => file.v0(&frame, n.saturating_sub(1), random),
+            _ => {}
+        }
+        file.v0(&frame, lent, random);
+    }
+    for height in [0, 300] {
+        file.v0(&v0::frames::any(random, 0, height), 3, random);
+    }
+}
+
+/// Streams that take little space: rows of few bits, streams that are refused or end early.
+fn streams_of_v2(file: &mut File, random: &mut Random) {
+    let n = 646 * 436;
+    for options in 0..16 {
+        let mut style = Style::any(random, options);
+        style.none = 7;
+        for row in [0, 1 + random.index(3)] {
+            let stream = written(random, &style, 646, 436, None).cut(random, row);
+            file.v2(&stream, n + random.index(20), random);
+        }
+        let (number, row) = [(5, 1), (6, 2), (7, 2), (7, 0)][options as usize % 4];
+        let planted = Planted { number, row, block: if number == 6 { 0 } else { 3 } };
+        let stream = written(random, &style, 646, 436, Some(planted));
+        let end = stream.rows[3];
+        file.v2(&Stream { src: stream.src[..end].to_vec(), ..stream }, n, random);
+    }
+    let accepted = [
+        (4, 8, Scale::Still, 1, 8),
+        (0, 5, Scale::Sinks, 4, 8),
+        (6, 12, Scale::Still, 4, 8),
+        (4, 2, Scale::Still, 2, 7),
+        (0, 1, Scale::Any, 1, 7),
+    ];
+    for (options, depth, scale, motions, none) in accepted {
+        let header = Header { depth, options, initial: 5 };
+        let style = Style { header, scale, motions, none, flag: 0, favour: 0, any: true };
+        file.v2(&written(random, &style, 646, 436, None), n + 5, random);
+    }
+    for (width, height, lent) in [(645, 436, n), (646, 435, n), (646, 436, n - 1)] {
+        file.v2(&Stream { src: vec![0; 16], width, height, rows: Vec::new() }, lent, random);
+    }
+    file.v2(&Stream { src: Vec::new(), width: 646, height: 436, rows: Vec::new() }, n, random);
+    file.v2(&Stream { src: vec![0; 16], width: 646, height: 436, rows: Vec::new() }, n, random);
+}
+
+/// Writes the file, and tells how many calls it has.
+pub fn write(path: &Path) -> io::Result<usize> {
+    let bytes = file();
+    fs::write(path, &bytes)?;
+    Ok(u32::from_le_bytes(bytes[..4].try_into().expect("four bytes")) as usize)
+}
+
+/// What keeps the file from the one that would be written.
+pub fn differences(path: &Path) -> io::Result<Vec<String>> {
+    let read = fs::read(path)?;
+    Ok(crate::call::first_difference(&read, &file()).into_iter().collect())
+}

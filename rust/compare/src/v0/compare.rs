@@ -1,0 +1,156 @@
+//! V0's entries against the Rust: samples over the whole buffer, marks against runs over two sets of old values, scratch
+//! against the directions read on their own.
+
+use super::frames::{self, Frame};
+use super::parse;
+use crate::call::{Answer, Decoder, Difference, Entry, Lent, first_difference};
+use crate::random::Random;
+use std::fmt;
+
+/// What was compared, and what the frames made use of.
+#[derive(Debug, Default)]
+pub struct Seen {
+    pub seed: u64,
+    pub frames: u64,
+    pub calls: u64,
+    pub samples: u64,
+    /// Blocks, those that are upward in rows 0 and 1, operations by number.
+    pub blocks: u64,
+    pub upward: u64,
+    pub operations: [u64; 4],
+    /// Lengths of 0 and below, and above 32.
+    pub none: u64,
+    pub long: u64,
+    /// Rows in which the stream ended, frames with spill, frames with old samples.
+    pub overruns: u64,
+    pub spill: u64,
+    pub old: u64,
+    pub marked: u64,
+}
+
+impl fmt::Display for Seen {
+    fn fmt(&self, f: &mut fmt::Formatter<'_>) -> fmt::Result {
+        let Seen { seed, frames, calls, samples, blocks, upward, operations, none, long, .. } = self;
+        let Seen { overruns, spill, old, marked, .. } = self;
+        writeln!(f, "V0, seed {seed}: {frames} frames, {samples} samples, {calls} calls, {blocks} blocks")?;
+        writeln!(f, "V0: {upward} upward blocks in rows 0 and 1, operations 0 to 3: {operations:?}")?;
+        writeln!(f, "V0: {none} lengths of 0 or below, {long} above 32, {overruns} rows past the stream's end")?;
+        writeln!(f, "V0: {spill} frames with spill, {old} with samples marked 1, {marked} samples marked 1")?;
+        write!(f, "V0: {frames} frames compared with the Rust, no difference")
+    }
+}
+
+/// What the Rust leaves of a frame over old values.
+pub fn rust(frame: &Frame, old: &[u16]) -> Vec<u16> {
+    let mut out = old.to_vec();
+    let Frame { src, offsets, width, height } = frame;
+    reference::decode_v0_reference(src, offsets, *width, *height, &mut out).expect("the frame is within the limits");
+    out
+}
+
+/// Each sample one higher, modulo 65,536.
+pub fn one_higher(old: &[u16]) -> Vec<u16> {
+    old.iter().map(|s| s.wrapping_add(1)).collect()
+}
+
+/// The marks, found by runs of the Rust alone: samples over old values and over old values that are one higher differ by 1
+/// where they rest on an old value, else not at all.
+pub fn marks(n: usize, over_old: &[u16], over_higher: &[u16]) -> Result<Vec<u8>, String> {
+    let rise = |(i, (a, b)): (usize, (&u16, &u16))| match b.wrapping_sub(*a) {
+        rise @ 0..=1 => Ok(rise as u8),
+        rise => Err(format!("sample {i} rises by {rise} where each old value rises by 1")),
+    };
+    over_old.iter().zip(over_higher).take(n).enumerate().map(rise).collect()
+}
+
+/// What a frame must come to, over two sets of old values.
+struct Expected {
+    old: [Vec<u16>; 2],
+    samples: [Vec<u16>; 2],
+    marks: Vec<u8>,
+    directions: Vec<u8>,
+}
+
+fn expected(frame: &Frame, old: Vec<u16>) -> Result<Expected, String> {
+    let old = [one_higher(&old), old];
+    let samples = [rust(frame, &old[0]), rust(frame, &old[1])];
+    let mut other = old[1].clone();
+    let Frame { src, offsets, width, height } = frame;
+    reference::decode_v0(src, offsets, *width, *height, &mut other).expect("the frame is within the limits");
+    if let Some(what) = first_difference(&other, &samples[1]) {
+        return Err(format!("the Rust's decode_v0 and decode_v0_reference: {what}"));
+    }
+    let marks = marks(width * height, &samples[1], &samples[0])?;
+    Ok(Expected { old, samples, marks, directions: parse::directions(frame) })
+}
+
+/// Compares one frame through every entry, over both sets of old values; old samples and what the other buffers hold at entry
+/// are random, and each buffer may be longer than the frame needs.
+pub fn frame(entries: &[Entry], frame: &Frame, random: &mut Random, seen: &mut Seen) -> Result<(), String> {
+    let n = frame.width * frame.height;
+    let more = [0; 3].map(|_| if random.below(2) == 0 { 0 } else { random.index(40) });
+    let expected = expected(frame, random.samples(n + more[0]))?;
+    for entry in entries {
+        for run in 0..2 {
+            let (mut samples, map) = (expected.old[run].clone(), random.bytes(n + more[1]));
+            let scratch = random.bytes(expected.directions.len() + more[2]);
+            let (mut new_map, mut new_scratch) = (map.clone(), scratch.clone());
+            let mut lent = Lent { samples: &mut samples, map: &mut new_map, scratch: &mut new_scratch };
+            let answer = entry.call(&frame.ask(), &mut lent);
+            seen.calls += 1;
+            if answer != Answer::DONE {
+                return Err(format!("{}: answer {answer}, expected done", entry.name));
+            }
+            let marks = if entry.map { &expected.marks[..] } else { &[] };
+            let two_phase = entry.decoder == Decoder::TwoPhase;
+            let directions = if two_phase { &expected.directions[..] } else { &[] };
+            let over = |old: &[u8], first: &[u8]| [first, &old[first.len()..]].concat();
+            let found = [
+                ("samples", first_difference(&samples, &expected.samples[run])),
+                ("map", first_difference(&new_map, &over(&map, marks))),
+                ("scratch", first_difference(&new_scratch, &over(&scratch, directions))),
+            ];
+            if let Some((buffer, Some(what))) = found.into_iter().find(|(_, what)| what.is_some()) {
+                return Err(format!("{}, {buffer} of {n} in the frame: {what}", entry.name));
+            }
+        }
+    }
+    note(frame, &expected, seen);
+    Ok(())
+}
+
+fn note(frame: &Frame, expected: &Expected, seen: &mut Seen) {
+    seen.frames += 1;
+    seen.samples += (frame.width * frame.height) as u64;
+    let marked = expected.marks.iter().map(|&mark| u64::from(mark)).sum::<u64>();
+    seen.marked += marked;
+    seen.old += u64::from(marked > 0);
+    seen.spill += u64::from(!frame.width.is_multiple_of(16) && frame.height > 1);
+    let overruns = parse::heads(frame, |head| {
+        seen.blocks += 1;
+        seen.upward += u64::from(head.row < 2 && head.direction == 1);
+        for operation in head.operations {
+            seen.operations[operation as usize] += 1;
+        }
+        for length in head.lengths {
+            seen.none += u64::from(length <= 0);
+            seen.long += u64::from(length > 32);
+        }
+    });
+    seen.overruns += overruns as u64;
+}
+
+/// Compares `frames` frames of every kind and size, up to the first difference.
+pub fn compare(entries: &[Entry], seed: u64, frames: u64) -> Result<Seen, Difference> {
+    let mut random = Random::new(seed);
+    let mut seen = Seen { seed, ..Seen::default() };
+    for i in 0..frames {
+        let (width, height) = frames::size(&mut random, i);
+        let one = frames::any(&mut random, width, height);
+        frame(entries, &one, &mut random, &mut seen).map_err(|what| {
+            let shown = if one.src.len() <= 200 && height <= 16 { format!("{one:02x?}") } else { String::new() };
+            Difference(format!("V0, seed {seed}, frame {i}, {width} by {height}: {what}\n{shown}"))
+        })?;
+    }
+    Ok(seen)
+}

@@ -1,0 +1,50 @@
+//! The heads of a V0 frame's blocks, read on their own: what scratch must hold, and what a frame makes use of.
+
+use super::frames::{Frame, order, skipped};
+use crate::stream::Reader;
+
+/// A block's head.
+pub struct Head {
+    pub row: usize,
+    pub col: usize,
+    pub direction: u32,
+    pub operations: [u32; 4],
+    pub lengths: [i64; 4],
+}
+
+/// Hands on each block's head in turn, and tells how many rows met the end of the stream.
+pub fn heads(frame: &Frame, mut each: impl FnMut(Head)) -> usize {
+    let Frame { width, height, .. } = *frame;
+    let mut overruns = 0;
+    for row in 0..height {
+        let mut reader = Reader::new(&frame.src, u64::from(frame.offsets[row]));
+        let mut lengths = [if row < 2 { 7i64 } else { 4 }; 4];
+        for col in (0..width).step_by(16) {
+            let direction = reader.get(1);
+            let operations = [0; 4].map(|_| reader.get(2));
+            for (length, operation) in lengths.iter_mut().zip(operations) {
+                *length = [*length, *length + 1, *length - 1][operation as usize % 3];
+                if operation == 3 {
+                    *length = i64::from(reader.get(4));
+                }
+            }
+            for (_, j) in order().filter(|&(c, _)| !skipped(width, height, row, col, c, direction)) {
+                reader.get(lengths[j].clamp(0, 32) as u32);
+            }
+            each(Head { row, col, direction, operations, lengths });
+        }
+        overruns += usize::from(reader.overrun());
+    }
+    overruns
+}
+
+/// One direction byte for each block of rows 2 on, row by row.
+pub fn directions(frame: &Frame) -> Vec<u8> {
+    let mut directions = Vec::new();
+    heads(frame, |head| {
+        if head.row >= 2 {
+            directions.push(head.direction as u8);
+        }
+    });
+    directions
+}

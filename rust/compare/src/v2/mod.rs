@@ -1,0 +1,8 @@
+//! V2: streams to decode, and the comparison of its entries with the Rust.
+
+pub mod compare;
+pub mod model;
+pub mod streams;
+
+pub use compare::compare;
+pub use streams::Stream;

@@ -1,0 +1,43 @@
+//! V0's comparison, a quick part of it; and decoders that are wrong, each of which it must find out.
+
+use compare::call::{Decoder, Entry, razvolk_of};
+use compare::v0::model::{Fault, entry};
+use compare::{refusals, v0};
+
+fn own(fault: Fault) -> Vec<Entry> {
+    let all =
+        [(Decoder::Direct, false), (Decoder::Direct, true), (Decoder::TwoPhase, false), (Decoder::TwoPhase, true)];
+    all.into_iter().map(|(decoder, map)| entry(fault, decoder, map)).collect()
+}
+
+#[test]
+fn razvolk_decodes_v0_as_the_rust_does() {
+    let entries = razvolk_of(false);
+    let seen = v0::compare(&entries, 0x5eed, 4_000).unwrap_or_else(|difference| panic!("{difference}"));
+    println!("{seen}");
+    assert_eq!(seen.calls, 4_000 * 2 * entries.len() as u64);
+    assert!(seen.upward > 1_000 && seen.operations.iter().all(|&n| n > 10_000), "{seen}");
+    assert!(seen.none > 5_000 && seen.long > 100 && seen.overruns > 1_000, "{seen}");
+    assert!(seen.spill > 1_000 && seen.old > 1_000, "{seen}");
+}
+
+#[test]
+fn razvolk_refuses_v0_by_the_rules() {
+    let entries = razvolk_of(false);
+    let seen = refusals::compare(&entries, 0x5eed, 4_000).unwrap_or_else(|difference| panic!("{difference}"));
+    println!("{seen:?}");
+    assert!(entries.is_empty() || [0, 1, 3].iter().all(|&i| seen.numbers[i] > 100), "{seen:?}");
+}
+
+#[test]
+fn a_decoder_of_its_own_without_a_fault_is_alike() {
+    v0::compare(&own(Fault::None), 7, 8_000).unwrap_or_else(|difference| panic!("{difference}"));
+    refusals::compare(&own(Fault::None), 7, 4_000).unwrap_or_else(|difference| panic!("{difference}"));
+}
+
+#[test]
+fn a_wrong_decoder_is_found_out() {
+    let found_out = |fault: &Fault| v0::compare(&own(*fault), 7, 4_000).is_err();
+    let missed: Vec<Fault> = Fault::ALL.iter().copied().filter(|fault| !found_out(fault)).collect();
+    assert!(missed.is_empty(), "not found out: {missed:?}");
+}

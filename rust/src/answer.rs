@@ -1,0 +1,80 @@
+//! What a decoder answers.
+
+use std::{error, fmt};
+
+/// The answer as it comes from the archive: number 0 is done.
+#[repr(C)]
+#[derive(Clone, Copy)]
+pub(crate) struct Answer {
+    number: u32,
+    row: u32,
+}
+
+impl Answer {
+    pub(crate) fn result(self) -> Result<(), Refusal> {
+        let Answer { number, row } = self;
+        if number == 0 { Ok(()) } else { Err(Refusal { number, row }) }
+    }
+}
+
+/// Why a frame was refused.
+///
+/// 1 to 4 are tested in this order and leave every buffer as it was. 5 to 8 are V2's alone: what was decoded before the
+/// refusal stands in the samples, and the map describes them as they are left.
+#[derive(Clone, Copy, Debug, PartialEq, Eq, Hash)]
+pub struct Refusal {
+    /// 1 to 8:
+    ///
+    /// 1. width or height is above 16,384;
+    /// 2. V2: width is below 646 or height below 436;
+    /// 3. fewer samples are lent than width times height, or in V0 fewer offsets than rows;
+    /// 4. the map is shorter than width times height bytes, or the scratch shorter than [`crate::scratch_len`] says;
+    /// 5. V2: a block of row 0 or 1 predicts from the rows above; that block is not written, those before it are;
+    /// 6. V2: a block predicts from outside the frame; that block is not written, those before it are;
+    /// 7. V2: a difference is longer than the depth allows; that block is not written, those before it are;
+    /// 8. V2: the stream ended; the row in which it did is written, with ones in place of the missing bits.
+    pub number: u32,
+    /// The row at fault of refusals 5 to 8, else 0.
+    pub row: u32,
+}
+
+impl fmt::Display for Refusal {
+    fn fmt(&self, f: &mut fmt::Formatter<'_>) -> fmt::Result {
+        let Refusal { number, row } = self;
+        match number {
+            1 => write!(f, "width or height is above 16,384"),
+            2 => write!(f, "the frame is smaller than 646 by 436"),
+            3 => write!(f, "the sample buffer or the offset table is too short"),
+            4 => write!(f, "the map or the scratch is too short"),
+            5 => write!(f, "row {row} predicts from rows that do not exist"),
+            6 => write!(f, "row {row} predicts from outside the frame"),
+            7 => write!(f, "row {row} has a difference longer than the depth allows"),
+            8 => write!(f, "the stream ends in row {row}"),
+            _ => write!(f, "refusal {number} in row {row}"),
+        }
+    }
+}
+
+impl error::Error for Refusal {}
+
+#[cfg(test)]
+mod tests {
+    use super::*;
+
+    #[test]
+    fn each_refusal_has_a_message_of_its_own() {
+        let texts: Vec<String> = (1..=9).map(|number| Refusal { number, row: 7 }.to_string()).collect();
+        for (i, text) in texts.iter().enumerate() {
+            assert_eq!(text.contains("row 7"), i >= 4, "{text}");
+            assert!(!texts[..i].contains(text), "{text}");
+        }
+        let error: Box<dyn error::Error> = Box::new(Refusal { number: 8, row: 435 });
+        assert_eq!(error.to_string(), "the stream ends in row 435");
+    }
+
+    #[test]
+    fn number_0_is_done() {
+        assert_eq!(Answer { number: 0, row: 0 }.result(), Ok(()));
+        assert_eq!(Answer { number: 5, row: 1 }.result(), Err(Refusal { number: 5, row: 1 }));
+    }
+}

@@ -1,0 +1,284 @@
+//! V0, in which each row has its own place in the stream: the direct decoder and the one in two phases.
+
+use crate::answer::{Answer, Refusal};
+
+unsafe extern "C" {
+    fn razvolk_decode_v0_reference(
+        src: *const u8,
+        src_len: usize,
+        offsets: *const u32,
+        offsets_len: usize,
+        width: usize,
+        height: usize,
+        samples: *mut u16,
+        samples_len: usize,
+    ) -> Answer;
+    fn razvolk_decode_v0_reference_map(
+        src: *const u8,
+        src_len: usize,
+        offsets: *const u32,
+        offsets_len: usize,
+        width: usize,
+        height: usize,
+        samples: *mut u16,
+        samples_len: usize,
+        map: *mut u8,
+        map_len: usize,
+    ) -> Answer;
+    fn razvolk_decode_v0(
+        src: *const u8,
+        src_len: usize,
+        offsets: *const u32,
+        offsets_len: usize,
+        width: usize,
+        height: usize,
+        samples: *mut u16,
+        samples_len: usize,
+        scratch: *mut u8,
+        scratch_len: usize,
+    ) -> Answer;
+    fn razvolk_decode_v0_map(
+        src: *const u8,
+        src_len: usize,
+        offsets: *const u32,
+        offsets_len: usize,
+        width: usize,
+        height: usize,
+        samples: *mut u16,
+        samples_len: usize,
+        map: *mut u8,
+        map_len: usize,
+        scratch: *mut u8,
+        scratch_len: usize,
+    ) -> Answer;
+}
+
+// In each call below every pointer and length is that of a slice that is borrowed for the call, mutably where the callee
+// writes. The callee is proved to return on every input and to touch nothing but these slices, inside their lengths.
+
+/// Decodes a V0 frame directly. Row r is read from byte `row_offsets[r]` of `src` on; wherever that lies, the frame is done
+/// unless it is refused by 1 or 3, and bits that are missing read as ones.
+///
+/// The first `width * height` samples of `out` are the frame's afterwards. A sample that the stream skips keeps what `out`
+/// held, and later samples build on it: [`decode_v0_reference_map`] tells which.
+///
+/// # Errors
+///
+/// Refusals 1 and 3, in this order; `out` is unchanged then.
+pub fn decode_v0_reference(
+    src: &[u8],
+    row_offsets: &[u32],
+    width: usize,
+    height: usize,
+    out: &mut [u16],
+) -> Result<(), Refusal> {
+    // SAFETY: see above.
+    let answer = unsafe {
+        razvolk_decode_v0_reference(
+            src.as_ptr(),
+            src.len(),
+            row_offsets.as_ptr(),
+            row_offsets.len(),
+            width,
+            height,
+            out.as_mut_ptr(),
+            out.len(),
+        )
+    };
+    answer.result()
+}
+
+/// Decodes as [`decode_v0_reference`] does, and tells in the first `width * height` bytes of `map` what each sample rests
+/// on: 1, on what `out` held before; 0, on the stream alone. What `map` holds before does not matter.
+///
+/// # Errors
+///
+/// Refusals 1, 3 and 4, in this order; `out` and `map` are unchanged then.
+pub fn decode_v0_reference_map(
+    src: &[u8],
+    row_offsets: &[u32],
+    width: usize,
+    height: usize,
+    out: &mut [u16],
+    map: &mut [u8],
+) -> Result<(), Refusal> {
+    // SAFETY: see above.
+    let answer = unsafe {
+        razvolk_decode_v0_reference_map(
+            src.as_ptr(),
+            src.len(),
+            row_offsets.as_ptr(),
+            row_offsets.len(),
+            width,
+            height,
+            out.as_mut_ptr(),
+            out.len(),
+            map.as_mut_ptr(),
+            map.len(),
+        )
+    };
+    answer.result()
+}
+
+/// Decodes in two phases, first residuals, then predictions: the same samples as [`decode_v0_reference`]'s. `scratch` needs
+/// [`scratch_len`] bytes, which then hold the directions of the blocks of rows 2 on, 0 or 1 each; what it holds before does
+/// not matter.
+///
+/// # Errors
+///
+/// Refusals 1, 3 and 4, in this order; `out` and `scratch` are unchanged then.
+pub fn decode_v0(
+    src: &[u8],
+    row_offsets: &[u32],
+    width: usize,
+    height: usize,
+    out: &mut [u16],
+    scratch: &mut [u8],
+) -> Result<(), Refusal> {
+    // SAFETY: see above.
+    let answer = unsafe {
+        razvolk_decode_v0(
+            src.as_ptr(),
+            src.len(),
+            row_offsets.as_ptr(),
+            row_offsets.len(),
+            width,
+            height,
+            out.as_mut_ptr(),
+            out.len(),
+            scratch.as_mut_ptr(),
+            scratch.len(),
+        )
+    };
+    answer.result()
+}
+
+/// Decodes as [`decode_v0`] does, with a map as of [`decode_v0_reference_map`].
+///
+/// # Errors
+///
+/// Refusals 1, 3 and 4, in this order; `out`, `map` and `scratch` are unchanged then.
+pub fn decode_v0_map(
+    src: &[u8],
+    row_offsets: &[u32],
+    width: usize,
+    height: usize,
+    out: &mut [u16],
+    map: &mut [u8],
+    scratch: &mut [u8],
+) -> Result<(), Refusal> {
+    // SAFETY: see above.
+    let answer = unsafe {
+        razvolk_decode_v0_map(
+            src.as_ptr(),
+            src.len(),
+            row_offsets.as_ptr(),
+            row_offsets.len(),
+            width,
+            height,
+            out.as_mut_ptr(),
+            out.len(),
+            map.as_mut_ptr(),
+            map.len(),
+            scratch.as_mut_ptr(),
+            scratch.len(),
+        )
+    };
+    answer.result()
+}
+
+/// How many bytes of scratch [`decode_v0`] needs: one for each block of 16 columns of rows 2 on. (`usize::MAX` where that is
+/// no `usize`; such a size is refused in any case.)
+pub const fn scratch_len(width: usize, height: usize) -> usize {
+    width.div_ceil(16).saturating_mul(height.saturating_sub(2))
+}
+
+#[cfg(test)]
+mod tests {
+    use super::*;
+    use crate::landed;
+
+    /// The document's frame whose first row is skipped, and the one with spill: stream and offsets.
+    const SKIPPED: ([u8; 12], [u32; 2]) = ([0, 0, 0, 0x80, 0x18, 0x20, 0xa0, 0x7f, 0, 0, 0x70, 0], [0, 4]);
+    const SPILL: ([u8; 16], [u32; 2]) =
+        ([0x18, 0x20, 0xa0, 0x7f, 0, 0, 0x70, 0, 0x08, 0, 0xa0, 0xff, 0, 0, 0, 0], [0, 8]);
+
+    /// The number of the refusal, and what is left of 7, 8, 9, 10 and of map bytes 9; scratch is left as 9.
+    fn decoded(entry: Entry, src: &[u8], offsets: &[u32], size: (usize, usize)) -> (u32, [u16; 4], [u8; 4]) {
+        let (mut out, mut map, mut scratch) = ([7, 8, 9, 10], [9; 4], [9; 4]);
+        let answer = entry(src, offsets, size.0, size.1, &mut out, &mut map, &mut scratch);
+        if size.1 < 3 {
+            assert_eq!(scratch, [9; 4], "no row has directions");
+        }
+        (answer.err().map_or(0, |refusal| refusal.number), out, map)
+    }
+
+    type Entry = fn(&[u8], &[u32], usize, usize, &mut [u16], &mut [u8], &mut [u8]) -> Result<(), Refusal>;
+
+    /// The entries that the archive has, those without a map first.
+    fn entries() -> (Vec<Entry>, Vec<Entry>) {
+        let (mut plain, mut marked): (Vec<Entry>, Vec<Entry>) = (Vec::new(), Vec::new());
+        if landed::V0_REFERENCE {
+            plain.push(|s, o, w, h, out, _, _| decode_v0_reference(s, o, w, h, out));
+            marked.push(|s, o, w, h, out, map, _| decode_v0_reference_map(s, o, w, h, out, map));
+        }
+        if landed::V0 {
+            plain.push(|s, o, w, h, out, _, scratch| decode_v0(s, o, w, h, out, scratch));
+            marked.push(decode_v0_map);
+        }
+        (plain, marked)
+    }
+
+    #[test]
+    fn frames_of_the_document() {
+        let (plain, marked) = entries();
+        for entry in plain {
+            assert_eq!(decoded(entry, &SKIPPED.0, &SKIPPED.1, (2, 2)), (0, [7, 131, 8, 126], [9; 4]));
+            assert_eq!(decoded(entry, &SPILL.0, &SPILL.1, (2, 2)), (0, [131, 132, 126, 128], [9; 4]));
+            assert_eq!(decoded(entry, &[], &[0], (1, 1)), (0, [7, 8, 9, 10], [9; 4]));
+        }
+        for entry in marked {
+            assert_eq!(decoded(entry, &SKIPPED.0, &SKIPPED.1, (2, 2)), (0, [7, 131, 8, 126], [1, 0, 1, 0]));
+            assert_eq!(decoded(entry, &SPILL.0, &SPILL.1, (2, 2)), (0, [131, 132, 126, 128], [0; 4]));
+            assert_eq!(decoded(entry, &[], &[0], (1, 1)), (0, [7, 8, 9, 10], [1, 9, 9, 9]));
+        }
+    }
+
+    #[test]
+    fn sizes_of_the_document() {
+        let (plain, marked) = entries();
+        for entry in plain.into_iter().chain(marked) {
+            assert_eq!(decoded(entry, &[], &[], (16_385, 0)), (1, [7, 8, 9, 10], [9; 4]));
+            assert_eq!(decoded(entry, &[], &[0; 16_384], (0, 16_384)), (0, [7, 8, 9, 10], [9; 4]));
+            assert_eq!(decoded(entry, &[], &[0; 16_383], (0, 16_384)), (3, [7, 8, 9, 10], [9; 4]));
+            assert_eq!(decoded(entry, &[], &[0; 9], (usize::MAX, usize::MAX)), (1, [7, 8, 9, 10], [9; 4]));
+            assert_eq!(decoded(entry, &[], &[0; 9], (5, 1)), (3, [7, 8, 9, 10], [9; 4]));
+        }
+    }
+
+    #[test]
+    fn a_short_map_or_scratch_is_refused() {
+        let mut out = [7; 4];
+        if landed::V0_REFERENCE {
+            let refused = decode_v0_reference_map(&[], &[0; 4], 1, 4, &mut out, &mut [9; 3]);
+            assert_eq!(refused, Err(Refusal { number: 4, row: 0 }));
+        }
+        if landed::V0 {
+            let short = decode_v0(&[], &[0; 4], 1, 4, &mut out, &mut [9; 1]);
+            assert_eq!(short, Err(Refusal { number: 4, row: 0 }));
+            let short = decode_v0_map(&[], &[0; 4], 1, 4, &mut out, &mut [9; 3], &mut [9; 2]);
+            assert_eq!(short, Err(Refusal { number: 4, row: 0 }));
+            let short = decode_v0_map(&[], &[0; 4], 1, 4, &mut out, &mut [9; 4], &mut [9; 1]);
+            assert_eq!(short, Err(Refusal { number: 4, row: 0 }));
+        }
+        assert_eq!(out, [7; 4]);
+    }
+
+    #[test]
+    fn scratch_is_a_byte_for_each_block_of_rows_2_on() {
+        assert_eq!(scratch_len(5_000, 3_500), 313 * 3_498);
+        assert_eq!([scratch_len(16, 3), scratch_len(17, 3), scratch_len(17, 5)], [1, 2, 6]);
+        assert_eq!([scratch_len(0, 9), scratch_len(9, 0), scratch_len(9, 2)], [0; 3]);
+        assert_eq!(scratch_len(usize::MAX, usize::MAX), usize::MAX);
+    }
+}

@@ -1,0 +1,110 @@
+//! V2, one stream of rows that predict from the rows above.
+
+use crate::answer::{Answer, Refusal};
+
+unsafe extern "C" {
+    fn razvolk_decode_v2(
+        src: *const u8,
+        src_len: usize,
+        width: usize,
+        height: usize,
+        samples: *mut u16,
+        samples_len: usize,
+    ) -> Answer;
+    fn razvolk_decode_v2_map(
+        src: *const u8,
+        src_len: usize,
+        width: usize,
+        height: usize,
+        samples: *mut u16,
+        samples_len: usize,
+        map: *mut u8,
+        map_len: usize,
+    ) -> Answer;
+}
+
+// In each call below every pointer and length is that of a slice that is borrowed for the call, mutably where the callee
+// writes. The callee is proved to return on every input and to touch nothing but these slices, inside their lengths.
+
+/// Decodes a V2 frame. The last `width % 16` samples of each row are not written, and may be built on by later rows: they
+/// keep what `out` held, and [`decode_v2_map`] tells what rests on it.
+///
+/// # Errors
+///
+/// Refusals 1 to 3, in this order; `out` is unchanged then. Refusals 5 to 8, the first that the stream meets; the blocks
+/// before it are written then.
+pub fn decode_v2(src: &[u8], width: usize, height: usize, out: &mut [u16]) -> Result<(), Refusal> {
+    // SAFETY: see above.
+    let answer = unsafe { razvolk_decode_v2(src.as_ptr(), src.len(), width, height, out.as_mut_ptr(), out.len()) };
+    answer.result()
+}
+
+/// Decodes as [`decode_v2`] does, and tells in the first `width * height` bytes of `map` what each sample rests on: 1, on
+/// what `out` held before; 0, on the stream alone. What `map` holds before does not matter. After refusals 5 to 8 it tells
+/// so of `out` as it is left.
+///
+/// # Errors
+///
+/// Refusals 1 to 4, in this order; `out` and `map` are unchanged then. Refusals 5 to 8 as of [`decode_v2`].
+pub fn decode_v2_map(src: &[u8], width: usize, height: usize, out: &mut [u16], map: &mut [u8]) -> Result<(), Refusal> {
+    // SAFETY: see above.
+    let answer = unsafe {
+        razvolk_decode_v2_map(
+            src.as_ptr(),
+            src.len(),
+            width,
+            height,
+            out.as_mut_ptr(),
+            out.len(),
+            map.as_mut_ptr(),
+            map.len(),
+        )
+    };
+    answer.result()
+}
+
+#[cfg(test)]
+mod tests {
+    use super::*;
+    use crate::landed;
+
+    /// The refusal of both entries, and the samples and marks that they leave of samples 7 and map bytes 9.
+    fn decoded(src: &[u8], width: usize, height: usize) -> (Refusal, Vec<u16>, Vec<u8>) {
+        let n = 646 * 436;
+        let (mut out, mut with_map, mut map) = (vec![7; n], vec![7; n], vec![9; n]);
+        let refusal = decode_v2(src, width, height, &mut out).expect_err("the frame is refused");
+        assert_eq!(decode_v2_map(src, width, height, &mut with_map, &mut map), Err(refusal));
+        assert!(out == with_map);
+        (refusal, out, map)
+    }
+
+    #[test]
+    fn frames_of_the_document() {
+        if !landed::V2 {
+            return;
+        }
+        let (refusal, out, map) = decoded(&[], 646, 436);
+        assert_eq!(refusal, Refusal { number: 5, row: 0 });
+        assert!(out.iter().all(|&s| s == 7) && map.iter().all(|&m| m == 1));
+        let (refusal, out, map) = decoded(&[0; 16], 646, 436);
+        assert_eq!(refusal, Refusal { number: 8, row: 0 });
+        assert!(out[..640].iter().all(|&s| s == 1) && out[640..].iter().all(|&s| s == 7));
+        assert!(map[..640].iter().all(|&m| m == 0) && map[640..].iter().all(|&m| m == 1));
+    }
+
+    #[test]
+    fn sizes_of_the_document() {
+        if !landed::V2 {
+            return;
+        }
+        for (width, height, number) in [(645, 436, 2), (646, 435, 2), (16_385, 0, 1), (0, 16_385, 1), (647, 436, 3)] {
+            let (refusal, out, map) = decoded(&[0; 16], width, height);
+            assert_eq!(refusal, Refusal { number, row: 0 }, "{width} by {height}");
+            assert!(out.iter().all(|&s| s == 7) && map.iter().all(|&m| m == 9));
+        }
+        let mut out = vec![7; 646 * 436];
+        let refused = decode_v2_map(&[0; 16], 646, 436, &mut out, &mut vec![9; 646 * 436 - 1]);
+        assert_eq!(refused, Err(Refusal { number: 4, row: 0 }));
+        assert!(out.iter().all(|&s| s == 7));
+    }
+}
