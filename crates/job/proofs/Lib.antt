@@ -1,0 +1,4 @@
+-- What follows from the job's definitions.
+pub mod WrittenLaws
+pub mod DecimalLaws
+pub mod TextLaws

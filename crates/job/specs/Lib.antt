@@ -1,0 +1,2 @@
+-- What a job's functions append to its text.
+pub mod Written
