@@ -2,3 +2,5 @@
 pub mod WrittenLaws
 pub mod DecimalLaws
 pub mod TextLaws
+pub mod OffsetsLaws
+pub mod FieldsLaws

@@ -1,18 +1,18 @@
 -- The parts of a job's lines, and its samples and rows one by one.
-use Prim.Native.Nat.{ℕ, zero, suc, _+_, _-_, _*_, _≤_, _<_}
-use mathlib.Core.Path.{_≡_, refl, sym, ap, _∙_}
+use Prim.Native.Nat.{ℕ, suc, _+_, _-_, _*_, _≤_, _<_}
+use mathlib.Core.Path.{_≡_}
 use mathlib.Core.Bool.{cond}
 use mathlib.Core.List.{List, [], _∷_, _++_, append-assoc, append-nil}
 use native.Mathlib.Omega.{arith}
 use native.Mathlib.Numerals.{add-one}
 use native.Mathlib.Nat.{mul-le-mul-right, mul-comm}
 use lib.ListN.{length, take, drop, getD, drop-of-length-le}
-use lib.Seq.{drop-cons, drop-drop, drop-length}
+use lib.Seq.{drop-cons, drop-drop}
 use lib.Dec.{eqb}
 use borrow.Author.Tests.{eq-eqb, ne-eqb}
 use Rattle.rules.specs.Job.{digits, line, samples-text, rows-text}
-use Rattle.job.specs.Written.{Appends, Left, sample-text, row-text}
-use Rattle.job.proofs.WrittenLaws.{left-start, left-as, left-step}
+use Rattle.job.specs.Written.{Left, sample-text, row-text}
+use Rattle.job.proofs.WrittenLaws.{left-start, left-as}
 
 -- ── A sample ──
 

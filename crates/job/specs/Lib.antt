@@ -1,2 +1,3 @@
--- What a job's functions append to its text.
+-- What the contracts of the job's functions cite.
+pub mod Fields
 pub mod Written
