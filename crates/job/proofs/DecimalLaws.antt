@@ -8,12 +8,12 @@ use Rattle.rules.specs.Job.{digits}
 use Rattle.job.specs.Written.{Appends, Left}
 use Rattle.job.proofs.WrittenLaws.{appends-none, left-start, left-as}
 
-digits-one : (k v : ℕ) → 0 < k → v < 10 → digits k v ≡ (48 + v) ∷ []
+pub digits-one : (k v : ℕ) → 0 < k → v < 10 → digits k v ≡ (48 + v) ∷ []
 unfolding digits
 digits-one zero v h l = let z : _≡_ {A = ℕ} 0 1 = omega arith in cc
 digits-one (suc k) v h l = rw (lt-ltb v 10 l)
 
-digits-more : (k v : ℕ) → 0 < k → 10 ≤ v → digits k v ≡ digits (k - 1) (v / 10) ++ ((48 + v % 10) ∷ [])
+pub digits-more : (k v : ℕ) → 0 < k → 10 ≤ v → digits k v ≡ digits (k - 1) (v / 10) ++ ((48 + v % 10) ∷ [])
 unfolding digits
 digits-more zero v h l = let z : _≡_ {A = ℕ} 0 1 = omega arith in cc
 digits-more (suc k) v h l = let e : suc k - 1 ≡ k = omega arith in rw (le-ltb v 10 l, e)

@@ -4,3 +4,6 @@ pub mod DecimalLaws
 pub mod TextLaws
 pub mod OffsetsLaws
 pub mod FieldsLaws
+pub mod SizeLaws
+pub mod JobLaws
+pub mod AnswerLaws

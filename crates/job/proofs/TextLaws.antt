@@ -1,6 +1,6 @@
 -- The parts of a job's lines, and its samples and rows one by one.
 use Prim.Native.Nat.{ℕ, suc, _+_, _-_, _*_, _≤_, _<_}
-use mathlib.Core.Path.{_≡_}
+use mathlib.Core.Path.{_≡_, refl}
 use mathlib.Core.Bool.{cond}
 use mathlib.Core.List.{List, [], _∷_, _++_, append-assoc, append-nil}
 use native.Mathlib.Omega.{arith}
@@ -39,6 +39,11 @@ row-parts t n row vs ms = left-as (append-assoc (digits 5 row) (58 ∷ samples-t
 pub numbered-parts : (t word : List ℕ) (number : ℕ)
     → Left t 0 (word ++ (digits 5 number ++ (10 ∷ []))) t 0 (line (word ++ digits 5 number))
 numbered-parts t word number = left-as (append-assoc word (digits 5 number) (10 ∷ [])) (left-start t 0 (line (word ++ digits 5 number)))
+
+pub rows-next : (w n row : ℕ) (vs ms : List ℕ)
+    → rows-text w (suc n) row vs ms ≡ row-text row (take w vs) (take w ms) ++ rows-text w n (suc row) (drop w vs) (drop w ms)
+unfolding rows-text row-text
+rows-next w n row vs ms = refl
 
 -- ── What is left of a list ──
 

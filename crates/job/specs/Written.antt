@@ -3,7 +3,7 @@ use Prim.Native.Nat.{ℕ, _+_, _≤_}
 use mathlib.Core.Path.{_≡_}
 use mathlib.Core.Bool.{cond}
 use mathlib.Core.List.{List, [], _∷_, _++_}
-use lib.ListN.{length}
+use lib.ListN.{length, drop}
 use lib.Seq.{sets}
 use lib.Dec.{eqb}
 use Rattle.rules.specs.Job.{line, decimal, samples-text}
@@ -34,3 +34,9 @@ pub record Left (t : List ℕ) (at : ℕ) (rest t₀ : List ℕ) (n : ℕ) (whol
   pub text : written t at rest ≡ written t₀ n whole
   pub count : at + length rest ≡ n + length whole
   pub same : length t ≡ length t₀
+
+-- A whole text xs in an array that held t: it stands at the start, r counts its bytes, and the bytes after it are as they were.
+pub record Holds (t xs t′ : List ℕ) (r : ℕ) : Type 0 where
+  pub text : t′ ≡ xs ++ drop r t
+  pub count : r ≡ length xs
+  pub room : r ≤ length t′
