@@ -1,12 +1,12 @@
 -- What a job's text is after each of document 01's tests, and after the decoder's answer.
 use Prim.Native.Nat.{ℕ, _+_, _*_, _≤_, _<_}
-use mathlib.Core.Path.{_≡_, _∙_}
+use mathlib.Core.Path.{_≡_, refl, sym, ap, _∙_}
 use mathlib.Core.Bool.{true, false}
-use mathlib.Core.List.{List}
+use mathlib.Core.List.{List, _++_}
 use native.Mathlib.Omega.{arith}
-use native.Mathlib.Nat.{mul-le-mul}
-use lib.ListN.{length}
-use lib.Seq.{sets-eq}
+use native.Mathlib.Nat.{mul-le-mul, zero-add}
+use lib.ListN.{length, drop}
+use lib.Seq.{sets-eq, take-at, drop-at}
 use borrow.Author.Tests.{lt-ltb, le-ltb}
 use Rattle.rules.specs.Job.{most-input, most-samples, half-word-at, marked, stream-start, job-size, fault, answer-text, text}
 use Rattle.rules.specs.Frame.{cells}
@@ -55,8 +55,12 @@ half-words w h l m = let a : w ≤ 65_535 = omega arith in let b : h ≤ 65_535 
 pub holds : {t xs t′ : List ℕ} {r : ℕ} (ys : List ℕ) → ys ≡ xs → Room t 0 xs → Appends t 0 xs t′ r → Holds t ys t′ r
 unfolding written
 holds {t} {xs} {t′} {r} ys e room a =
+    let is : t′ ≡ xs ++ drop (0 + length xs) t = a .text ∙ sets-eq xs t 0 (room .fits) in
+    let n : r ≡ length xs = omega (arith, a .count) in
     record {
-      text = rw (e, a .count) (a .text ∙ sets-eq xs t 0 (room .fits));
-      count = rw e (omega (arith, a .count));
-      room = omega (arith, a .count, room .fits, same-length a);
+      text = rw (is, n, e) (take-at xs _ (length xs) refl);
+      rest = rw (is, n) (drop-at xs _ (length xs) refl ∙ rw zero-add);
+      count = rw e n;
+      room = omega (arith, room .fits, same-length a);
+      taken = rw (is, n) (sym (ap length (take-at xs _ (length xs) refl)));
     }

@@ -3,7 +3,7 @@ use Prim.Native.Nat.{ℕ, _+_, _≤_}
 use mathlib.Core.Path.{_≡_}
 use mathlib.Core.Bool.{cond}
 use mathlib.Core.List.{List, [], _∷_, _++_}
-use lib.ListN.{length, drop}
+use lib.ListN.{length, take, drop}
 use lib.Seq.{sets}
 use lib.Dec.{eqb}
 use Rattle.rules.specs.Job.{line, decimal, samples-text}
@@ -35,8 +35,11 @@ pub record Left (t : List ℕ) (at : ℕ) (rest t₀ : List ℕ) (n : ℕ) (whol
   pub count : at + length rest ≡ n + length whole
   pub same : length t ≡ length t₀
 
--- A whole text xs in an array that held t: it stands at the start, r counts its bytes, and the bytes after it are as they were.
+-- An array that held t holds the whole text xs in its first r bytes, and the bytes after them are as they were.
+-- The last two fields follow from the others: with them a caller's `&text[..r]` needs no proof.
 pub record Holds (t xs t′ : List ℕ) (r : ℕ) : Type 0 where
-  pub text : t′ ≡ xs ++ drop r t
+  pub text : take r t′ ≡ xs
+  pub rest : drop r t′ ≡ drop r t
   pub count : r ≡ length xs
   pub room : r ≤ length t′
+  pub taken : r ≡ length (take r t′)

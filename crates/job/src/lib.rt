@@ -3,10 +3,11 @@
 mod input;
 mod lines;
 
+ghost use mathlib.Core.Path.{_≡_};
 ghost use mathlib.Core.List.{List};
 ghost use Prim.Native.Nat.{ℕ, _<_};
 ghost use lib.ListN.{length};
-ghost use Rattle.rules.specs.Job.{most-input};
+ghost use Rattle.rules.specs.Job.{most-input, fault};
 ghost use Rattle.rules.specs.Job.{text as job-text};
 ghost use Rattle.job.specs.Written.{Holds};
 use lines::put_fault;
@@ -14,9 +15,13 @@ use lines::put_fault;
 // The longest text: of 8,189 rows of one sample, each with five digits and an asterisk.
 pub const TEXT: usize = 105_352;
 
-// The job of an input longer than its buffer: its text is the same whatever the input holds, which need not be lent.
+// The fault of an input longer than 32,768 bytes.
+const LONGER: usize = 3;
+
+// The job of an input longer than 32,768 bytes, which need not be lent: every such input has the same text.
 pub fn run_longer(text: &mut [u8; TEXT]) -> usize
-    ensures { λ r. ⌜ ((s : List ℕ) → most-input < length s → Holds (now (text .entry)) (job-text s) (now (text .exit)) r) ⌝ }
+    ensures { λ r. ⌜ Holds (now (text .entry)) (fault 3) (now (text .exit)) r ⌝ }
+    ensures { λ r. ⌜ ((s : List ℕ) → most-input < length s → job-text s ≡ fault 3) ⌝ }
 {
-    put_fault(text, 3)
+    put_fault(text, LONGER)
 }

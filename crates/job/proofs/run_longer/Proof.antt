@@ -1,4 +1,5 @@
 -- The first test alone decides the text of a longer input.
+use mathlib.Core.Path.{refl}
 use native.Mathlib.Omega.{arith}
 use Rattle.job.proofs.SizeLaws.{fault-room}
 use Rattle.job.proofs.JobLaws.{text-longer, holds}
@@ -9,7 +10,7 @@ put-fault-requires : tie.Need-put-fault-requires
 put-fault-requires c κs = fault-room _ _ (omega arith)
 
 returns : tie.Need-returns
-returns c = λ s l. holds _ (text-longer s l) (fault-room _ _ (omega arith)) (c .put-fault .ensures)
+returns c = (holds _ refl (fault-room _ _ (omega arith)) (c .put-fault .ensures), λ s l. text-longer s l)
 
 pub run-longer-spec : {M : Type 1} → statement M
 run-longer-spec = tie.close (tie.spec put-fault-requires returns)
