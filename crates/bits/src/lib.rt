@@ -58,7 +58,11 @@ fn field(x: u64, left: u32, k: u32) -> u32
 fn capped(n: u32) -> u32
     ensures { λ r. ⌜ r ≡ min n 32 ⌝ }
 {
-    if n < 32 { n } else { 32 }
+    if n < Bits::WORD_BITS {
+        n
+    } else {
+        Bits::WORD_BITS
+    }
 }
 
 fn either(a: bool, b: bool) -> bool
@@ -71,7 +75,11 @@ fn either(a: bool, b: bool) -> bool
 fn held_bits(bits: Bits) -> u32
     ensures { λ r. ⌜ r ≡ held bits ⌝ }
 {
-    if bits.count < 32 { bits.count } else { 0 }
+    if bits.count < Bits::WORD_BITS {
+        bits.count
+    } else {
+        0
+    }
 }
 
 // A state with enough bits for a read, and its bits: the low `bits.count` of `words`.
@@ -101,9 +109,9 @@ fn refill(src: &[u8], bits: Bits, k: u32) -> Refilled
     Refilled {
         words: bits.word as u64 * 4_294_967_296 + next.value as u64,
         bits: Bits {
-            pos: std::num::wrapping_add_u64(bits.pos, 4),
+            pos: std::num::wrapping_add_u64(bits.pos, Bits::WORD_BYTES),
             word: next.value,
-            count: have + 32,
+            count: have + Bits::WORD_BITS,
             overrun: either(bits.overrun, next.missing),
         },
     }
@@ -123,7 +131,7 @@ pub fn get(src: &[u8], bits: Bits, n: u32) -> Got
         bits: Bits {
             pos: full.pos,
             word: full.word,
-            count: left % 32,
+            count: left % Bits::WORD_BITS,
             overrun: full.overrun,
         },
     }
@@ -133,11 +141,12 @@ pub fn get(src: &[u8], bits: Bits, n: u32) -> Got
 pub fn reset_at(bits: Bits, pos: u64) -> Bits
     ensures { λ r. ⌜ r ≡ reset-at bits pos ⌝ }
 {
+    let overrun = bits.overrun;
     Bits {
         pos,
         word: 0,
         count: 0,
-        overrun: bits.overrun,
+        overrun,
     }
 }
 

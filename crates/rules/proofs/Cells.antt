@@ -1,8 +1,7 @@
 -- Lists of cells: what holds of every cell, and two lists that are related cell by cell.
 use Prim.Native.Nat.{ℕ, zero, suc}
-use mathlib.Core.Path.{_≡_, refl, ap}
 use mathlib.Core.List.{List, [], _∷_, _++_}
-use lib.ListN.{length, getD, set, take, drop}
+use lib.ListN.{getD, set, take, drop}
 
 -- P holds of every cell.
 pub data All {A : Type 0} (P : A → Type 0) : List A → Type 0 where

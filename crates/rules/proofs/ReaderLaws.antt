@@ -3,7 +3,7 @@ use mathlib.Core.Path.{_≡_, refl, sym, ap, _∙_}
 use mathlib.Core.Bool.{Bool, true, false, cond, _||_}
 use mathlib.Core.List.{List, [], _∷_}
 use Prim.Native.Nat.{ℕ, zero, suc, _+_, _*_, _-_, _/_, _%_, _^_, _≤_, _<_, min}
-use native.Mathlib.Nat.{one-mul, zero-mul, mul-assoc, mul-add-mod-self-right, div-eq-of-lt, div-eq-of-lt-le, mod-lt}
+use native.Mathlib.Nat.{one-mul, zero-mul, mul-assoc, mul-add-mod-self-right, div-eq-of-lt, div-eq-of-lt-le, mod-le, mod-lt}
 use native.Mathlib.Omega.{arith}
 use lib.Dec.{T, ltb, leb, ltb→lt}
 use lib.IntN.{ℤ, pos, negsuc, _-ℤ_}
@@ -92,6 +92,10 @@ read-either P s b n f g = go (leb (min n 32) (held b)) refl
 pub read-count : (s : List ℕ) (b : Bits) (n : ℕ) → read s b n .bits .count < 32
 read-count s b n =
     read-either (λ g. g .bits .count < 32) s b n (λ h. omega (arith, held-small b)) (λ h. omega arith)
+
+-- A read moves the position by one word at most.
+pub read-pos : (s : List ℕ) (b : Bits) (n : ℕ) → read s b n .bits .pos ≤ b .pos + 4
+read-pos s b n = read-either (λ g. g .bits .pos ≤ b .pos + 4) s b n (λ h. omega arith) (λ h. mod-le (b .pos + 4) (2 ^ 64))
 
 -- A value of n bits is below 2^n.
 pub read-below : (s : List ℕ) (b : Bits) (n : ℕ) → read s b n .value < 2 ^ min n 32
@@ -271,6 +275,12 @@ pub fields-more : (s : List ℕ) (n : ℕ) (ns : List ℕ) (b : Bits)
     → fields s (n ∷ ns) b ≡ record { values = read s b n .value ∷ fields s ns (read s b n .bits) .values; bits = fields s ns (read s b n .bits) .bits }
 unfolding fields
 fields-more s n ns b = refl
+
+-- Several fields move the position by one word each at most.
+pub fields-pos : (s ns : List ℕ) (b : Bits) → fields s ns b .bits .pos ≤ b .pos + 4 * length ns
+unfolding fields
+fields-pos s [] b = omega arith
+fields-pos s (n ∷ ns) b = omega (arith, read-pos s b n, fields-pos s ns (read s b n .bits))
 
 pub fields-kept : (s : List ℕ) (ns : List ℕ) (b : Bits) → fields s ns b .bits .overrun ≡ false → b .overrun ≡ false
 unfolding fields

@@ -33,11 +33,17 @@ pub record Ask : Type 0 where
   pub offsets : List ℕ
   pub size : Size
 
+abbrev pub ask : Decoder → List ℕ → List ℕ → ℕ → ℕ → Ask
+ask d s offsets w h = record { decoder = d; stream = s; offsets = offsets; size = record { width = w; height = h } }
+
 -- The lengths of what a call is lent: samples, a map or none, and scratch.
 pub record Lent : Type 0 where
   pub samples : ℕ
   pub map : Option ℕ
   pub scratch : ℕ
+
+abbrev pub lent : ℕ → Option ℕ → ℕ → Lent
+lent samples map scratch = record { samples = samples; map = map; scratch = scratch }
 
 -- ── Refusals 1 to 4 ──
 

@@ -7,7 +7,6 @@ use mathlib.Core.Option.{some}
 use lib.IntN.{ℤ, pos, negsuc}
 use lib.ListN.{replicate}
 use Rattle.rules.specs.declared.answer.Size.{Size}
-use Rattle.rules.specs.declared.reader.Bits.{Bits}
 use Rattle.rules.specs.declared.reader.Got.{Got}
 use Rattle.rules.specs.declared.v2.V2Hdr.{V2Hdr}
 use Rattle.rules.specs.Reader.{fresh, read, fields, read-signed}

@@ -1,7 +1,7 @@
 -- A frame: N cells in reading order, where N is width times height. What a cell is, is left open here: a sample, a map byte, or
 -- where a sample comes from. A frame has just N cells, so that a store at N or beyond does nothing, and what is read there is
 -- what `getD` is given for it.
-use Prim.Native.Nat.{ℕ, zero, suc, _+_, _*_}
+use Prim.Native.Nat.{ℕ, zero, suc, _*_}
 use mathlib.Core.List.{List, [], _∷_}
 use Rattle.rules.specs.declared.answer.Size.{Size}
 

@@ -1,7 +1,7 @@
 -- Document 01, "The map": which samples rest on what the buffer held. Byte 1: the sample rests on an old value. Byte 0: it rests
 -- on the stream. The map is decoded as the samples are, over another kind of cell; and so is where a V0 sample comes from.
-use Prim.Native.Nat.{ℕ, zero, suc, _+_, _-_, _%_, max}
-use mathlib.Core.List.{List, [], _∷_}
+use Prim.Native.Nat.{ℕ, _+_, _-_, _%_, max}
+use mathlib.Core.List.{List}
 use lib.ListN.{replicate}
 use Rattle.rules.specs.declared.answer.Size.{Size}
 use Rattle.rules.specs.Frame.{cells, tabulate}

@@ -1,4 +1,5 @@
 -- Each way leaves enough: with no word fetched what is held, else 32 bits more.
+use native.Mathlib.Omega.{arith}
 use borrow.Author.Needs.{needs}
 use Rattle.bits.proofs.RefilledLaws.{enough-held, enough-next}
 use Rattle.bits.proofs.refill.Statement.{statement}
@@ -11,7 +12,7 @@ cast-t7 : tie.Need-cast-t7
 cast-t7 c = search needs
 
 returns : tie.Need-returns
-returns c = let a = c .before .before .before .before in enough-held _ (a .args .bits) _ _ (a .pre) (c .before .before .held-bits .ensures) (c .before .if1 .taken)
+returns c = let a = c .before .before .before .before in enough-held _ (a .args .bits) _ _ (a .pre) (c .before .before .held-bits .ensures) (omega arith)
 
 fetch-requires : tie.Need-fetch-requires
 fetch-requires c κs = search needs
@@ -39,7 +40,7 @@ either-requires c κs = search needs
 
 returns-2 : tie.Need-returns-2
 returns-2 c = let f = c .before .before .before .before in let h = f .before .before in let a = h .before .before in
-    enough-next _ (a .args .bits) _ _ (a .pre) (h .held-bits .ensures) _ _ _ (f .before .if1 .left) (f .fetch .ensures) (c .before .wrapping-add-u64 .ensures) (c .either .ensures)
+    enough-next _ (a .args .bits) _ _ (a .pre) (h .held-bits .ensures) _ _ _ (omega arith) (f .fetch .ensures) (c .before .wrapping-add-u64 .ensures) (c .either .ensures)
 
 pub refill-spec : {M : Type 1} → statement M
 refill-spec =

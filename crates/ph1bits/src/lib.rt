@@ -1,0 +1,67 @@
+// The host's reader: it borrows the stream and steps through it, thin over the core by value.
+ghost use mathlib.Core.Path.{_≡_};
+ghost use Rattle.rules.specs.Reader.{fresh, read};
+ghost use Rattle.ph1bits.specs.Host.{stepped, moved};
+use rules::Bits;
+use rules::Got;
+
+pub struct Ph1Bits<'a> {
+    pub data: &'a [u8],
+    pub state: Bits,
+}
+
+impl<'a> Ph1Bits<'a> {
+    // A reader of `data` at a byte position.
+    pub fn new(data: &'a [u8], pos: u64) -> Ph1Bits<'a>
+        ensures { λ r. ⌜ (r .data ≡ «data» .entry) × (r .state ≡ fresh pos) ⌝ }
+    {
+        let state = Bits {
+            pos,
+            word: 0,
+            count: 0,
+            overrun: false,
+        };
+        Ph1Bits { data, state }
+    }
+
+    // Reads n bits, at most 32.
+    pub fn get(&mut self, n: u32) -> u32
+        ensures { λ r. ⌜ (r ≡ read (now (now (self .entry) .data)) (now (self .entry) .state) n .value) × (now (self .exit) ≡ stepped (now (self .entry)) n) ⌝ }
+    {
+        let g = bits::get(self.data, self.state, n);
+        self.state = g.bits;
+        g.value
+    }
+
+    // The byte position of the next word.
+    pub fn pos(&self) -> u64
+        ensures { λ r. ⌜ r ≡ now (self .entry) .state .pos ⌝ }
+    {
+        self.state.pos
+    }
+
+    // Drops the buffered bits and goes to `pos`; an overrun stays.
+    pub fn reset_at(&mut self, pos: u64)
+        ensures { λ _. ⌜ now (self .exit) ≡ moved (now (self .entry)) pos ⌝ }
+    {
+        let s = bits::reset_at(self.state, pos);
+        self.state = s;
+    }
+
+    // Whether a word was missing.
+    pub fn overrun(&self) -> bool
+        ensures { λ r. ⌜ r ≡ now (self .entry) .state .overrun ⌝ }
+    {
+        self.state.overrun
+    }
+}
+
+// Reads n bits at a position, for a caller that has no reader: the value, and the state after it.
+pub fn read_at(data: &[u8], pos: u64, n: u32) -> Got
+    ensures { λ r. ⌜ r ≡ read (now («data» .entry)) (fresh pos) n ⌝ }
+{
+    let mut reader = Ph1Bits::new(data, pos);
+    let value = reader.get(n);
+    let next = reader.state;
+    Got { value, bits: next }
+}

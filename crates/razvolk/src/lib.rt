@@ -1,0 +1,21 @@
+// The exports for C and Rust hosts: `rt staticlib razvolk` writes the archive.
+ghost use mathlib.Core.Path.{_≡_};
+ghost use Rattle.rules.specs.Reader.{reset-at, read};
+use rules::Bits;
+use rules::Got;
+
+// Reads n bits, at most 32, of the stream at a state.
+#[no_mangle]
+pub extern "C" fn razvolk_get(src: &[u8], state: Bits, n: u32) -> Got
+    ensures { λ r. ⌜ r ≡ read (now (src .entry)) state n ⌝ }
+{
+    bits::get(src, state, n)
+}
+
+// Drops the buffered bits and goes to `pos`; an overrun stays.
+#[no_mangle]
+pub extern "C" fn razvolk_reset_at(state: Bits, pos: u64) -> Bits
+    ensures { λ r. ⌜ r ≡ reset-at state pos ⌝ }
+{
+    bits::reset_at(state, pos)
+}

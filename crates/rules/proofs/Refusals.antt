@@ -1,0 +1,270 @@
+-- Document 01, "Answer record": the answer among 1 to 4 is the least number whose test holds, and none of them only if none does.
+-- What a call that was not refused may count on, what the stream may answer then, and that 1 to 4 change no buffer.
+use Prim.Native.Nat.{ℕ, zero, suc, _+_, _/_, _<_, _≤_}
+use mathlib.Core.Logic.{_⊎_, inl, inr, _≢_}
+use mathlib.Core.Bool.{Bool, true, false, _||_, cond}
+use mathlib.Core.Path.{_≡_, refl, sym, _∙_}
+use mathlib.Core.List.{List, [], _∷_}
+use mathlib.Core.Option.{some}
+use native.Mathlib.Omega.{arith}
+use lib.ListN.{length, getD, take}
+use lib.Seq.{getD-take}
+use lib.Dec.{ltb, eqb, lit≤}
+use borrow.Author.Tests.{ltb-true, ltb-false, eqb-true, eqb-false, ne-eqb}
+use Rattle.rules.specs.declared.answer.Answer.{Answer}
+use Rattle.rules.specs.declared.answer.Size.{Size}
+use Rattle.rules.specs.declared.reader.Bits.{Bits}
+use Rattle.rules.specs.declared.v2.V2Hdr.{V2Hdr}
+use Rattle.rules.specs.declared.v2.V2Row.{V2Row}
+use Rattle.rules.specs.declared.v2.V2Block.{V2Block}
+use Rattle.rules.specs.declared.v2.V2Block.the-variants.{Next, EarlyMotion, Outside, LongDifference}
+use Rattle.rules.specs.Frame.{cells}
+use Rattle.rules.specs.V2.{Block, Row, read-block, then, blocks, read-row, rows, read-frame, aligned, fresh-row, fresh-mode, header}
+use Rattle.rules.specs.Answer.{done, Decoder, direct, two-phase, v2, Ask, Lent, too-large, too-small, short-offsets, short-samples, short-map, scratch-bytes, short-scratch, first-of, refusal, stream-answer, answer, unless-refused, samples-after, map-after, scratch-after}
+use Rattle.rules.proofs.Cells.{All, nil, more, all-get}
+use Rattle.rules.proofs.Tests.{clash, neither}
+use Rattle.rules.proofs.V2Rows.{then-rows-cases}
+
+-- ── The least number whose test holds ──
+
+-- Four tests at their numbers; number 0 has none.
+abbrev numbered : Bool → Bool → Bool → Bool → List Bool
+numbered t1 t2 t3 t4 = false ∷ t1 ∷ t2 ∷ t3 ∷ t4 ∷ []
+
+-- k is the number of the first test that holds, or 0 if none does.
+pub record Least (tests : List Bool) (k : ℕ) : Type 0 where
+  pub most : k ≤ 4
+  pub own : 1 ≤ k → getD tests k false ≡ true
+  pub smaller : (j : ℕ) → j < k → getD tests j false ≡ false
+  pub none : k ≡ 0 → (j : ℕ) → getD tests j false ≡ false
+
+abbrev False : Bool → Type 0
+False t = t ≡ false
+
+first-at : (k : ℕ) {ts : List Bool} → 1 ≤ k → k ≤ 4 → getD ts k false ≡ true → All False (take k ts) → Least ts k
+first-at k {ts} o m h ps =
+    record {
+      most = m;
+      own = λ q. h;
+      smaller = λ j q. sym (getD-take k ts j false q) ∙ all-get False ps j false refl;
+      none = λ q. absurd (omega arith);
+    }
+
+first-least : (t1 t2 t3 t4 : Bool) → Least (numbered t1 t2 t3 t4) (first-of t1 t2 t3 t4)
+unfolding first-of
+first-least true t2 t3 t4 = first-at 1 (lit≤ tt) (lit≤ tt) refl (more refl nil)
+first-least false true t3 t4 = first-at 2 (lit≤ tt) (lit≤ tt) refl (more refl (more refl nil))
+first-least false false true t4 = first-at 3 (lit≤ tt) (lit≤ tt) refl (more refl (more refl (more refl nil)))
+first-least false false false true = first-at 4 (lit≤ tt) (lit≤ tt) refl (more refl (more refl (more refl (more refl nil))))
+first-least false false false false =
+    record {
+      most = lit≤ tt;
+      own = λ q. absurd (omega arith);
+      smaller = λ j q. absurd (omega arith);
+      none = λ q j. all-get False (more refl (more refl (more refl (more refl (more refl nil))))) j false refl;
+    }
+
+-- The tests of refusals 1 to 4 at their numbers.
+abbrev pub tests : Ask → Lent → List Bool
+tests a l =
+    numbered (too-large (a .size)) (too-small (a .decoder) (a .size)) (short-samples a l)
+    (short-map (l .map) (a .size) || short-scratch (a .decoder) (l .scratch) (a .size))
+
+-- Whether the test of refusal k holds.
+abbrev pub holds : Ask → Lent → ℕ → Bool
+holds a l k = getD (tests a l) k false
+
+module _ (a : Ask) (l : Lent) where
+  -- The refusal is the least number whose test holds, or 0 if none does.
+  pub refusal-least : Least (tests a l) (refusal a l)
+  unfolding refusal
+  refusal-least = first-least _ _ _ _
+
+  -- The least number whose test holds is the refusal.
+  pub refusal-is : (k : ℕ) → holds a l k ≡ true → ((j : ℕ) → j < k → holds a l j ≡ false) → refusal a l ≡ k
+  refusal-is k e f = go (ltb k (refusal a l)) refl (ltb (refusal a l) k) refl (eqb (refusal a l) 0) refl
+    where
+      r : ℕ
+      r = refusal a l
+
+      go : (t : Bool) → ltb k r ≡ t → (u : Bool) → ltb r k ≡ u → (v : Bool) → eqb r 0 ≡ v → r ≡ k
+      go true p u q v o = absurd (clash e (refusal-least .smaller k (ltb-true k r p)))
+      go false p true q true o = absurd (clash e (refusal-least .none (eqb-true r 0 o) k))
+      go false p true q false o =
+          absurd (clash (refusal-least .own (let n = eqb-false r 0 o in omega arith)) (f r (ltb-true r k q)))
+      go false p false q v o = omega (arith, ltb-false k r p, ltb-false r k q)
+
+  -- Without a test that holds there is no refusal.
+  pub refusal-zero : ((j : ℕ) → holds a l j ≡ false) → refusal a l ≡ 0
+  refusal-zero f = go (eqb (refusal a l) 0) refl
+    where
+      go : (t : Bool) → eqb (refusal a l) 0 ≡ t → refusal a l ≡ 0
+      go true e = eqb-true (refusal a l) 0 e
+      go false e =
+          absurd (clash (refusal-least .own (let n = eqb-false (refusal a l) 0 e in omega arith)) (f (refusal a l)))
+
+  -- ── Answers ──
+
+  -- A refusal is answered with its number and row 0; else the stream answers.
+  pub answer-refused : 1 ≤ refusal a l → answer a l ≡ record { number = refusal a l; row = 0 }
+  unfolding answer
+  answer-refused h = rw (ne-eqb (refusal a l) 0 (λ e. omega arith))
+
+  pub answer-passed : refusal a l ≡ 0 → answer a l ≡ stream-answer (a .decoder) (a .stream) (a .size)
+  unfolding answer
+  answer-passed e = rw e
+
+  -- Done and 5 to 8 are answered only if no test of 1 to 4 holds.
+  pub passed : (answer a l .number ≡ 0) ⊎ (5 ≤ answer a l .number) → refusal a l ≡ 0
+  passed q = go (eqb (refusal a l) 0) refl
+    where
+      no : (refusal a l ≡ 0) ⊎ (5 ≤ refusal a l) → refusal a l ≡ 0
+      no (inl z) = z
+      no (inr m) = absurd (omega (arith, refusal-least .most))
+
+      go : (t : Bool) → eqb (refusal a l) 0 ≡ t → refusal a l ≡ 0
+      go true e = eqb-true (refusal a l) 0 e
+      go false e = no (rw (answer-refused (let n = eqb-false (refusal a l) 0 e in omega arith)) at q)
+
+-- ── What a call that was not refused may count on ──
+
+module _ (a : Ask) (l : Lent) (ok : refusal a l ≡ 0) where
+  fails : (k : ℕ) → holds a l k ≡ false
+  fails = refusal-least a l .none ok
+
+  -- The size is within the limits.
+  pub size-most : (a .size .width ≤ 16_384) × (a .size .height ≤ 16_384)
+  unfolding too-large
+  size-most = let q = neither _ _ (fails 1) in (ltb-false _ _ (q .0), ltb-false _ _ (q .1))
+
+  -- V2: it is no smaller than the least.
+  pub v2-size-least : a .decoder ≡ v2 → (646 ≤ a .size .width) × (436 ≤ a .size .height)
+  unfolding too-small
+  v2-size-least e = let q = neither _ _ (rw e at (fails 2)) in (ltb-false _ _ (q .1), ltb-false _ _ (q .0))
+
+  third : (ltb (l .samples) (cells (a .size)) ≡ false) × (short-offsets (a .decoder) (a .offsets) (a .size) ≡ false)
+  unfolding short-samples
+  third = neither _ _ (fails 3)
+
+  -- The frame's samples are lent.
+  pub samples-enough : cells (a .size) ≤ l .samples
+  samples-enough = ltb-false _ _ (third .0)
+
+  -- V0: there is an offset for each row.
+  pub offsets-enough : a .decoder ≢ v2 → a .size .height ≤ length (a .offsets)
+  unfolding short-offsets
+  offsets-enough = go (a .decoder) (third .1)
+    where
+      go : (k : Decoder) → short-offsets k (a .offsets) (a .size) ≡ false → k ≢ v2 → a .size .height ≤ length (a .offsets)
+      go direct e n = ltb-false _ _ e
+      go two-phase e n = ltb-false _ _ e
+      go v2 e n = absurd (n refl)
+
+  fourth : (short-map (l .map) (a .size) ≡ false) × (short-scratch (a .decoder) (l .scratch) (a .size) ≡ false)
+  fourth = neither _ _ (fails 4)
+
+  -- A map that is lent has a byte for each sample.
+  pub map-enough : (n : ℕ) → l .map ≡ some n → cells (a .size) ≤ n
+  unfolding short-map
+  map-enough n e = ltb-false _ _ (rw e at (fourth .0))
+
+  -- Two-phase: there is a byte of scratch for each block of rows 2 on.
+  pub scratch-enough : a .decoder ≡ two-phase → scratch-bytes (a .size) ≤ l .scratch
+  unfolding short-scratch
+  scratch-enough e = ltb-false _ _ (rw e at (fourth .1))
+
+-- ── What refusals 1 to 4 leave ──
+
+module _ (a : Ask) (l : Lent) (refused : 1 ≤ refusal a l) (buffer : List ℕ) where
+  unless-kept : (new : List ℕ) → unless-refused a l new buffer ≡ buffer
+  unfolding unless-refused
+  unless-kept new = rw (ne-eqb (refusal a l) 0 (λ e. omega arith))
+
+  -- Every buffer stays as it was.
+  pub samples-kept : samples-after a l buffer ≡ buffer
+  unfolding samples-after
+  samples-kept = unless-kept _
+
+  pub map-kept : map-after a l buffer ≡ buffer
+  unfolding map-after
+  map-kept = unless-kept _
+
+  pub scratch-kept : scratch-after a l buffer ≡ buffer
+  unfolding scratch-after
+  scratch-kept = unless-kept _
+
+-- ── What the stream answers ──
+
+-- Done, or one of 5 to 8 with a row of the frame.
+pub data Ending (height : ℕ) (a : Answer) : Type 0 where
+  accepted : a ≡ done → Ending height a
+  stopped : 5 ≤ a .number → a .number ≤ 8 → a .row < height → Ending height a
+
+-- A row that is refused is refused with 5, 6 or 7.
+blocks-number : (s : List ℕ) (h : V2Hdr) (n w row k col : ℕ) (b : Bits) (st : V2Row) (mode : List (List ℕ))
+    → (let q = blocks s h n w row k col b st mode in q .number ≢ 0 → (5 ≤ q .number) × (q .number ≤ 7))
+unfolding blocks then
+blocks-number s h n w row zero col b st mode = λ e. absurd (e refl)
+blocks-number s h n w row (suc k) col b st mode =
+    let p = read-block s h n w row col b st mode in
+    go (p .outcome) (p .block) _ (λ b′ st′. blocks-number s h n w row k (col + 16) b′ st′ (p .mode))
+  where
+    go : (o : V2Block) (x : Block) (rest : Bits → V2Row → Row) → ((b : Bits) (st : V2Row) → rest b st .number ≢ 0 → (5 ≤ rest b st .number) × (rest b st .number ≤ 7))
+        → then o x rest .number ≢ 0 → (5 ≤ then o x rest .number) × (then o x rest .number ≤ 7)
+    go (Next b st) x rest r e = r b st e
+    go (EarlyMotion b) x rest r e = (lit≤ tt, lit≤ tt)
+    go (Outside b) x rest r e = (lit≤ tt, lit≤ tt)
+    go (LongDifference b) x rest r e = (lit≤ tt, lit≤ tt)
+
+rows-ending : (s : List ℕ) (h : V2Hdr) (n w k row : ℕ) (b : Bits) → Ending (row + k) (rows s h n w k row b .answer)
+unfolding rows read-row
+rows-ending s h n w zero row b = accepted refl
+rows-ending s h n w (suc k) row b =
+    let q = read-row s h n w row b in
+    let below : row < row + suc k = omega arith in
+    then-rows-cases (λ x. Ending (row + suc k) (x .answer)) row q (rows s h n w k (suc row) (q .bits))
+    (λ e. refused (blocks-number s h n w row (w / 16) 0 (aligned b) fresh-row (fresh-mode row) e)) (λ e. stopped (lit≤ tt) (lit≤ tt) below)
+    (λ e. later (rows-ending s h n w k (suc row) (q .bits)))
+  where
+    refused : {m : ℕ} → (5 ≤ m) × (m ≤ 7) → Ending (row + suc k) (record { number = m; row = row })
+    refused p = stopped (p .0) (omega arith) (omega arith)
+
+    later : {a : Answer} → Ending (suc row + k) a → Ending (row + suc k) a
+    later (accepted e) = accepted e
+    later (stopped l m h) = stopped l m (omega arith)
+
+v2-ending : (s : List ℕ) (z : Size) → Ending (z .height) (read-frame s z .answer)
+unfolding read-frame
+v2-ending s z =
+    let x = header s in
+    let e : 0 + z .height ≡ z .height = omega arith in
+    rw e at (rows-ending s (x .hdr) (cells z) (z .width) (z .height) 0 (x .bits))
+
+-- The answer of a call that was not refused is done, or in V2 one of 5 to 8 with a row of the frame.
+pub stream-ending : (k : Decoder) (s : List ℕ) (z : Size) → Ending (z .height) (stream-answer k s z)
+unfolding stream-answer
+stream-ending direct s z = accepted refl
+stream-ending two-phase s z = accepted refl
+stream-ending v2 s z = v2-ending s z
+
+module _ (a : Ask) (l : Lent) where
+  -- Every call is answered with done or one of 1 to 8.
+  pub answer-most : answer a l .number ≤ 8
+  unfolding answer
+  answer-most = go (eqb (refusal a l) 0) (stream-ending (a .decoder) (a .stream) (a .size))
+    where
+      go : (t : Bool) {x : Answer} → Ending (a .size .height) x → cond t x (record { number = refusal a l; row = 0 }) .number ≤ 8
+      go true (accepted e) = rw e (lit≤ tt)
+      go true (stopped l m h) = m
+      go false e = omega (arith, refusal-least a l .most)
+
+  -- An answer of 1 to 4 is the refusal, with row 0.
+  pub answer-early : 1 ≤ answer a l .number → answer a l .number ≤ 4 → answer a l ≡ record { number = refusal a l; row = 0 }
+  unfolding answer
+  answer-early = go (eqb (refusal a l) 0) (stream-ending (a .decoder) (a .stream) (a .size))
+    where
+      go : (t : Bool) {x : Answer} → Ending (a .size .height) x
+          → (let y = cond t x (record { number = refusal a l; row = 0 }) in 1 ≤ y .number → y .number ≤ 4 → y ≡ record { number = refusal a l; row = 0 })
+      go true (accepted e) o f = absurd (let q = rw e at o in omega arith)
+      go true (stopped l m h) o f = absurd (omega arith)
+      go false e o f = refl

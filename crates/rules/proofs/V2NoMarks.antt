@@ -1,0 +1,207 @@
+-- Document 01, "The map": an accepted V2 frame of a width divisible by 16 has no 1. Its blocks follow one another without a gap
+-- from the first sample to the last, and each reads only before itself.
+use Prim.Native.Nat.{ℕ, zero, suc, _+_, _-_, _*_, _/_, _%_, _<_, _≤_, max}
+use mathlib.Core.Bool.{Bool, true, false, cond}
+use mathlib.Core.Path.{_≡_, refl, ap₂, _∙_, subst₂}
+use mathlib.Core.Logic.{inl}
+use mathlib.Core.List.{List, [], _∷_, _++_}
+use native.Mathlib.Omega.{arith}
+use native.Mathlib.Decide.{ℕ-discrete}
+use native.Mathlib.Nat.{mul-comm, add-zero}
+use lib.ListN.{length, getD, set, length-set, length-replicate}
+use lib.Seq.{sets, getD-set-same, getD-set-other, length-sets}
+use lib.Dec.{ltb, eqb}
+use borrow.Author.Tests.{ltb-false, le-ltb, eqb-false}
+use Rattle.rules.specs.declared.answer.Size.{Size}
+use Rattle.rules.specs.declared.reader.Bits.{Bits}
+use Rattle.rules.specs.declared.v2.V2Hdr.{V2Hdr}
+use Rattle.rules.specs.declared.v2.V2Row.{V2Row}
+use Rattle.rules.specs.declared.v2.V2Block.{V2Block}
+use Rattle.rules.specs.declared.v2.V2Block.the-variants.{Next, EarlyMotion, Outside, LongDifference}
+use Rattle.rules.specs.Frame.{cells, tabulate}
+use Rattle.rules.specs.V2.{Base, given, copied, averaged, motion-averages, repeated, referred, base, strays, any-strays, base-refusal, Block, Parsed, read-block, Row, then, blocks, fresh-row, fresh-mode, aligned, read-row, rows, read-frame, header, base-cell, block-cells, apply, frame}
+use Rattle.rules.specs.Map.{v2-marks, v2-map, all-old}
+use Rattle.rules.specs.Answer.{v2, Ask, Lent, stream-answer, answer, frame-marks, marks}
+use Rattle.rules.proofs.Refusals.{passed, answer-passed, v2-size-least}
+use Rattle.rules.proofs.Tests.{neither}
+use Rattle.rules.proofs.V2Rows.{then-rows-cases}
+use Rattle.rules.proofs.V2Places.{further, reference-5, reference-is, reference-before, inside}
+use Rattle.rules.proofs.V2Bounds.{next-state, next-unrefused}
+
+-- ── Blocks one after another ──
+
+-- A base that reads before a place.
+abbrev Before : ℕ → Base → Type 0
+Before n (given v) = Unit {0}
+Before n (copied p) = p < n
+Before n (averaged p q) = (p < n) × (q < n)
+
+-- Blocks one after another from place n to place m, each reading before itself.
+data Chain : ℕ → List Block → ℕ → Type 0 where
+  stop : {n : ℕ} → Chain n [] n
+  link : {n m : ℕ} {b : Block} {bs : List Block} → b .place ≡ n → ((i : ℕ) → i < 16 → Before n (b .base i)) → Chain (n + 16) bs m → Chain n (b ∷ bs) m
+
+chain-append : {n m k : ℕ} {xs ys : List Block} → Chain n xs m → Chain m ys k → Chain n (xs ++ ys) k
+chain-append stop d = d
+chain-append (link at before c) d = link at before (chain-append c d)
+
+chain-le : {n m : ℕ} {bs : List Block} → Chain n bs m → n ≤ m
+chain-le stop = omega arith
+chain-le (link at before c) = let q = chain-le c in omega arith
+
+-- The first n bytes are 0.
+abbrev Zero : ℕ → List ℕ → Type 0
+Zero n f = (i : ℕ) → i < n → getD f i 0 ≡ 0
+
+sets-zero : (k i : ℕ) (g : ℕ → ℕ) (n : ℕ) (f : List ℕ) → n + k ≤ length f → ((j : ℕ) → j < i + k → g j ≡ 0) → Zero n f
+    → Zero (n + k) (sets f n (tabulate k i g))
+unfolding tabulate
+sets-zero zero i g n f l e z = rw (add-zero n) z
+sets-zero (suc k) i g n f l e z =
+    let q : n + suc k ≡ suc n + k = omega arith in
+    rw q (sets-zero k (suc i) g (suc n) (set f n (g i)) (rw length-set (omega arith)) (λ j h. e j (omega arith)) first)
+  where
+    first : Zero (suc n) (set f n (g i))
+    first j h = go (ℕ-discrete j n)
+      where
+        go : Dec (j ≡ n) → getD (set f n (g i)) j 0 ≡ 0
+        go (yes r) = rw r (getD-set-same f n (g i) 0 (omega arith) ∙ e i (omega arith))
+        go (no r) = getD-set-other f n j (g i) 0 r ∙ z j (omega arith)
+
+base-zero : (n : ℕ) (f : List ℕ) → Zero n f → (b : Base) → Before n b → base-cell v2-marks f b ≡ 0
+unfolding base-cell
+base-zero n f z (given v) p = refl
+base-zero n f z (copied q) p = z q p
+base-zero n f z (averaged q r) p = ap₂ max (z q (p .0)) (z r (p .1))
+
+chain-zero : {n m : ℕ} {bs : List Block} → Chain n bs m → (f : List ℕ) → m ≤ length f → Zero n f → Zero m (apply v2-marks bs f)
+unfolding apply block-cells
+chain-zero stop f l z = z
+chain-zero (link {n = n} {b = b} at before c) f l z =
+    chain-zero c (sets f (b .place) (block-cells v2-marks f b)) (rw length-sets l)
+    (rw at (sets-zero 16 0 (λ i. base-cell v2-marks f (b .base i)) n f (let q = chain-le c in omega arith) (λ i h. base-zero n f z (b .base i) (before i h)) z))
+
+-- ── A block reads before itself ──
+
+no-strays : (n w row col motion k i j : ℕ) → any-strays n w row col motion k i ≡ false → i ≤ j → j < i + k → strays n w row col motion j ≡ false
+unfolding any-strays
+no-strays n w row col motion zero i j e l h = absurd (omega arith)
+no-strays n w row col motion (suc k) i j e l h =
+    go (neither _ _ e) (ℕ-discrete j i) (λ f g. no-strays n w row col motion k (suc i) j f g (omega arith))
+  where
+    go : (strays n w row col motion i ≡ false) × (any-strays n w row col motion k (suc i) ≡ false) → Dec (j ≡ i)
+        → (any-strays n w row col motion k (suc i) ≡ false → suc i ≤ j → strays n w row col motion j ≡ false) → strays n w row col motion j ≡ false
+    go q (yes r) rest = rw r (q .0)
+    go q (no r) rest = rest (q .1) (omega arith)
+
+module _ (w row col motion i : ℕ) (wide : 20 ≤ w) (two : 2 ≤ row) (l : i < 16) where
+  referred-before : (n : ℕ) → strays n w row col motion i ≡ false → Before (row * w + col) (referred w row col motion i)
+  unfolding strays referred
+  referred-before n e =
+      let r = reference-5 w row col motion i in
+      let k = inside n (further motion) r (rw (reference-is w row col motion i) at e) in
+      rw (reference-is w row col motion i, le-ltb r 5 (k .0)) (go (getD motion-averages motion false) refl (k .0))
+    where
+      go : (t : Bool) → getD motion-averages motion false ≡ t → 5 ≤ reference-5 w row col motion i → (let p = reference-5 w row col motion i - 5 in
+          Before (row * w + col) (cond t (averaged p (p + 2)) (copied p)))
+      go true f k = let q = rw f at (reference-before w row col motion i two l wide) in (omega arith, omega arith)
+      go false f k = let q = rw f at (reference-before w row col motion i two l wide) in omega arith
+
+module _ (h : V2Hdr) (n w row col : ℕ) (wide : 20 ≤ w) (column : col % 16 ≡ 0) where
+  repeated-before : (i : ℕ) → Before (row * w + col) (repeated h w row col i)
+  unfolding repeated
+  repeated-before i = go (eqb col 0) refl
+    where
+      go : (t : Bool) → eqb col 0 ≡ t → Before (row * w + col) (cond t (given (h .initial)) (copied (row * w + col - 2 + i % 2)))
+      go true e = tt
+      go false e = let q = eqb-false col 0 e in omega arith
+
+  -- A base that met no refusal reads before its block.
+  base-before : (motion i : ℕ) → i < 16 → base-refusal n w row col motion ≡ 0 → Before (row * w + col) (base h w row col motion i)
+  unfolding base base-refusal
+  base-before motion i l = go (eqb motion 7) (ltb row 2) refl (any-strays n w row col motion 16 0) refl
+    where
+      go : (t u : Bool) → ltb row 2 ≡ u → (v : Bool) → any-strays n w row col motion 16 0 ≡ v → cond {A = ℕ} t 0 (cond u 5 (cond v 6 0)) ≡ 0
+          → Before (row * w + col) (cond t (repeated h w row col i) (referred w row col motion i))
+      go true u e v f r = repeated-before i
+      go false true e v f r = absurd (let q : 5 ≡ 0 = r in omega arith)
+      go false false e true f r = absurd (let q : 6 ≡ 0 = r in omega arith)
+      go false false e false f r =
+          referred-before w row col motion i wide (ltb-false row 2 e) l n (no-strays n w row col motion 16 0 i f (omega arith) (omega arith))
+
+-- ── Rows and frames ──
+
+module _ (s : List ℕ) (h : V2Hdr) (n w : ℕ) (wide : 20 ≤ w) where
+  module _ (row col : ℕ) (b : Bits) (st : V2Row) (mode : List (List ℕ)) where
+    place-is : read-block s h n w row col b st mode .block .place ≡ row * w + col
+    unfolding read-block
+    place-is = refl
+
+    next-before : (b′ : Bits) (st′ : V2Row) → col % 16 ≡ 0 → read-block s h n w row col b st mode .outcome ≡ Next b′ st′
+        → (i : ℕ) → i < 16 → Before (row * w + col) (read-block s h n w row col b st mode .block .base i)
+    unfolding read-block
+    next-before b′ st′ c e i l =
+        base-before h n w row col wide c _ i l
+        (rw (next-state s h n w row col b st mode b′ st′ e) at (next-unrefused s h n w row col b st mode b′ st′ e))
+
+  -- The blocks of a row that was not refused.
+  blocks-chain : (row k col : ℕ) (b : Bits) (st : V2Row) (mode : List (List ℕ)) → col % 16 ≡ 0 → blocks s h n w row k col b st mode .number ≡ 0
+      → Chain (row * w + col) (blocks s h n w row k col b st mode .blocks) (row * w + col + 16 * k)
+  unfolding blocks then
+  blocks-chain row zero col b st mode c e = rw (add-zero (row * w + col)) stop
+  blocks-chain row (suc k) col b st mode c e =
+      go (p .outcome) refl (λ b′ st′. blocks-chain row k (col + 16) b′ st′ (p .mode) (omega arith)) e
+    where
+      p : Parsed
+      p = read-block s h n w row col b st mode
+
+      rest : Bits → V2Row → Row
+      rest b′ st′ = blocks s h n w row k (col + 16) b′ st′ (p .mode)
+
+      go : (o : V2Block) → p .outcome ≡ o
+          → ((b′ : Bits) (st′ : V2Row) → rest b′ st′ .number ≡ 0 → Chain (row * w + (col + 16)) (rest b′ st′ .blocks) (row * w + (col + 16) + 16 * k))
+          → then o (p .block) rest .number ≡ 0 → Chain (row * w + col) (then o (p .block) rest .blocks) (row * w + col + 16 * suc k)
+      go (Next b′ st′) q r e =
+          let on : Chain (row * w + col + 16) (rest b′ st′ .blocks) (row * w + col + 16 * suc k)
+          = subst₂ (λ x y. Chain x (rest b′ st′ .blocks) y) (omega arith) (omega arith) (r b′ st′ e) in
+          link (place-is row col b st mode) (next-before row col b st mode b′ st′ c q) on
+      go (EarlyMotion b′) q r e = absurd (let z : 5 ≡ 0 = e in omega arith)
+      go (Outside b′) q r e = absurd (let z : 6 ≡ 0 = e in omega arith)
+      go (LongDifference b′) q r e = absurd (let z : 7 ≡ 0 = e in omega arith)
+
+  -- The blocks of rows that were accepted, where the width is a multiple of 16.
+  rows-chain : w % 16 ≡ 0 → (k row : ℕ) (b : Bits) → rows s h n w k row b .answer .number ≡ 0
+      → Chain (row * w) (rows s h n w k row b .blocks) ((row + k) * w)
+  unfolding rows read-row
+  rows-chain whole zero row b = λ e. rw (add-zero row) stop
+  rows-chain whole (suc k) row b =
+      let q = read-row s h n w row b in
+      then-rows-cases (λ x. x .answer .number ≡ 0 → Chain (row * w) (x .blocks) ((row + suc k) * w)) row q (rows s h n w k (suc row) (q .bits))
+      (λ r e. absurd (r e)) (λ r e. absurd (let z : 8 ≡ 0 = e in omega arith))
+      (λ r e. rw on (chain-append (this r) (rows-chain whole k (suc row) (q .bits) e)))
+    where
+      on : row + suc k ≡ suc row + k
+      on = omega arith
+
+      this : read-row s h n w row b .number ≡ 0 → Chain (row * w) (read-row s h n w row b .blocks) (suc row * w)
+      this e =
+          subst₂ (λ x y. Chain x (read-row s h n w row b .blocks) y) (omega arith) (omega arith)
+          (blocks-chain row (w / 16) 0 (aligned b) fresh-row (fresh-mode row) refl e)
+
+-- An accepted V2 frame of a width divisible by 16, from 32 on, has no 1.
+pub v2-unmarked : (s : List ℕ) (z : Size) → 20 ≤ z .width → z .width % 16 ≡ 0 → read-frame s z .answer .number ≡ 0
+    → (i : ℕ) → i < cells z → getD (v2-map s z) i 0 ≡ 0
+unfolding v2-map frame read-frame
+v2-unmarked s z wide whole done i l =
+    let x = header s in
+    chain-zero (rows-chain s (x .hdr) (cells z) (z .width) wide whole (z .height) 0 (x .bits) done) (all-old z)
+    (rw length-replicate (omega (arith, mul-comm (z .width) (z .height)))) (λ j h. absurd (omega arith)) i (omega (arith, mul-comm (z .width) (z .height)))
+
+-- So every V2 call that is accepted at such a width has no 1: refusal 2 keeps smaller frames out.
+pub accepted-unmarked : (a : Ask) (l : Lent) → a .decoder ≡ v2 → a .size .width % 16 ≡ 0 → answer a l .number ≡ 0
+    → (i : ℕ) → i < cells (a .size) → getD (marks a) i 0 ≡ 0
+unfolding stream-answer frame-marks
+accepted-unmarked a l is-v2 whole e =
+    let ok = passed a l (inl e) in
+    let wide = v2-size-least a l ok is-v2 .0 in
+    rw is-v2 (v2-unmarked (a .stream) (a .size) (omega arith) whole (rw is-v2 at (rw (answer-passed a l ok) at e)))

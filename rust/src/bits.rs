@@ -1,0 +1,114 @@
+//! The bit reader: a stream of words of 4 bytes, lowest byte first, whose highest bit is read first.
+//!
+//! ```
+//! use razvolk::bits::{self, Bits};
+//!
+//! let stream = [0x78, 0x56, 0x34, 0x12];
+//! let first = bits::get(&stream, Bits::new(0), 4);
+//! let second = bits::get(&stream, first.bits, 8);
+//! assert_eq!((first.value, second.value), (0x1, 0x23));
+//!
+//! // The stream has one word; a second one is missing, and reads as ones.
+//! let past = bits::get(&stream, second.bits, 32);
+//! assert_eq!(past.value, 0x4567_8fff);
+//! assert!(past.bits.overrun);
+//! assert_eq!(past.bits.pos, 8);
+//!
+//! let again = bits::reset_at(past.bits, 0);
+//! assert_eq!(bits::get(&stream, again, 32).value, 0x1234_5678);
+//! assert!(again.overrun, "an overrun stays");
+//! ```
+
+/// A reader's state. Every value of every field is a state that [`get`] and [`reset_at`] take.
+#[repr(C)]
+#[derive(Clone, Copy, Debug, Default, PartialEq, Eq)]
+pub struct Bits {
+    /// The byte position of the next word.
+    pub pos: u64,
+    /// The word fetched last: its low `count` bits are still unread.
+    pub word: u32,
+    /// How many bits are unread, 0 to 31; a state with more counts as having none.
+    pub count: u32,
+    /// Whether a word was missing.
+    pub overrun: bool,
+}
+
+impl Bits {
+    /// A reader at a byte position, with nothing unread and no overrun.
+    pub const fn new(pos: u64) -> Bits {
+        Bits { pos, word: 0, count: 0, overrun: false }
+    }
+}
+
+/// A value read, and the state after it.
+#[repr(C)]
+#[derive(Clone, Copy, Debug, PartialEq, Eq)]
+pub struct Got {
+    /// The bits read, as a number.
+    pub value: u32,
+    /// The state after the read.
+    pub bits: Bits,
+}
+
+unsafe extern "C" {
+    fn razvolk_get(src: *const u8, src_len: usize, state: Bits, n: u32) -> Got;
+    safe fn razvolk_reset_at(state: Bits, pos: u64) -> Bits;
+}
+
+/// Reads `n` bits; `n` above 32 counts as 32.
+///
+/// One word is fetched if fewer than `n` bits are unread, so `n` = 0 fetches none. Where fewer than 4 bytes remain, the word
+/// is all ones and `overrun` is set. The position grows by 4 for each word, modulo 2^64, also for a missing one.
+pub fn get(src: &[u8], state: Bits, n: u32) -> Got {
+    // SAFETY: the pointer and the length are those of a slice that is borrowed for the call, which only reads it. It is
+    // proved to return on every state, and the bool in what it returns is 0 or 1.
+    unsafe { razvolk_get(src.as_ptr(), src.len(), state, n) }
+}
+
+/// Drops the unread bits and goes on at byte position `pos`. An overrun stays set.
+pub fn reset_at(state: Bits, pos: u64) -> Bits {
+    razvolk_reset_at(state, pos)
+}
+
+#[cfg(test)]
+mod tests {
+    use super::*;
+
+    #[test]
+    fn leftover_bytes_are_not_read() {
+        let got = get(&[0, 0, 0], Bits::new(0), 1);
+        assert_eq!(got.value, 1);
+        assert_eq!(got.bits, Bits { pos: 4, word: u32::MAX, count: 31, overrun: true });
+    }
+
+    #[test]
+    fn a_state_with_more_than_31_bits_has_none() {
+        let stream = 0x1234_5678u32.to_le_bytes();
+        for count in [32, 33, 64, u32::MAX] {
+            let state = Bits { pos: 0, word: 0xdead_beef, count, overrun: false };
+            let got = get(&stream, state, 8);
+            assert_eq!(got.value, 0x12);
+            assert_eq!(got.bits, Bits { pos: 4, word: 0x1234_5678, count: 24, overrun: false });
+            let none = get(&stream, state, 0);
+            assert_eq!(none.value, 0);
+            assert_eq!(none.bits, Bits { count: 0, ..state });
+        }
+    }
+
+    #[test]
+    fn the_position_wraps() {
+        let got = get(&[1; 16], Bits::new(u64::MAX - 1), 32);
+        assert_eq!(got.value, u32::MAX);
+        assert_eq!(got.bits, Bits { pos: 2, word: u32::MAX, count: 0, overrun: true });
+        let got = get(&[1; 16], got.bits, 32);
+        assert_eq!(got.value, 0x0101_0101);
+        assert_eq!(got.bits.pos, 6);
+    }
+
+    #[test]
+    fn reset_at_drops_bits_and_keeps_the_overrun() {
+        let state = Bits { pos: 9, word: 7, count: 3, overrun: true };
+        assert_eq!(reset_at(state, 16), Bits { overrun: true, ..Bits::new(16) });
+        assert_eq!(reset_at(Bits { overrun: false, ..state }, 0), Bits::new(0));
+    }
+}
