@@ -20,6 +20,13 @@ use lines::put_fault;
 use lines::put_frame;
 use lines::put_refused;
 
+// The buffers: input bytes, samples with their marks, and offsets, as many as an input that fits can hold after 9 bytes.
+pub const INPUT: usize = 32_768;
+
+const SAMPLES: usize = 8_192;
+
+const OFFSETS: usize = 8_189;
+
 // The longest text: of 8,189 rows of one sample, each with five digits and an asterisk.
 pub const TEXT: usize = 105_352;
 
@@ -41,9 +48,9 @@ fn put_answer(input: &[u8], width: usize, height: usize, text: &mut [u8]) -> usi
     requires { ⌜ Room (now text) 0 (answer-text (now input)) ⌝ }
     ensures { λ r. ⌜ Appends (now (text .entry)) 0 (answer-text (now (input .entry))) (now (text .exit)) r ⌝ }
 {
-    let mut samples = [0u16; 8_192];
-    let mut map = [0u8; 8_192];
-    let mut offsets = [0u32; 8_189];
+    let mut samples = [0u16; SAMPLES];
+    let mut map = [0u8; SAMPLES];
+    let mut offsets = [0u32; OFFSETS];
     read_offsets(input, &mut offsets, height);
     let stream = 9 + 4 * height;
     let answer = decode_v0_reference_map(
@@ -64,7 +71,7 @@ fn put_answer(input: &[u8], width: usize, height: usize, text: &mut [u8]) -> usi
 pub fn run(input: &[u8], text: &mut [u8; TEXT]) -> usize
     ensures { λ r. ⌜ Holds (now (text .entry)) (job-text (now (input .entry))) (now (text .exit)) r ⌝ }
 {
-    if 32_768 < input.len() {
+    if INPUT < input.len() {
         return put_fault(text, LONGER);
     }
     if input.len() < 9 {
@@ -80,7 +87,7 @@ pub fn run(input: &[u8], text: &mut [u8; TEXT]) -> usize
     if input.len() < table_end {
         return put_fault(text, TABLE_CUT);
     }
-    if 8_192 < cells {
+    if SAMPLES < cells {
         return put_fault(text, TOO_MANY);
     }
     put_answer(input, width, height, text)

@@ -1,6 +1,6 @@
 // `samrows`: reads a job from standard input, and writes its text to standard output (document 01, "Job program").
 fn main() {
-    let mut input = [0u8; 32_768];
+    let mut input = [0u8; job::INPUT];
     let n = io::read_full(0, &mut input);
     let mut text = [0u8; job::TEXT];
     if longer(n) {
@@ -14,7 +14,7 @@ fn main() {
 
 // Whether the input is longer than the n bytes read: where they fill the array, one more byte is asked for.
 fn longer(n: usize) -> bool {
-    if n < 32_768 {
+    if n < job::INPUT {
         return false;
     }
     let mut more = [0u8; 1];

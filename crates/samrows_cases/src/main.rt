@@ -25,7 +25,7 @@ fn run_file(i: usize) {
 }
 
 fn run_job(fd: i32) {
-    let mut input = [0u8; 32_768];
+    let mut input = [0u8; job::INPUT];
     let n = io::read_full(fd, &mut input);
     let mut text = [0u8; job::TEXT];
     if longer(fd, n) {
@@ -39,7 +39,7 @@ fn run_job(fd: i32) {
 
 // Whether the file is longer than the n bytes read, as `samrows` finds it.
 fn longer(fd: i32, n: usize) -> bool {
-    if n < 32_768 {
+    if n < job::INPUT {
         return false;
     }
     let mut more = [0u8; 1];

@@ -13,7 +13,7 @@ use Rattle.job.proofs.run.Tie as tie
 sound : (c : tie.After-put-answer-arg) → Sound (now (c .before .before .before .before .before .before .before .before .before .before .args .input)) (c .before .before .before .before .half-word .result) (c .before .before .before .half-word2 .result)
 sound c =
     record {
-      short = c .before .before .before .before .before .before .before .before .if1 .left;
+      short = omega (arith, c .before .before .before .before .before .before .before .before .if1 .left);
       width-is = c .before .before .before .before .half-word .ensures .0;
       height-is = c .before .before .before .half-word2 .ensures .0;
       table = omega (arith, c .before .before .if4 .left, c .before .if5 .left);
