@@ -38,6 +38,46 @@ fn put_digits(text: &mut [u8], n: usize, most: usize, value: usize) -> usize
     put(text, last, glyph(value % 10))
 }
 
+// Bytes as they are.
+fn put_bytes(text: &mut [u8], n: usize, bytes: &[u8]) -> usize
+    requires { ⌜ Room (now text) n (now bytes) ⌝ }
+    ensures { λ r. ⌜ Appends (now (text .entry)) n (now (bytes .entry)) (now (text .exit)) r ⌝ }
+{
+    let mut at = n;
+    let mut i = 0;
+    while i < bytes.len() {
+        at = put(text, at, bytes[i]);
+        i += 1;
+    }
+    at
+}
+
+// A line of a word and a number.
+fn put_numbered(text: &mut [u8], word: &[u8], number: usize) -> usize
+    requires { ⌜ Room (now text) 0 (line (now word ++ decimal number)) ⌝ }
+    ensures { λ r. ⌜ Appends (now (text .entry)) 0 (line (now (word .entry) ++ decimal number)) (now (text .exit)) r ⌝ }
+{
+    let first = put_bytes(text, 0, word);
+    let end = put_digits(text, first, 5, number);
+    put(text, end, b'\n')
+}
+
+// A job fault.
+pub fn put_fault(text: &mut [u8], number: usize) -> usize
+    requires { ⌜ Room (now text) 0 (fault number) ⌝ }
+    ensures { λ r. ⌜ Appends (now (text .entry)) 0 (fault number) (now (text .exit)) r ⌝ }
+{
+    put_numbered(text, b"job ", number)
+}
+
+// A refusal of the decoder.
+pub fn put_refused(text: &mut [u8], number: usize) -> usize
+    requires { ⌜ Room (now text) 0 (refused-line number) ⌝ }
+    ensures { λ r. ⌜ Appends (now (text .entry)) 0 (refused-line number) (now (text .exit)) r ⌝ }
+{
+    put_numbered(text, b"refused ", number)
+}
+
 // A sample: a space, its value, and an asterisk where its mark is 1.
 fn put_sample(text: &mut [u8], n: usize, value: usize, mark: u8) -> usize
     requires { ⌜ Room (now text) n (sample-text value mark) ⌝ }
@@ -82,46 +122,6 @@ fn put_row(text: &mut [u8], n: usize, row: usize, samples: &[u16], map: &[u8]) -
     let first = put(text, colon, b':');
     let end = put_samples(text, first, samples, map);
     put(text, end, b'\n')
-}
-
-// Bytes as they are.
-fn put_bytes(text: &mut [u8], n: usize, bytes: &[u8]) -> usize
-    requires { ⌜ Room (now text) n (now bytes) ⌝ }
-    ensures { λ r. ⌜ Appends (now (text .entry)) n (now (bytes .entry)) (now (text .exit)) r ⌝ }
-{
-    let mut at = n;
-    let mut i = 0;
-    while i < bytes.len() {
-        at = put(text, at, bytes[i]);
-        i += 1;
-    }
-    at
-}
-
-// A line of a word and a number, which may have one digit.
-fn put_numbered(text: &mut [u8], word: &[u8], number: usize) -> usize
-    requires { ⌜ Room (now text) 0 (line (now word ++ decimal number)) ⌝ }
-    ensures { λ r. ⌜ Appends (now (text .entry)) 0 (line (now (word .entry) ++ decimal number)) (now (text .exit)) r ⌝ }
-{
-    let first = put_bytes(text, 0, word);
-    let end = put_digits(text, first, 5, number);
-    put(text, end, b'\n')
-}
-
-// A job fault.
-pub fn put_fault(text: &mut [u8], number: usize) -> usize
-    requires { ⌜ Room (now text) 0 (fault number) ⌝ }
-    ensures { λ r. ⌜ Appends (now (text .entry)) 0 (fault number) (now (text .exit)) r ⌝ }
-{
-    put_numbered(text, b"job ", number)
-}
-
-// A refusal of the decoder.
-pub fn put_refused(text: &mut [u8], number: usize) -> usize
-    requires { ⌜ Room (now text) 0 (refused-line number) ⌝ }
-    ensures { λ r. ⌜ Appends (now (text .entry)) 0 (refused-line number) (now (text .exit)) r ⌝ }
-{
-    put_numbered(text, b"refused ", number)
 }
 
 // The rows of a frame, a line for each.
