@@ -1,0 +1,3 @@
+-- What the contracts of the job's functions cite.
+pub mod Fields
+pub mod Written
