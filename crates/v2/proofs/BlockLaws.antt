@@ -1,7 +1,7 @@
 -- A block from its stages: what each stage gave is a variable with its equation.
-use mathlib.Core.Path.{_≡_, refl, ap₂, _∙_}
 use mathlib.Core.Bool.{Bool, true, false, cond}
 use mathlib.Core.List.{List}
+use mathlib.Core.Path.{_≡_, refl, ap₂, _∙_}
 use Prim.Native.Nat.{ℕ, _+_, _≤_}
 use native.Mathlib.Omega.{arith}
 use lib.Dec.{ltb, eqb, lit≤}
@@ -11,12 +11,11 @@ use mir.Syntax.{w32}
 use mir.Val.{SFits}
 use Rattle.rules.specs.declared.reader.Bits.{Bits}
 use Rattle.rules.specs.declared.reader.Got.{Got}
+use Rattle.rules.specs.declared.v2.V2Block.the-variants.{Next, EarlyMotion, Outside, LongDifference}
 use Rattle.rules.specs.declared.v2.V2Hdr.{V2Hdr}
+use Rattle.rules.specs.declared.v2.V2Lengths.{V2Lengths}
 use Rattle.rules.specs.declared.v2.V2Row.{V2Row}
 use Rattle.rules.specs.declared.v2.V2Scale.{V2Scale}
-use Rattle.rules.specs.declared.v2.V2Lengths.{V2Lengths}
-use Rattle.rules.specs.declared.v2.V2Block.{V2Block}
-use Rattle.rules.specs.declared.v2.V2Block.the-variants.{Next, EarlyMotion, Outside, LongDifference}
 use Rattle.rules.specs.Frame.{tabulate}
 use Rattle.rules.specs.V2.{read-scale, read-motion, Base, given, copied, averaged, base, any-strays, base-refusal, Moded, read-lengths, Differences, differences-from, read-differences, tail, based-tail, read-block, top, base-cell, block-cells, sample, sample-kind}
 use Rattle.rules.proofs.Cells.{All}

@@ -1,30 +1,30 @@
 -- Where a row and a frame stand: what is left from here comes to what the whole comes to, for samples and marks alike.
-use mathlib.Core.Path.{_≡_, refl, sym, ap, ap₂, _∙_}
-use mathlib.Core.Logic.{_⊎_, ⊎-elim}
+use mathlib.Core.Bool.{true, false}
 use mathlib.Core.List.{List, [], _∷_, _++_}
-use Prim.Native.Nat.{ℕ, zero, suc, _+_, _*_, _-_, _/_, _%_, _≤_, _<_}
+use mathlib.Core.Logic.{_⊎_, ⊎-elim}
+use mathlib.Core.Path.{_≡_, refl, sym, ap, ap₂, _∙_}
+use Prim.Native.Nat.{ℕ, suc, _+_, _*_, _-_, _/_, _%_, _≤_, _<_}
 use native.Mathlib.Nat.{sub-zero}
 use native.Mathlib.Numerals.{add-one}
 use native.Mathlib.Omega.{arith}
-use mathlib.Core.Bool.{true, false}
 use lib.Dec.{eqb}
 use lib.ListN.{length}
 use lib.Seq.{sets}
 use Rattle.rules.specs.declared.answer.Answer.{Answer}
 use Rattle.rules.specs.declared.answer.Size.{Size}
 use Rattle.rules.specs.declared.reader.Bits.{Bits}
-use Rattle.rules.specs.declared.v2.V2Hdr.{V2Hdr}
-use Rattle.rules.specs.declared.v2.V2Start.{V2Start}
-use Rattle.rules.specs.declared.v2.V2Row.{V2Row}
-use Rattle.rules.specs.declared.v2.V2Block.{V2Block}
 use Rattle.rules.specs.declared.v2.V2Block.the-variants.{Next, EarlyMotion, Outside, LongDifference}
+use Rattle.rules.specs.declared.v2.V2Block.{V2Block}
+use Rattle.rules.specs.declared.v2.V2Hdr.{V2Hdr}
+use Rattle.rules.specs.declared.v2.V2Row.{V2Row}
+use Rattle.rules.specs.declared.v2.V2Start.{V2Start}
 use Rattle.rules.specs.Frame.{cells, tabulate}
 use Rattle.rules.specs.Map.{v2-marks}
 use Rattle.rules.specs.V2.{header, aligned, fresh-row, fresh-mode, number, base, Block, read-block, Row, then, blocks, read-row, Frame, then-rows, rows, read-frame, Kind, base-cell, block-cells, apply, frame, top, sample-kind, decoded}
 use Rattle.rules.proofs.V2Bounds.{depth-most, ScaleAt, scale-starts, next-state, next-unrefused, next-motion, next-scale}
 use Rattle.v2.specs.declared.Place.{Place}
-use Rattle.v2.specs.Places.{Placed}
 use Rattle.v2.specs.Blocks.{Markable, written}
+use Rattle.v2.specs.Places.{Placed}
 use Rattle.v2.proofs.Fill.{left-suc, left-none}
 
 -- ── Blocks applied to samples and marks ──

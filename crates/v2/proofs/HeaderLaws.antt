@@ -1,8 +1,8 @@
 -- The header from its thirteen reads, and what opens a block, case by case: what a stage before gave is a variable with its
 -- equation.
-use mathlib.Core.Path.{_≡_}
 use mathlib.Core.Bool.{true, false, not, _&&_, cond}
 use mathlib.Core.List.{List}
+use mathlib.Core.Path.{_≡_}
 use Prim.Native.Nat.{ℕ, _+_, _%_, _^_, _<_, min}
 use native.Mathlib.Omega.{arith}
 use lib.Dec.{eqb, lit≤}

@@ -1,6 +1,6 @@
-use Rattle.v2.proofs.BaseLaws.{rows-room}
 use native.Mathlib.Omega.{arith}
 use borrow.Author.Needs.{needs}
+use Rattle.v2.proofs.BaseLaws.{rows-room}
 use Rattle.v2.proofs.Place.first.Statement.{statement}
 use Rattle.v2.proofs.Place.first.Tie as tie
 

@@ -1,6 +1,6 @@
 -- The test is the rule's.
-use borrow.Author.Tests.{eq-eqb, ne-eqb}
 use borrow.Author.Needs.{needs}
+use borrow.Author.Tests.{eq-eqb, ne-eqb}
 use Rattle.v2.proofs.base.along_from.Statement.{statement}
 use Rattle.v2.proofs.base.along_from.Tie as tie
 

@@ -1,8 +1,8 @@
-use Rattle.v2.proofs.BaseLaws.{reference-small, two-small, first-outside, second-outside}
-use native.Mathlib.Omega.{arith}
 use mathlib.Core.Bool.{Bool, cond}
-use mathlib.Core.Path.{_≡_, sym, ap, _∙_}
+use mathlib.Core.Path.{sym, ap, _∙_}
+use native.Mathlib.Omega.{arith}
 use borrow.Author.Needs.{needs}
+use Rattle.v2.proofs.BaseLaws.{reference-small, two-small, first-outside, second-outside}
 use Rattle.v2.proofs.base.any_outside.Statement.{statement}
 use Rattle.v2.proofs.base.any_outside.Tie as tie
 

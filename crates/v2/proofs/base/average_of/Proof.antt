@@ -1,6 +1,6 @@
 -- The sum of two samples and 1 has 17 bits.
-use Rattle.rules.specs.V2.{average}
 use borrow.Author.Needs.{needs}
+use Rattle.rules.specs.V2.{average}
 use Rattle.v2.proofs.base.average_of.Statement.{statement}
 use Rattle.v2.proofs.base.average_of.Tie as tie
 

@@ -1,14 +1,14 @@
 -- Motion 7 repeats; else no reference is outside, and the places on the two runs are the references.
-use Rattle.v2.proofs.BaseLaws.{unrefused, inside-each, runs, bases-7, bases-referred}
-use Rattle.rules.specs.V2.{any-strays}
-use borrow.Author.Tests.{ne-eqb}
-use denote.Ref.{now}
-use lib.ListN.{length}
-use native.Mathlib.Omega.{arith}
-use Prim.Native.Nat.{ℕ, _-_, _≤_, _<_}
 use mathlib.Core.Bool.{false}
-use mathlib.Core.Path.{_≡_, refl, ap}
+use mathlib.Core.Path.{_≡_, ap}
+use Prim.Native.Nat.{ℕ, _-_, _≤_}
+use native.Mathlib.Omega.{arith}
+use lib.ListN.{length}
+use denote.Ref.{now}
 use borrow.Author.Needs.{needs}
+use borrow.Author.Tests.{ne-eqb}
+use Rattle.rules.specs.V2.{any-strays}
+use Rattle.v2.proofs.BaseLaws.{unrefused, inside-each, runs, bases-7, bases-referred}
 use Rattle.v2.proofs.base.bases.Statement.{statement}
 use Rattle.v2.proofs.base.bases.Tie as tie
 

@@ -1,7 +1,7 @@
-use Rattle.rules.specs.V2.{base-cell, repeated}
-use borrow.Author.Tests.{eq-eqb, ne-eqb}
 use native.Mathlib.Omega.{arith}
 use borrow.Author.Needs.{needs}
+use borrow.Author.Tests.{eq-eqb, ne-eqb}
+use Rattle.rules.specs.V2.{base-cell, repeated}
 use Rattle.v2.proofs.base.before.Statement.{statement}
 use Rattle.v2.proofs.base.before.Tie as tie
 

@@ -1,6 +1,6 @@
 -- The two tests are the rule's.
-use borrow.Author.Tests.{lt-ltb, le-ltb}
 use borrow.Author.Needs.{needs}
+use borrow.Author.Tests.{lt-ltb, le-ltb}
 use Rattle.v2.proofs.base.leaves.Statement.{statement}
 use Rattle.v2.proofs.base.leaves.Tie as tie
 

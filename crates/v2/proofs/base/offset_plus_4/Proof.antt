@@ -1,13 +1,13 @@
 -- The table is the rule's, and 4 more than each of its numbers is 0 to 8.
-use Rattle.v2.proofs.BaseLaws.{offset-code}
-use Rattle.rules.proofs.V2Places.{offset-4, offset-most}
-use mir.ValLaws.{toZ-ofZ}
-use mir.Val.{SFits}
-use mir.Syntax.{w64}
-use lib.IntN.{pos}
-use native.Mathlib.Omega.{arith}
 use Prim.Native.Nat.{ℕ}
+use native.Mathlib.Omega.{arith}
+use lib.IntN.{pos}
+use mir.Syntax.{w64}
+use mir.Val.{SFits}
+use mir.ValLaws.{toZ-ofZ}
 use borrow.Author.Needs.{needs}
+use Rattle.rules.proofs.V2Places.{offset-4, offset-most}
+use Rattle.v2.proofs.BaseLaws.{offset-code}
 use Rattle.v2.proofs.base.offset_plus_4.Statement.{statement}
 use Rattle.v2.proofs.base.offset_plus_4.Tie as tie
 

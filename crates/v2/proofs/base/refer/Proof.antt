@@ -1,13 +1,13 @@
-use Rattle.v2.proofs.Fill.{fill-more, fill-all}
-use Rattle.v2.proofs.BaseLaws.{along-inside}
-use Rattle.v2.specs.Places.{along, cell-from}
-use Rattle.rules.specs.V2.{sample-kind}
-use Rattle.rules.specs.Frame.{tabulate}
-use borrow.Author.Needs.{needs}
-use lib.ListN.{length, take, length-set}
-use native.Mathlib.Omega.{arith}
-use Prim.Native.Nat.{_-_, _≤_}
 use mathlib.Core.Path.{_≡_, refl}
+use Prim.Native.Nat.{_-_, _≤_}
+use native.Mathlib.Omega.{arith}
+use lib.ListN.{length, take, length-set}
+use borrow.Author.Needs.{needs}
+use Rattle.rules.specs.Frame.{tabulate}
+use Rattle.rules.specs.V2.{sample-kind}
+use Rattle.v2.specs.Places.{along, cell-from}
+use Rattle.v2.proofs.BaseLaws.{along-inside}
+use Rattle.v2.proofs.Fill.{fill-more, fill-all}
 use Rattle.v2.proofs.base.refer.Statement.{statement}
 use Rattle.v2.proofs.base.refer.Tie as tie
 

@@ -1,9 +1,9 @@
 -- Rows and columns within the limits keep every sum small.
-use Rattle.v2.proofs.BaseLaws.{rows-room}
-use Rattle.rules.proofs.V2Places.{offset-4, offset-most, reference-5}
-use borrow.Author.Tests.{eq-eqb, ne-eqb}
 use native.Mathlib.Omega.{arith}
 use borrow.Author.Needs.{needs}
+use borrow.Author.Tests.{eq-eqb, ne-eqb}
+use Rattle.rules.proofs.V2Places.{offset-most, reference-5}
+use Rattle.v2.proofs.BaseLaws.{rows-room}
 use Rattle.v2.proofs.base.reference_plus_5.Statement.{statement}
 use Rattle.v2.proofs.base.reference_plus_5.Tie as tie
 

@@ -1,8 +1,8 @@
 -- Each way out is one case of the rule.
-use Rattle.v2.proofs.BaseLaws.{refusal-7, refusal-5, refusal-6, refusal-none}
-use borrow.Author.Tests.{ne-eqb}
 use mathlib.Core.Path.{sym, _∙_}
 use borrow.Author.Needs.{needs}
+use borrow.Author.Tests.{ne-eqb}
+use Rattle.v2.proofs.BaseLaws.{refusal-7, refusal-5, refusal-6, refusal-none}
 use Rattle.v2.proofs.base.refusal_of.Statement.{statement}
 use Rattle.v2.proofs.base.refusal_of.Tie as tie
 

@@ -1,7 +1,7 @@
 -- Even samples repeat the first of the two before the block, odd ones the second.
-use Rattle.rules.specs.V2.{base-cell, repeated}
-use Rattle.rules.specs.Frame.{tabulate}
 use borrow.Author.Needs.{needs}
+use Rattle.rules.specs.Frame.{tabulate}
+use Rattle.rules.specs.V2.{base-cell, repeated}
 use Rattle.v2.proofs.base.repeat.Statement.{statement}
 use Rattle.v2.proofs.base.repeat.Tie as tie
 

@@ -1,14 +1,14 @@
 -- Each way out is one case of the rule: the laws of a block take its scale, its motion and the base's refusal as variables.
-use Rattle.v2.proofs.BlockLaws.{scale-fits, ready-scale, own-scale, own-motion, kept-early, kept-outside, block-early, block-outside, block-outcome, block-mode, block-samples, refusal-zero}
-use Rattle.v2.specs.Blocks.{written}
-use borrow.Author.Tests.{ne-eqb}
-use denote.Ref.{now}
-use mir.ValLaws.{toZ-ofZ}
-use mir.Syntax.{w32}
-use Prim.Native.Nat.{ℕ}
 use mathlib.Core.List.{List}
 use mathlib.Core.Path.{refl, sym, ap, _∙_}
+use Prim.Native.Nat.{ℕ}
+use mir.Syntax.{w32}
+use mir.ValLaws.{toZ-ofZ}
+use denote.Ref.{now}
 use borrow.Author.Needs.{needs}
+use borrow.Author.Tests.{ne-eqb}
+use Rattle.v2.specs.Blocks.{written}
+use Rattle.v2.proofs.BlockLaws.{scale-fits, ready-scale, own-scale, own-motion, kept-early, kept-outside, block-early, block-outside, block-outcome, block-mode, block-samples, refusal-zero}
 use Rattle.v2.proofs.block.read_block.Statement.{statement}
 use Rattle.v2.proofs.block.read_block.Tie as tie
 

@@ -1,14 +1,11 @@
 -- No length is above 17, so that no difference leaves 17 bits.
-use Rattle.v2.proofs.BlockLaws.{tail-mode, tail-long, tail-next, tail-small, tail-samples, kept-long, scale-fits}
-use Rattle.rules.proofs.V2Bounds.{Between, between-abs, mag-abs, top-below}
-use lib.IntN.{ℤ}
-use mir.Val.{SFits}
-use denote.Ref.{now}
-use lib.Dec.{lit≤}
 use native.Mathlib.Omega.{arith}
-use mir.ValLaws.{toZ-ofZ}
 use mir.Syntax.{w32}
+use mir.ValLaws.{toZ-ofZ}
+use denote.Ref.{now}
 use borrow.Author.Needs.{needs}
+use Rattle.rules.proofs.V2Bounds.{top-below}
+use Rattle.v2.proofs.BlockLaws.{tail-mode, tail-long, tail-next, tail-small, tail-samples, kept-long, scale-fits}
 use Rattle.v2.proofs.block.read_tail.Statement.{statement}
 use Rattle.v2.proofs.block.read_tail.Tie as tie
 

@@ -1,12 +1,12 @@
 -- The loop's invariant: the differences from number k on come to what all sixteen come to.
-use Rattle.v2.proofs.LengthLaws.{difference-more, difference-end}
-use Rattle.rules.specs.V2.{differences-from}
-use borrow.Author.Needs.{needs}
-use mir.ValLaws.{toZ-ofZ}
-use mir.Syntax.{w32}
-use native.Mathlib.Omega.{arith}
-use Prim.Native.Nat.{_-_, _≤_}
 use mathlib.Core.Path.{_≡_, refl, sym, _∙_}
+use Prim.Native.Nat.{_-_, _≤_}
+use native.Mathlib.Omega.{arith}
+use mir.Syntax.{w32}
+use mir.ValLaws.{toZ-ofZ}
+use borrow.Author.Needs.{needs}
+use Rattle.rules.specs.V2.{differences-from}
+use Rattle.v2.proofs.LengthLaws.{difference-more, difference-end}
 use Rattle.v2.proofs.differences.block_differences.Statement.{statement}
 use Rattle.v2.proofs.differences.block_differences.Tie as tie
 

@@ -1,8 +1,8 @@
 -- The formula is the rule's, and its positions are below 16.
-use Rattle.rules.specs.V2.{position}
-use borrow.Author.Tests.{eq-eqb, ne-eqb}
 use native.Mathlib.Omega.{arith}
 use borrow.Author.Needs.{needs}
+use borrow.Author.Tests.{eq-eqb, ne-eqb}
+use Rattle.rules.specs.V2.{position}
 use Rattle.v2.proofs.differences.position_of.Statement.{statement}
 use Rattle.v2.proofs.differences.position_of.Tie as tie
 

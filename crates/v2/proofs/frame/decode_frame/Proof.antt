@@ -1,19 +1,18 @@
 -- Two invariants of one kind: the blocks left in the row come to what the row comes to, and the rows left to what the frame comes to, for samples and marks alike.
-use Rattle.v2.specs.Places.{Placed}
-use Rattle.rules.proofs.V2Places.{block-inside}
-use Rattle.rules.specs.Frame.{cells}
-use borrow.Author.Needs.{needs}
-use Rattle.v2.proofs.FrameLaws.{RowGoing, row-starts, row-ends, row-stops, row-goes, whole-row, refusal-number, FrameGoing, frame-starts, frame-ends, frame-refuses, frame-overruns, frame-goes, depth-is, markable, frame-is, samples-length}
-use Rattle.rules.specs.V2.{top, blocks, rows}
-use Rattle.rules.specs.declared.v2.V2Block.the-variants.{Next}
-use Rattle.rules.specs.declared.v2.V2Row.{V2Row}
-use Rattle.rules.specs.declared.reader.Bits.{Bits}
-use denote.Ref.{now}
-use lib.ListN.{length}
-use native.Mathlib.Omega.{arith}
-use Prim.Native.Nat.{ℕ, _+_, _-_, _*_, _/_, _≤_, _<_}
 use mathlib.Core.Logic.{⊎-elim}
 use mathlib.Core.Path.{_≡_, refl, sym, _∙_}
+use Prim.Native.Nat.{_+_, _-_, _*_, _/_, _≤_, _<_}
+use native.Mathlib.Omega.{arith}
+use lib.ListN.{length}
+use borrow.Author.Needs.{needs}
+use Rattle.rules.specs.declared.reader.Bits.{Bits}
+use Rattle.rules.specs.declared.v2.V2Block.the-variants.{Next}
+use Rattle.rules.specs.declared.v2.V2Row.{V2Row}
+use Rattle.rules.specs.Frame.{cells}
+use Rattle.rules.specs.V2.{top, blocks, rows}
+use Rattle.rules.proofs.V2Places.{block-inside}
+use Rattle.v2.specs.Places.{Placed}
+use Rattle.v2.proofs.FrameLaws.{RowGoing, row-starts, row-ends, row-stops, row-goes, whole-row, refusal-number, FrameGoing, frame-starts, frame-ends, frame-refuses, frame-overruns, frame-goes, depth-is, markable, frame-is, samples-length}
 use Rattle.v2.proofs.frame.decode_frame.Statement.{statement}
 use Rattle.v2.proofs.frame.decode_frame.Tie as tie
 

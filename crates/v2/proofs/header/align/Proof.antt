@@ -1,6 +1,6 @@
 -- The wrapping sum is the rule's sum modulo 2^64.
-use Rattle.rules.specs.V2.{aligned}
 use borrow.Author.Needs.{needs}
+use Rattle.rules.specs.V2.{aligned}
 use Rattle.v2.proofs.header.align.Statement.{statement}
 use Rattle.v2.proofs.header.align.Tie as tie
 

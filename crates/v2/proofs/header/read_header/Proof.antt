@@ -1,7 +1,7 @@
 -- Thirteen reads in a row: one law over their results as variables says that they are the header's fields.
-use Rattle.v2.proofs.HeaderLaws.{got-below, header-is}
 use native.Mathlib.Omega.{arith}
 use borrow.Author.Needs.{needs}
+use Rattle.v2.proofs.HeaderLaws.{got-below, header-is}
 use Rattle.v2.proofs.header.read_header.Statement.{statement}
 use Rattle.v2.proofs.header.read_header.Tie as tie
 

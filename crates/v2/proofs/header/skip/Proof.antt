@@ -1,7 +1,7 @@
 -- The state is that of the read.
-use Rattle.rules.specs.declared.reader.Got.{Got}
 use mathlib.Core.Path.{ap}
 use borrow.Author.Needs.{needs}
+use Rattle.rules.specs.declared.reader.Got.{Got}
 use Rattle.v2.proofs.header.skip.Statement.{statement}
 use Rattle.v2.proofs.header.skip.Tie as tie
 

@@ -1,11 +1,11 @@
 -- A depth is at most 16, so that the power loses nothing.
-use Rattle.rules.specs.V2.{top}
-use lib.Pow.{pow-lt, pow-pos}
-use native.Mathlib.Omega.{arith}
-use native.Mathlib.Nat.{one-mul, mod-eq-of-lt}
+use mathlib.Core.Path.{_≡_}
 use Prim.Native.Nat.{ℕ, _*_, _%_, _^_, _<_}
-use mathlib.Core.Path.{_≡_, _∙_}
+use native.Mathlib.Nat.{one-mul, mod-eq-of-lt}
+use native.Mathlib.Omega.{arith}
+use lib.Pow.{pow-lt, pow-pos}
 use borrow.Author.Needs.{needs}
+use Rattle.rules.specs.V2.{top}
 use Rattle.v2.proofs.header.top_of.Statement.{statement}
 use Rattle.v2.proofs.header.top_of.Tie as tie
 

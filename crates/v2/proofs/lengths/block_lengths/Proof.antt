@@ -1,8 +1,8 @@
 -- The lengths follow the bit, or are all 0.
-use Rattle.v2.proofs.LengthLaws.{lengths-follow, lengths-zero}
-use borrow.Author.Tests.{ne-eqb}
 use mathlib.Core.Path.{sym, _∙_}
 use borrow.Author.Needs.{needs}
+use borrow.Author.Tests.{ne-eqb}
+use Rattle.v2.proofs.LengthLaws.{lengths-follow, lengths-zero}
 use Rattle.v2.proofs.lengths.block_lengths.Statement.{statement}
 use Rattle.v2.proofs.lengths.block_lengths.Tie as tie
 

@@ -1,8 +1,8 @@
 -- The formula is the rule's, and its colours are below 3.
-use Rattle.rules.specs.V2.{colour}
-use borrow.Author.Tests.{eq-eqb, ne-eqb}
 use native.Mathlib.Omega.{arith}
 use borrow.Author.Needs.{needs}
+use borrow.Author.Tests.{eq-eqb, ne-eqb}
+use Rattle.rules.specs.V2.{colour}
 use Rattle.v2.proofs.lengths.colour_of.Statement.{statement}
 use Rattle.v2.proofs.lengths.colour_of.Tie as tie
 

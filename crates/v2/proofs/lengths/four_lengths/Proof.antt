@@ -1,10 +1,10 @@
-use Rattle.v2.proofs.LengthLaws.{length-goes-on, length-too-long, lengths-end, flagged-are, flag-below}
-use Rattle.rules.specs.V2.{lengths-from}
-use borrow.Author.Needs.{needs}
-use native.Mathlib.Omega.{arith}
-use Prim.Native.Nat.{_-_, _≤_}
 use mathlib.Core.Bool.{false}
 use mathlib.Core.Path.{_≡_, refl, sym, _∙_}
+use Prim.Native.Nat.{_-_, _≤_}
+use native.Mathlib.Omega.{arith}
+use borrow.Author.Needs.{needs}
+use Rattle.rules.specs.V2.{lengths-from}
+use Rattle.v2.proofs.LengthLaws.{length-goes-on, length-too-long, lengths-end, flagged-are, flag-below}
 use Rattle.v2.proofs.lengths.four_lengths.Statement.{statement}
 use Rattle.v2.proofs.lengths.four_lengths.Tie as tie
 

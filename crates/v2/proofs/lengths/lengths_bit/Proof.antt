@@ -1,7 +1,7 @@
 -- With the option no bit is read.
-use Rattle.v2.proofs.LengthLaws.{bit-none, bit-read}
 use mathlib.Core.Path.{sym, _∙_}
 use borrow.Author.Needs.{needs}
+use Rattle.v2.proofs.LengthLaws.{bit-none, bit-read}
 use Rattle.v2.proofs.lengths.lengths_bit.Statement.{statement}
 use Rattle.v2.proofs.lengths.lengths_bit.Tie as tie
 

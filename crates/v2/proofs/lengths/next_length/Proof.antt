@@ -1,7 +1,7 @@
-use Rattle.v2.proofs.LengthLaws.{length-read, length-stepped}
-use native.Mathlib.Omega.{arith}
 use mathlib.Core.Path.{sym, _∙_}
+use native.Mathlib.Omega.{arith}
 use borrow.Author.Needs.{needs}
+use Rattle.v2.proofs.LengthLaws.{length-read, length-stepped}
 use Rattle.v2.proofs.lengths.next_length.Statement.{statement}
 use Rattle.v2.proofs.lengths.next_length.Tie as tie
 

@@ -1,6 +1,6 @@
 -- Four reads of 2 bits in a row.
-use Rattle.v2.proofs.LengthLaws.{four-is}
 use borrow.Author.Needs.{needs}
+use Rattle.v2.proofs.LengthLaws.{four-is}
 use Rattle.v2.proofs.lengths.read_flags.Statement.{statement}
 use Rattle.v2.proofs.lengths.read_flags.Tie as tie
 

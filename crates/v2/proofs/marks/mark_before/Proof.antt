@@ -1,7 +1,7 @@
 -- At column 0 the sample is the stream's, whatever the header says; else it is the first or second before the block.
-use Rattle.rules.specs.V2.{base-cell, repeated}
-use borrow.Author.Tests.{eq-eqb, ne-eqb}
 use borrow.Author.Needs.{needs}
+use borrow.Author.Tests.{eq-eqb, ne-eqb}
+use Rattle.rules.specs.V2.{base-cell, repeated}
 use Rattle.v2.proofs.marks.mark_before.Statement.{statement}
 use Rattle.v2.proofs.marks.mark_before.Tie as tie
 

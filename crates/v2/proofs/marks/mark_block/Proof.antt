@@ -1,9 +1,9 @@
-use Rattle.rules.specs.Frame.{tabulate}
-use denote.Ref.{now}
-use Rattle.v2.proofs.Fill.{fill-length, empty-is, sets-same}
-use native.Mathlib.Omega.{arith}
 use mathlib.Core.Path.{refl}
+use native.Mathlib.Omega.{arith}
+use denote.Ref.{now}
 use borrow.Author.Needs.{needs}
+use Rattle.rules.specs.Frame.{tabulate}
+use Rattle.v2.proofs.Fill.{fill-length, empty-is, sets-same}
 use Rattle.v2.proofs.marks.mark_block.Statement.{statement}
 use Rattle.v2.proofs.marks.mark_block.Tie as tie
 

@@ -1,14 +1,14 @@
 -- The loop's invariant: the marks before i are in place.
-use Rattle.v2.proofs.Fill.{fill-more, fill-all}
-use Rattle.v2.proofs.BaseLaws.{along-inside}
-use Rattle.v2.specs.Places.{along, cell-from}
-use Rattle.rules.specs.Map.{v2-marks}
-use Rattle.rules.specs.Frame.{tabulate}
-use borrow.Author.Needs.{needs}
-use lib.ListN.{length, take, length-set}
-use native.Mathlib.Omega.{arith}
-use Prim.Native.Nat.{_-_, _≤_}
 use mathlib.Core.Path.{_≡_, refl}
+use Prim.Native.Nat.{_-_, _≤_}
+use native.Mathlib.Omega.{arith}
+use lib.ListN.{length, take, length-set}
+use borrow.Author.Needs.{needs}
+use Rattle.rules.specs.Frame.{tabulate}
+use Rattle.rules.specs.Map.{v2-marks}
+use Rattle.v2.specs.Places.{along, cell-from}
+use Rattle.v2.proofs.BaseLaws.{along-inside}
+use Rattle.v2.proofs.Fill.{fill-more, fill-all}
 use Rattle.v2.proofs.marks.refer_marks.Statement.{statement}
 use Rattle.v2.proofs.marks.refer_marks.Tie as tie
 

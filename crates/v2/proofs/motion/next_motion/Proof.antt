@@ -1,8 +1,8 @@
 -- One way for each case of the rule: by one bit, read, kept.
-use Rattle.v2.proofs.HeaderLaws.{motion-by-bit, motion-read, motion-kept}
-use borrow.Author.Tests.{ne-eqb}
 use mathlib.Core.Path.{sym, _∙_}
 use borrow.Author.Needs.{needs}
+use borrow.Author.Tests.{ne-eqb}
+use Rattle.v2.proofs.HeaderLaws.{motion-by-bit, motion-read, motion-kept}
 use Rattle.v2.proofs.motion.next_motion.Statement.{statement}
 use Rattle.v2.proofs.motion.next_motion.Tie as tie
 

@@ -1,19 +1,19 @@
-use Rattle.v2.proofs.Fill.{fill-more, fill-all}
-use Rattle.rules.proofs.V2Bounds.{Small}
-use Rattle.rules.proofs.Cells.{all-get}
-use Rattle.rules.specs.V2.{sample}
-use Rattle.rules.specs.Frame.{tabulate}
-use borrow.Author.Needs.{needs}
-use denote.Ref.{now}
-use mir.ValLaws.{toZ-ofZ}
-use mir.Val.{SFits, toZ}
-use mir.Syntax.{w32}
-use lib.ListN.{length, take, getD, length-set}
-use lib.IntN.{pos}
-use lib.Dec.{lit<}
-use native.Mathlib.Omega.{arith}
-use Prim.Native.Nat.{_-_, _≤_}
 use mathlib.Core.Path.{_≡_, refl}
+use Prim.Native.Nat.{_-_, _≤_}
+use native.Mathlib.Omega.{arith}
+use lib.Dec.{lit<}
+use lib.IntN.{pos}
+use lib.ListN.{length, take, getD, length-set}
+use mir.Syntax.{w32}
+use mir.Val.{SFits, toZ}
+use mir.ValLaws.{toZ-ofZ}
+use denote.Ref.{now}
+use borrow.Author.Needs.{needs}
+use Rattle.rules.specs.Frame.{tabulate}
+use Rattle.rules.specs.V2.{sample}
+use Rattle.rules.proofs.Cells.{all-get}
+use Rattle.rules.proofs.V2Bounds.{Small}
+use Rattle.v2.proofs.Fill.{fill-more, fill-all}
 use Rattle.v2.proofs.samples.build.Statement.{statement}
 use Rattle.v2.proofs.samples.build.Tie as tie
 

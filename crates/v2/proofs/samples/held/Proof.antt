@@ -1,8 +1,8 @@
 -- Below 0 it is 0; else the number itself, or top.
-use Rattle.v2.proofs.SampleLaws.{hold-negative, not-negative, hold-pos}
-use mir.ValLaws.{toZ-ofZ}
-use mir.Syntax.{w32}
 use native.Mathlib.Omega.{arith}
+use mir.Syntax.{w32}
+use mir.ValLaws.{toZ-ofZ}
+use Rattle.v2.proofs.SampleLaws.{hold-negative, not-negative, hold-pos}
 use Rattle.v2.proofs.samples.held.Statement.{statement}
 use Rattle.v2.proofs.samples.held.Tie as tie
 

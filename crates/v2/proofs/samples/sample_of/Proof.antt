@@ -1,12 +1,12 @@
-use Rattle.rules.proofs.V2Bounds.{value-fits}
-use Rattle.rules.specs.V2.{hold}
-use lib.IntN.{ℤ}
 use mathlib.Core.Path.{ap, _∙_}
-use Rattle.rules.proofs.V2Cells.{hold-most}
-use mir.ValLaws.{toZ-ofZ}
-use mir.Syntax.{w32}
 use native.Mathlib.Omega.{arith}
+use lib.IntN.{ℤ}
+use mir.Syntax.{w32}
+use mir.ValLaws.{toZ-ofZ}
 use borrow.Author.Needs.{needs}
+use Rattle.rules.specs.V2.{hold}
+use Rattle.rules.proofs.V2Bounds.{value-fits}
+use Rattle.rules.proofs.V2Cells.{hold-most}
 use Rattle.v2.proofs.samples.sample_of.Statement.{statement}
 use Rattle.v2.proofs.samples.sample_of.Tie as tie
 

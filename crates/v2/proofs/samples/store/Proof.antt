@@ -1,12 +1,12 @@
 -- The loop's invariant: the stores from i on come to what all sixteen come to.
-use Rattle.v2.proofs.Fill.{sets-more, sets-done}
-use borrow.Author.Needs.{needs}
-use lib.Seq.{sets}
-use lib.ListN.{length, drop, length-set}
-use native.Mathlib.Omega.{arith}
-use native.Mathlib.Nat.{add-zero}
-use Prim.Native.Nat.{_+_, _-_, _≤_}
 use mathlib.Core.Path.{_≡_, refl, sym, _∙_}
+use Prim.Native.Nat.{_+_, _-_, _≤_}
+use native.Mathlib.Nat.{add-zero}
+use native.Mathlib.Omega.{arith}
+use lib.ListN.{length, drop, length-set}
+use lib.Seq.{sets}
+use borrow.Author.Needs.{needs}
+use Rattle.v2.proofs.Fill.{sets-more, sets-done}
 use Rattle.v2.proofs.samples.store.Statement.{statement}
 use Rattle.v2.proofs.samples.store.Tie as tie
 

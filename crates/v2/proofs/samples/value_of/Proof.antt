@@ -1,11 +1,11 @@
 -- Each partial sum is within 32 signed bits, so that no step wraps.
-use Rattle.rules.specs.V2.{value}
-use mir.ValLaws.{toZ-ofZ}
-use mir.Syntax.{w32}
-use lib.IntN.{pos, _+ℤ_, _*ℤ_}
-use native.Mathlib.Omega.{arith}
 use mathlib.Core.Path.{refl}
+use native.Mathlib.Omega.{arith}
+use lib.IntN.{pos, _+ℤ_, _*ℤ_}
+use mir.Syntax.{w32}
+use mir.ValLaws.{toZ-ofZ}
 use borrow.Author.Needs.{needs}
+use Rattle.rules.specs.V2.{value}
 use Rattle.v2.proofs.samples.value_of.Statement.{statement}
 use Rattle.v2.proofs.samples.value_of.Tie as tie
 

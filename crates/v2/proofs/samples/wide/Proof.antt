@@ -1,8 +1,8 @@
 -- A sample keeps its bits.
-use borrow.Author.Tests.{lt-ltb}
-use native.Mathlib.Omega.{arith}
 use Prim.Native.Nat.{_^_}
+use native.Mathlib.Omega.{arith}
 use borrow.Author.Needs.{needs}
+use borrow.Author.Tests.{lt-ltb}
 use Rattle.v2.proofs.samples.wide.Statement.{statement}
 use Rattle.v2.proofs.samples.wide.Tie as tie
 

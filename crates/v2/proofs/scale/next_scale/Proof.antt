@@ -1,9 +1,9 @@
 -- A scale that passes a local is its own bits turned back.
-use Rattle.v2.proofs.HeaderLaws.{scale-read, scale-kept}
-use mir.ValLaws.{toZ-ofZ}
-use mir.Syntax.{w32}
 use mathlib.Core.Path.{sym, _∙_}
+use mir.Syntax.{w32}
+use mir.ValLaws.{toZ-ofZ}
 use borrow.Author.Needs.{needs}
+use Rattle.v2.proofs.HeaderLaws.{scale-read, scale-kept}
 use Rattle.v2.proofs.scale.next_scale.Statement.{statement}
 use Rattle.v2.proofs.scale.next_scale.Tie as tie
 

@@ -1,11 +1,10 @@
 -- The code is 3, or an index below 3 of the steps.
-use Rattle.v2.proofs.HeaderLaws.{got-below, step-fits, rescaled-set, rescaled-step}
-use borrow.Author.Tests.{ne-eqb}
-use mir.ValLaws.{toZ-ofZ}
-use mir.Syntax.{w32}
 use native.Mathlib.Omega.{arith}
-use mathlib.Core.Path.{_∙_}
+use mir.Syntax.{w32}
+use mir.ValLaws.{toZ-ofZ}
 use borrow.Author.Needs.{needs}
+use borrow.Author.Tests.{ne-eqb}
+use Rattle.v2.proofs.HeaderLaws.{got-below, step-fits, rescaled-set, rescaled-step}
 use Rattle.v2.proofs.scale.rescale.Statement.{statement}
 use Rattle.v2.proofs.scale.rescale.Tie as tie
 

@@ -1,7 +1,7 @@
 -- A number below 2^31 keeps its bits.
-use borrow.Author.Tests.{lt-ltb}
-use borrow.Author.Needs.{needs}
 use Prim.Native.Nat.{_^_}
+use borrow.Author.Needs.{needs}
+use borrow.Author.Tests.{lt-ltb}
 use Rattle.v2.proofs.scale.signed.Statement.{statement}
 use Rattle.v2.proofs.scale.signed.Tie as tie
 
