@@ -1,2 +1,4 @@
 pub mod HeadLaws
 pub mod BlockLaws
+pub mod CellLaws
+pub mod SampleLaws

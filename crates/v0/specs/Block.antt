@@ -1,8 +1,10 @@
--- A block of which every sample is read: what `read_block` gives.
-use Prim.Native.Nat.{ℕ}
+-- One block, by the definitions of its samples: what it does to the frame, and what it leaves of the row's state.
+use Prim.Native.Nat.{ℕ, _+_, _*_}
 use mathlib.Core.List.{List}
-use Rattle.rules.specs.V0.{head, order}
+use Rattle.rules.specs.V0.{Ops, head, samples, predictor, order}
 use Rattle.rules.specs.Phases.{residuals}
+use Rattle.rules.specs.declared.answer.Size.{Size}
+use Rattle.rules.specs.declared.reader.Bits.{Bits}
 use Rattle.rules.specs.declared.v0.V0Row.{V0Row}
 use Rattle.rules.specs.declared.v0.V0Head.{V0Head}
 use Rattle.v0.specs.declared.block.ReadBlock.{ReadBlock}
@@ -13,5 +15,18 @@ with-residuals s h =
     let x = residuals s (h .row .lengths) order (h .row .bits) in
     record { up = h .up; row = record { lengths = h .row .lengths; bits = x .bits }; residuals = x .values }
 
+-- A block of which every sample is read, as `read_block` gives it.
 unfoldable pub whole-block : List ℕ → V0Row → ReadBlock
 whole-block s st = with-residuals s (head s st)
+
+-- The samples `cs` of the block at a column of a row, after the block's head.
+abbrev pub samples-of : List ℕ → Size → ℕ → ℕ → V0Head → List ℕ → Bits → Ops
+samples-of s z row col h cs b = samples s (row * z .width + col) (h .row .lengths) (predictor z row col (h .up)) cs b
+
+-- What a block does, by the state of the row before it.
+unfoldable pub block-ops : List ℕ → Size → ℕ → ℕ → V0Row → Ops
+block-ops s z row col st = samples-of s z row col (head s st) order (head s st .row .bits)
+
+-- The row's state after it.
+unfoldable pub after-block : List ℕ → Size → ℕ → ℕ → V0Row → V0Row
+after-block s z row col st = record { lengths = head s st .row .lengths; bits = block-ops s z row col st .bits }

@@ -1,3 +1,5 @@
 // The direct V0 decoder from block to frame, by document 01's "V0 row state" and "The map".
 pub mod block;
+pub mod cells;
 pub mod head;
+pub mod sample;

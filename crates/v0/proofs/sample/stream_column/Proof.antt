@@ -1,0 +1,18 @@
+-- The order of the stream, tested at all sixteen places.
+use mathlib.Core.Path.{sym}
+use borrow.Author.Needs.{needs}
+use Rattle.v0.proofs.BlockLaws.{order-at}
+use Rattle.v0.proofs.sample.stream_column.Statement.{statement}
+use Rattle.v0.proofs.sample.stream_column.Tie as tie
+
+mul-result : tie.Need-mul-result
+mul-result c = search needs
+
+add-result : tie.Need-add-result
+add-result c = search needs
+
+returns : tie.Need-returns
+returns c = sym (order-at (c .args .k) (c .pre))
+
+pub stream-column-spec : {M : Type 1} → statement M
+stream-column-spec = tie.close (tie.spec mul-result add-result returns)

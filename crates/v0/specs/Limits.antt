@@ -1,0 +1,28 @@
+-- What a call lends, and where in the frame a row, a block or a sample lies.
+use Prim.Native.Nat.{ℕ, _+_, _*_, _%_, _≤_, _<_}
+use mathlib.Core.Path.{_≡_}
+use mathlib.Core.Logic.{_⊎_}
+use mathlib.Core.List.{List}
+use lib.ListN.{length}
+use Rattle.rules.specs.Frame.{cells}
+use Rattle.rules.specs.declared.answer.Size.{Size}
+
+-- A map is lent whole, or not at all: then it is a frame of no cells, to which every rule does nothing.
+abbrev pub Whole : Size → List ℕ → Type 0
+Whole z map = (length map ≡ cells z) ⊎ (length map ≡ 0)
+
+-- What a call of the decoder is lent, once refusals 1, 3 and 4 are passed.
+pub record Lends (z : Size) (offsets out map : List ℕ) : Type 0 where
+  pub width : z .width ≤ 16_384
+  pub height : z .height ≤ 16_384
+  pub offsets-enough : z .height ≤ length offsets
+  pub samples-lent : length out ≡ cells z
+  pub map-lent : Whole z map
+
+-- The block at a column of a row that the frame has.
+pub record InFrame (z : Size) (row col : ℕ) : Type 0 where
+  pub width : z .width ≤ 16_384
+  pub height : z .height ≤ 16_384
+  pub row-in : row < z .height
+  pub col-in : col < z .width
+  pub block : col % 16 ≡ 0
