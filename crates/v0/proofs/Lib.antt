@@ -2,3 +2,4 @@ pub mod HeadLaws
 pub mod BlockLaws
 pub mod CellLaws
 pub mod SampleLaws
+pub mod InnerLaws

@@ -1,10 +1,13 @@
 -- One block, by the definitions of its samples: what it does to the frame, and what it leaves of the row's state.
-use Prim.Native.Nat.{ℕ, _+_, _*_}
-use mathlib.Core.List.{List}
-use Rattle.rules.specs.V0.{Ops, head, samples, predictor, order}
+use Prim.Native.Nat.{ℕ, _+_, _-_, _*_}
+use mathlib.Core.Bool.{Bool, cond}
+use mathlib.Core.List.{List, [], _∷_}
+use Rattle.rules.specs.V0.{Ops, head, samples, predictor, order, rows-up, columns-back}
 use Rattle.rules.specs.Phases.{residuals}
 use Rattle.rules.specs.declared.answer.Size.{Size}
 use Rattle.rules.specs.declared.reader.Bits.{Bits}
+use Rattle.rules.specs.declared.v0.Predictor.the-variants.{Sample}
+use Rattle.rules.specs.declared.v0.V0Op.{V0Op}
 use Rattle.rules.specs.declared.v0.V0Row.{V0Row}
 use Rattle.rules.specs.declared.v0.V0Head.{V0Head}
 use Rattle.v0.specs.declared.block.ReadBlock.{ReadBlock}
@@ -30,3 +33,16 @@ block-ops s z row col st = samples-of s z row col (head s st) order (head s st .
 -- The row's state after it.
 unfoldable pub after-block : List ℕ → Size → ℕ → ℕ → V0Row → V0Row
 after-block s z row col st = record { lengths = head s st .row .lengths; bits = block-ops s z row col st .bits }
+
+-- ── An inner block ──
+
+-- Where sample c predicts from, by the place of the block's first sample: rows or columns before it.
+unfoldable pub source-of : ℕ → ℕ → Bool → ℕ → ℕ
+source-of w base up c = cond up (base + c - rows-up c * w) (base - columns-back c)
+
+-- The operations on the samples `cs` by their residuals `vs`: none is skipped, and none takes 128.
+unfoldable pub inner-ops : ℕ → ℕ → Bool → List ℕ → List ℕ → List V0Op
+inner-ops w base up [] vs = []
+inner-ops w base up (c ∷ cs) [] = []
+inner-ops w base up (c ∷ cs) (v ∷ vs) =
+    record { place = base + c; predictor = Sample (source-of w base up c); residual = v } ∷ inner-ops w base up cs vs

@@ -26,3 +26,16 @@ pub record InFrame (z : Size) (row col : ℕ) : Type 0 where
   pub row-in : row < z .height
   pub col-in : col < z .width
   pub block : col % 16 ≡ 0
+
+-- From row 2 on, after column 0 and inside the row: every sample of such a block predicts from a sample that exists.
+pub record Inner (z : Size) (row col : ℕ) : Type 0 where
+  pub frame : InFrame z row col
+  pub late : 2 ≤ row
+  pub after : 0 < col
+  pub inside : col + 16 ≤ z .width
+
+-- A block at `base` in cells of a row length w: it lies inside them, with two rows and two columns before it.
+pub record Inside (w base : ℕ) (f : List ℕ) : Type 0 where
+  pub rows : 2 * w ≤ base
+  pub columns : 2 ≤ base
+  pub room : base + 16 ≤ length f

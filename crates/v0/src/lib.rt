@@ -2,4 +2,5 @@
 pub mod block;
 pub mod cells;
 pub mod head;
+pub mod inner;
 pub mod sample;

@@ -33,7 +33,7 @@ fn residual_bits(from: Predictor, length: i32) -> u32
 // The column in its block of sample k of the stream: evens first, then odds.
 pub fn stream_column(k: usize) -> usize
     requires { ⌜ k < 16 ⌝ }
-    ensures { λ r. ⌜ r ≡ getD V0.order k 0 ⌝ }
+    ensures { λ r. ⌜ (r ≡ getD V0.order k 0) × (r < 16) ⌝ }
 {
     2 * (k % 8) + k / 8
 }

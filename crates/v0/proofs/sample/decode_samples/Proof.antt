@@ -1,8 +1,7 @@
 -- What is left from sample k on comes to the whole block.
-use Prim.Native.Nat.{_<_, _-_}
+use Prim.Native.Nat.{_-_}
 use borrow.Author.Needs.{needs}
 use Rattle.v0.proofs.SampleLaws.{Sampling, sampling-begun, sampling-on, sampled}
-use Rattle.v0.proofs.BlockLaws.{order-below}
 use Rattle.v0.proofs.sample.decode_samples.Statement.{statement}
 use Rattle.v0.proofs.sample.decode_samples.Tie as tie
 
@@ -19,7 +18,7 @@ stream-column-requires : tie.Need-stream-column-requires Inv-loop μ-loop
 stream-column-requires c κs = search needs
 
 decode-sample-requires : tie.Need-decode-sample-requires Inv-loop μ-loop
-decode-sample-requires c κs = let k = c .before .before .before .before .loop .k in let l : k < 16 = search needs in (c .before .before .before .before .before .before .before .before .before .before .pre, rw (c .before .before .stream-column .ensures) (order-below k l))
+decode-sample-requires c κs = (c .before .before .before .before .before .before .before .before .before .before .pre, c .before .before .stream-column .ensures .1)
 
 add-k : tie.Need-add-k Inv-loop μ-loop
 add-k c = search needs
@@ -28,7 +27,7 @@ loop-less : tie.Need-loop-less Inv-loop μ-loop
 loop-less c = search needs
 
 loop-again : tie.Need-loop-again Inv-loop μ-loop
-loop-again c = let d = c .before .before .before .before .decode-sample .ensures in sampling-on _ (c .before .before .before .before .before .before .before .before .before .before .before .before .before .before .before .args .size) _ _ (c .before .before .before .before .before .before .before .before .before .before .before .before .before .before .before .args .head) _ _ _ _ _ _ _ _ _ _ _ (search needs) (c .before .before .before .before .before .before .before .stream-column .ensures) (d .0) (d .1 .0) (d .1 .1) (c .before .before .before .before .before .before .before .before .before .loop .inv)
+loop-again c = let d = c .before .before .before .before .decode-sample .ensures in sampling-on _ (c .before .before .before .before .before .before .before .before .before .before .before .before .before .before .before .args .size) _ _ (c .before .before .before .before .before .before .before .before .before .before .before .before .before .before .before .args .head) _ _ _ _ _ _ _ _ _ _ _ (search needs) (c .before .before .before .before .before .before .before .stream-column .ensures .0) (d .0) (d .1 .0) (d .1 .1) (c .before .before .before .before .before .before .before .before .before .loop .inv)
 
 same-length : tie.Need-same-length Inv-loop μ-loop
 same-length c = search needs

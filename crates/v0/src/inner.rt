@@ -1,0 +1,89 @@
+// An inner block: from row 2 on, after column 0 and inside its row nothing is skipped, so that all residuals are read in one go
+// and then added to the predictors, in the order of the stream.
+ghost use mathlib.Core.Path.{_≡_};
+ghost use Prim.Native.Nat.{_+_, _*_, _≤_, _<_};
+ghost use lib.ListN.{length, replicate};
+ghost use Rattle.rules.specs.V0 as V0;
+ghost use Rattle.rules.specs.Frame.{cells};
+ghost use Rattle.rules.specs.Map.{v0-marks};
+ghost use Rattle.v0.specs.Lengths.{Within, furthest};
+ghost use Rattle.v0.specs.Limits.{Whole, Inner, Inside};
+ghost use Rattle.v0.specs.Block.{source-of, inner-ops, block-ops, after-block};
+use super::block::read_block;
+use super::sample::stream_column;
+use rules::Size;
+use rules::V0Row;
+
+// Where sample c predicts from.
+fn source(w: usize, base: usize, up: bool, c: usize) -> usize
+    requires { ⌜ (2 * w ≤ base) × ((2 ≤ base) × ((base < 1_000_000_000) × (c < 16))) ⌝ }
+    ensures { λ r. ⌜ (r ≡ source-of w base up c) × (r < base + 16) ⌝ }
+{
+    if up {
+        return base + c - (1 + c % 2) * w;
+    }
+    base - (2 - c % 2)
+}
+
+// The samples of a block at `base`.
+fn put_inner(out: &mut [u16], w: usize, base: usize, up: bool, residuals: [u16; 16])
+    requires { ⌜ Inside w base (now out) × (base < 1_000_000_000) ⌝ }
+    ensures { λ _. ⌜ now (out .exit) ≡ V0.apply V0.sample-kind (inner-ops w base up V0.order residuals) (now (out .entry)) ⌝ }
+{
+    let mut k: usize = 0;
+    while k < V0Row::BLOCK {
+        let c = stream_column(k);
+        let p = source(w, base, up, c);
+        out[base + c] = std::num::wrapping_add_u16(out[p], residuals[k]);
+        k += 1;
+    }
+}
+
+// Its marks: no residual changes one.
+fn mark_inner(map: &mut [u8], w: usize, base: usize, up: bool)
+    requires { ⌜ Inside w base (now map) × (base < 1_000_000_000) ⌝ }
+    ensures { λ _. ⌜ now (map .exit) ≡ V0.apply v0-marks (inner-ops w base up V0.order (replicate 16 0)) (now (map .entry)) ⌝ }
+{
+    let mut k: usize = 0;
+    while k < V0Row::BLOCK {
+        let c = stream_column(k);
+        let p = source(w, base, up, c);
+        map[base + c] = map[p];
+        k += 1;
+    }
+}
+
+// The marks of a block, where a map is lent.
+fn mark_block(map: &mut [u8], size: Size, row: usize, col: usize, up: bool)
+    requires { ⌜ Inner size row col × Whole size (now map) ⌝ }
+    ensures { λ _. ⌜ now (map .exit) ≡ V0.apply v0-marks (inner-ops (size .width) (row * size .width + col) up V0.order (replicate 16 0)) (now (map .entry)) ⌝ }
+{
+    if map.len() == 0 {
+        return;
+    }
+    let w = size.width;
+    mark_inner(map, w, row * w + col, up);
+}
+
+// An inner block.
+pub fn decode_inner(
+    src: &[u8],
+    size: Size,
+    row: usize,
+    col: usize,
+    state: V0Row,
+    out: &mut [u16],
+    map: &mut [u8],
+) -> V0Row
+    requires { ⌜ Inner size row col × (Within furthest (state .lengths) × ((length (now out) ≡ cells size) × Whole size (now map))) ⌝ }
+    ensures { λ r. ⌜ r ≡ after-block (now (src .entry)) size row col state ⌝ }
+    ensures { λ _. ⌜ now (out .exit) ≡ V0.apply V0.sample-kind (block-ops (now (src .entry)) size row col state .ops) (now (out .entry)) ⌝ }
+    ensures { λ _. ⌜ now (map .exit) ≡ V0.apply v0-marks (block-ops (now (src .entry)) size row col state .ops) (now (map .entry)) ⌝ }
+{
+    let x = read_block(src, state);
+    let residuals = x.residuals;
+    let w = size.width;
+    put_inner(out, w, row * w + col, x.up, residuals);
+    mark_block(map, size, row, col, x.up);
+    x.row
+}
