@@ -1,2 +1,3 @@
+pub mod PredictionLaws
 pub mod ResidualLaws
 pub mod RowsLaws
