@@ -3,3 +3,6 @@ pub mod BlockLaws
 pub mod CellLaws
 pub mod SampleLaws
 pub mod InnerLaws
+pub mod RowLaws
+pub mod ExchangeLaws
+pub mod FrameLaws

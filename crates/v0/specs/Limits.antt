@@ -39,3 +39,28 @@ pub record Inside (w base : ℕ) (f : List ℕ) : Type 0 where
   pub rows : 2 * w ≤ base
   pub columns : 2 ≤ base
   pub room : base + 16 ≤ length f
+
+-- A row of a frame that is lent, with its map or without.
+pub record InRow (z : Size) (row : ℕ) (out map : List ℕ) : Type 0 where
+  pub width : z .width ≤ 16_384
+  pub height : z .height ≤ 16_384
+  pub row-in : row < z .height
+  pub samples-lent : length out ≡ cells z
+  pub map-lent : Whole z map
+
+-- Two rows that lie in a frame of row length w.
+pub record InPair (w row : ℕ) (f : List ℕ) : Type 0 where
+  pub width : w ≤ 16_384
+  pub row-in : row < 16_384
+  pub inside : (row + 2) * w ≤ length f
+
+-- A whole frame; and a map of one, which may not be lent.
+pub record Framed (z : Size) (f : List ℕ) : Type 0 where
+  pub width : z .width ≤ 16_384
+  pub height : z .height ≤ 16_384
+  pub lent : length f ≡ cells z
+
+pub record MapFramed (z : Size) (map : List ℕ) : Type 0 where
+  pub width : z .width ≤ 16_384
+  pub height : z .height ≤ 16_384
+  pub lent : Whole z map
