@@ -33,17 +33,17 @@ pub when-false : (t : Bool) (a b : ℕ) → t ≡ false → b ≡ cond t a b
 when-false t a b e = rw e
 
 module _ (w row col : ℕ) (up : Bool) (c : ℕ) where
-  pub late-constant : up ≡ false → col ≡ 0 → Constant ≡ late-predictor w row col up c
+  pub late-constant : up ≡ false → col ≤ 0 → Constant ≡ late-predictor w row col up c
   unfolding late-predictor
-  late-constant e q = rw (e, q)
+  late-constant e q = let first : col ≡ 0 = omega arith in rw (e, first)
 
   pub late-up : (p : ℕ) → up ≡ true → p ≡ source-of w row col up c → Sample p ≡ late-predictor w row col up c
   unfolding late-predictor
   late-up p e q = rw (q, e)
 
-  pub late-after : (p : ℕ) → (col ≡ 0 → ⊥) → p ≡ source-of w row col up c → Sample p ≡ late-predictor w row col up c
+  pub late-after : (p : ℕ) → 0 < col → p ≡ source-of w row col up c → Sample p ≡ late-predictor w row col up c
   unfolding late-predictor
-  late-after p n q = rw (q, ne-eqb col 0 n) (go up)
+  late-after p after q = rw (q, ne-eqb col 0 (λ e. omega arith)) (go up)
     where
       go : (t : Bool) → Sample (source-of w row col t c)
           ≡ cond t (Sample ((row - rows-up c) * w + col + c)) (Sample (row * w + col - columns-back c))

@@ -8,7 +8,7 @@ ghost use lib.ListN.{length, take, drop};
 ghost use Rattle.rules.specs.V0.{order, blocks-in};
 ghost use Rattle.rules.specs.Phases.{late-predictor, predict-samples, predict-blocks, phase-two, sample-stage};
 ghost use Rattle.rules.specs.Map.{mark-stage};
-ghost use Rattle.v0_phases.specs.Lent.{LateRow, PhaseLent, MapLent};
+ghost use Rattle.v0_phases.specs.Lent.{LateSample, LateRow, PhaseLent, MapLent};
 use rules::Predictor;
 use rules::Size;
 use rules::V0Row;
@@ -18,7 +18,7 @@ use v0::sample::stream_column;
 
 // The place that sample c of the block at a column predicts from, unless it takes 128.
 fn source(w: usize, row: usize, col: usize, up: bool, c: usize) -> usize
-    requires { ⌜ (w ≤ 16_384) × ((2 ≤ row) × ((row < 16_384) × ((col < w) × (c < 16)))) ⌝ }
+    requires { ⌜ LateSample w row col c ⌝ }
     ensures { λ r. ⌜ r ≡ cond up ((row - (1 + c % 2)) * w + col + c) (row * w + col - (2 - c % 2)) ⌝ }
 {
     if up {
@@ -27,17 +27,18 @@ fn source(w: usize, row: usize, col: usize, up: bool, c: usize) -> usize
     row * w + col - (2 - c % 2)
 }
 
+// Where sample c predicts from.
 fn predictor(w: usize, row: usize, col: usize, up: bool, c: usize) -> Predictor
-    requires { ⌜ (w ≤ 16_384) × ((2 ≤ row) × ((row < 16_384) × ((col < w) × (c < 16)))) ⌝ }
+    requires { ⌜ LateSample w row col c ⌝ }
     ensures { λ r. ⌜ r ≡ late-predictor w row col up c ⌝ }
 {
     if up {
         return Predictor::Sample(source(w, row, col, up, c));
     }
-    if col == 0 {
-        return Predictor::Constant;
+    if 0 < col {
+        return Predictor::Sample(source(w, row, col, up, c));
     }
-    Predictor::Sample(source(w, row, col, up, c))
+    Predictor::Constant
 }
 
 // Sample c of a block, if it lies within the row.
@@ -82,6 +83,7 @@ fn add_inner(out: &mut [u16], w: usize, row: usize, col: usize, up: bool)
     }
 }
 
+// The samples of a block.
 fn add_block(out: &mut [u16], w: usize, row: usize, col: usize, up: bool)
     requires { ⌜ LateRow w row (now out) × (col < w) ⌝ }
     ensures { λ _. ⌜ now (out .exit) ≡ predict-samples sample-stage w row col up order (now (out .entry)) ⌝ }
@@ -164,6 +166,7 @@ fn mark_inner(map: &mut [u8], w: usize, row: usize, col: usize, up: bool)
     }
 }
 
+// The marks of a block.
 fn mark_block(map: &mut [u8], w: usize, row: usize, col: usize, up: bool)
     requires { ⌜ LateRow w row (now map) × (col < w) ⌝ }
     ensures { λ _. ⌜ now (map .exit) ≡ predict-samples mark-stage w row col up order (now (map .entry)) ⌝ }

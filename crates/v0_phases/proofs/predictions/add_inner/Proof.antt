@@ -65,7 +65,7 @@ loop-again c =
     let p = c .before .before .before .before .before .before .before .before .pre in
     let h = c .before .before .before .before .stream-column .ensures in
     predicting-on _ _ _ _ _ _ _ _ _ _ (search needs) (length-set (c .before .before .before .before .before .before .loop .out) _ _) (h .0)
-    (one-inner sample-stage _ _ _ _ _ _ _ _ (omega (arith, h .1, p .1 .1)) (late-after _ _ _ _ _ _ (λ e. omega (arith, p .1 .0)) (c .before .before .before .source .ensures)) (c .wrapping-add-u16 .ensures))
+    (one-inner sample-stage _ _ _ _ _ _ _ _ (omega (arith, h .1, p .1 .1)) (late-after _ _ _ _ _ _ (p .1 .0) (c .before .before .before .source .ensures)) (c .wrapping-add-u16 .ensures))
     (c .before .before .before .before .before .before .loop .inv)
 
 same-length : tie.Need-same-length Inv-loop μ-loop
