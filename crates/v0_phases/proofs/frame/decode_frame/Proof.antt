@@ -10,13 +10,29 @@ head-rows-requires : tie.Need-head-rows-requires
 head-rows-requires c κs = search needs
 
 decode-rows-requires : tie.Need-decode-rows-requires
-decode-rows-requires c κs = search needs
+decode-rows-requires c κs = (c .before .before .before .before .before .before .before .before .pre .frame, omega (arith, c .before .before .head-rows .ensures))
 
 parse-rows-requires : tie.Need-parse-rows-requires
-parse-rows-requires c κs = search needs
+parse-rows-requires c κs =
+    let p = c .before .before .before .before .before .before .before .before .before .before .before .before .before .before .before .pre in (
+      record {
+        width = p .frame .width;
+        height = p .frame .height;
+        cells-lent = c .before .before .before .before .before .before .decode-rows .kept .1 .1 .1 .1 .0 ∙ p .frame .samples-lent;
+        directions-lent = p .directions-lent;
+      },
+      p .frame .offsets-enough,
+    )
 
 add-rows-requires : tie.Need-add-rows-requires
-add-rows-requires c κs = search needs
+add-rows-requires c κs =
+    let p = c .before .before .before .before .before .before .before .before .before .before .before .before .before .before .before .before .before .before .before .before .before .before .pre in
+    record {
+      width = p .frame .width;
+      height = p .frame .height;
+      cells-lent = c .before .before .before .before .before .before .parse-rows .kept .1 .1 .1 .0 ∙ c .before .before .before .before .before .before .before .before .before .before .before .before .before .decode-rows .kept .1 .1 .1 .1 .0 ∙ p .frame .samples-lent;
+      directions-lent = omega (arith, c .before .before .before .before .before .before .parse-rows .kept .1 .1 .1 .1 .0, p .directions-lent);
+    }
 
 mark-lent-requires : tie.Need-mark-lent-requires
 mark-lent-requires c κs =
@@ -29,7 +45,17 @@ mark-lent-requires c κs =
     }
 
 exchange-requires : tie.Need-exchange-requires
-exchange-requires c κs = search needs
+exchange-requires c κs =
+    let p = c .before .before .before .before .before .before .before .before .before .before .before .before .before .before .before .before .before .before .before .before .before .before .before .before .before .before .before .before .before .before .before .pre in
+    record {
+      width = p .frame .width;
+      height = p .frame .height;
+      lent =
+          c .before .before .before .before .before .before .before .before .add-rows .kept .0
+          ∙ c .before .before .before .before .before .before .before .before .before .before .before .before .before .before .before .parse-rows .kept .1 .1 .1 .0
+          ∙ c .before .before .before .before .before .before .before .before .before .before .before .before .before .before .before .before .before .before .before .before .before .before .decode-rows .kept .1 .1 .1 .1 .0
+          ∙ p .frame .samples-lent;
+    }
 
 exchange-marks-requires : tie.Need-exchange-marks-requires
 exchange-marks-requires c κs =
