@@ -1,0 +1,4 @@
+pub mod FrameLaws
+pub mod PredictionLaws
+pub mod ResidualLaws
+pub mod RowsLaws

@@ -1,0 +1,105 @@
+-- Each step's ensures in the order of the rules; the directions that phase two reads are those that phase one left.
+use mathlib.Core.Path.{_∙_}
+use native.Mathlib.Omega.{arith}
+use borrow.Author.Needs.{needs}
+use Rattle.v0_phases.proofs.FrameLaws.{whole-kept, samples-done, marks-done, directions-done}
+use Rattle.v0_phases.proofs.frame.decode_frame.Statement.{statement}
+use Rattle.v0_phases.proofs.frame.decode_frame.Tie as tie
+
+head-rows-requires : tie.Need-head-rows-requires
+head-rows-requires c κs = search needs
+
+decode-rows-requires : tie.Need-decode-rows-requires
+decode-rows-requires c κs = (c .before .before .before .before .before .before .before .before .pre .frame, omega (arith, c .before .before .head-rows .ensures))
+
+parse-rows-requires : tie.Need-parse-rows-requires
+parse-rows-requires c κs =
+    let p = c .before .before .before .before .before .before .before .before .before .before .before .before .before .before .before .pre in (
+      record {
+        width = p .frame .width;
+        height = p .frame .height;
+        cells-lent = c .before .before .before .before .before .before .decode-rows .kept .1 .1 .1 .1 .0 ∙ p .frame .samples-lent;
+        directions-lent = p .directions-lent;
+      },
+      p .frame .offsets-enough,
+    )
+
+add-rows-requires : tie.Need-add-rows-requires
+add-rows-requires c κs =
+    let p = c .before .before .before .before .before .before .before .before .before .before .before .before .before .before .before .before .before .before .before .before .before .before .pre in
+    record {
+      width = p .frame .width;
+      height = p .frame .height;
+      cells-lent = c .before .before .before .before .before .before .parse-rows .kept .1 .1 .1 .0 ∙ c .before .before .before .before .before .before .before .before .before .before .before .before .before .decode-rows .kept .1 .1 .1 .1 .0 ∙ p .frame .samples-lent;
+      directions-lent = omega (arith, c .before .before .before .before .before .before .parse-rows .kept .1 .1 .1 .1 .0, p .directions-lent);
+    }
+
+mark-lent-requires : tie.Need-mark-lent-requires
+mark-lent-requires c κs =
+    let p = c .before .before .before .before .before .before .before .before .before .before .before .before .before .before .before .before .before .before .before .before .before .before .before .before .before .before .before .pre in
+    record {
+      width = p .frame .width;
+      height = p .frame .height;
+      map-lent = whole-kept (c .before .before .before .before .before .before .before .before .before .before .before .before .before .before .before .before .before .before .before .before .before .before .before .before .before .before .before .args .size) (c .before .before .before .before .before .before .before .before .before .before .before .before .before .before .before .before .before .before .decode-rows .kept .1 .1 .1 .1 .1 .0) (p .frame .map-lent);
+      directions-lent = omega (arith, c .before .before .before .before .before .before .before .before .before .before .before .parse-rows .kept .1 .1 .1 .1 .0, p .directions-lent);
+    }
+
+exchange-requires : tie.Need-exchange-requires
+exchange-requires c κs =
+    let p = c .before .before .before .before .before .before .before .before .before .before .before .before .before .before .before .before .before .before .before .before .before .before .before .before .before .before .before .before .before .before .before .pre in
+    record {
+      width = p .frame .width;
+      height = p .frame .height;
+      lent =
+          c .before .before .before .before .before .before .before .before .add-rows .kept .0
+          ∙ c .before .before .before .before .before .before .before .before .before .before .before .before .before .before .before .parse-rows .kept .1 .1 .1 .0
+          ∙ c .before .before .before .before .before .before .before .before .before .before .before .before .before .before .before .before .before .before .before .before .before .before .decode-rows .kept .1 .1 .1 .1 .0
+          ∙ p .frame .samples-lent;
+    }
+
+exchange-marks-requires : tie.Need-exchange-marks-requires
+exchange-marks-requires c κs =
+    let p = c .before .before .before .before .before .before .before .before .before .before .before .before .before .before .before .before .before .before .before .before .before .before .before .before .before .before .before .before .before .before .before .before .before .before .before .pre in
+    record {
+      width = p .frame .width;
+      height = p .frame .height;
+      lent = whole-kept (c .before .before .before .before .before .before .before .before .before .before .before .before .before .before .before .before .before .before .before .before .before .before .before .before .before .before .before .before .before .before .before .before .before .before .before .args .size) (c .before .before .before .before .before .before .before .mark-lent .kept .0 ∙ c .before .before .before .before .before .before .before .before .before .before .before .before .before .before .before .before .before .before .before .before .before .before .before .before .before .before .decode-rows .kept .1 .1 .1 .1 .1 .0) (p .frame .map-lent);
+    }
+
+same-length : tie.Need-same-length
+same-length c = search needs
+
+same-length-2 : tie.Need-same-length-2
+same-length-2 c = search needs
+
+same-length-3 : tie.Need-same-length-3
+same-length-3 c = search needs
+
+returns : tie.Need-returns
+returns c =
+    let z = c .before .before .before .before .before .before .before .before .before .before .before .before .before .before .before .before .before .before .before .before .before .before .before .before .before .before .before .before .before .before .before .before .before .before .before .before .before .before .args .size in
+    let rows = c .before .before .before .before .before .before .before .before .before .before .before .before .before .before .before .before .before .before .before .before .before .before .before .before .before .before .before .before .before .decode-rows .ensures in
+    let first = c .before .before .before .before .before .before .before .before .before .before .before .before .before .before .before .before .before .before .before .before .before .before .before .before .before .before .before .before .before .before .before .before .head-rows .ensures in
+    let phase = c .before .before .before .before .before .before .before .before .before .before .before .before .before .before .before .before .before .before .before .before .before .before .parse-rows .ensures in (
+      samples-done _ _ z _ _ _ _ _ _ _ _ first (rows .0) (phase .0) (phase .1) (c .before .before .before .before .before .before .before .before .before .before .before .before .before .before .before .add-rows .ensures) (c .before .before .before .before .before .before .exchange .ensures),
+      (
+        marks-done _ _ z _ _ _ _ _ _ _ first (rows .1) (phase .1) (c .before .before .before .before .before .before .before .before .before .before .mark-lent .ensures) (c .before .before .exchange-marks .ensures),
+        directions-done _ _ z _ _ (phase .1),
+      ),
+    )
+
+pub decode-frame-spec : {M : Type 1} → statement M
+decode-frame-spec =
+    tie.close
+    (tie.spec
+    head-rows-requires
+    decode-rows-requires
+    parse-rows-requires
+    add-rows-requires
+    mark-lent-requires
+    exchange-requires
+    exchange-marks-requires
+    same-length
+    same-length-2
+    same-length-3
+    returns)
