@@ -1,2 +1,3 @@
--- Laws that the entries' proofs cite.
+-- Laws that the entries' proofs cite, and the claim of all six.
 pub mod EntryLaws
+pub mod Isolation

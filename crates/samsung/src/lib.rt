@@ -3,8 +3,11 @@
 pub mod direct;
 pub mod motion;
 mod refusals;
+pub mod two_phase;
 
 pub use direct::decode_v0_reference;
 pub use direct::decode_v0_reference_map;
 pub use motion::decode_v2;
 pub use motion::decode_v2_map;
+pub use two_phase::decode_v0;
+pub use two_phase::decode_v0_map;

@@ -1,0 +1,55 @@
+-- `decode_marked` meets its contract: the frame's marks are decoded over a map that is all old.
+use mathlib.Core.Logic.{inl}
+use mathlib.Core.Path.{_≡_, ap, _∙_}
+use borrow.Author.Needs.{needs}
+use lib.ListN.{length, replicate, length-replicate}
+use Rattle.rules.specs.Map.{two-phase-map}
+use Rattle.v0_phases.specs.Marks.{two-phase-marks}
+use Rattle.samsung.proofs.two_phase.decode_marked.Statement.{statement}
+use Rattle.samsung.proofs.two_phase.decode_marked.Tie as tie
+
+mark-old-requires : tie.Need-mark-old-requires
+mark-old-requires c κs = search needs
+
+decode-frame-requires : tie.Need-decode-frame-requires
+decode-frame-requires c κs =
+    let p = c .before .before .before .before .before .before .before .before .before .before .before .before .pre in
+    let f = p .0 .frame in
+    record {
+      frame =
+          record {
+            width = f .width;
+            height = f .height;
+            offsets-enough = f .offsets-enough;
+            samples-lent = f .samples-lent;
+            map-lent = inl (ap length (c .before .before .before .before .before .mark-old .ensures) ∙ length-replicate _ 1 ∙ p .1);
+          };
+      directions-lent = p .0 .directions-lent;
+    }
+
+same-length : tie.Need-same-length
+same-length c = search needs
+
+same-length-2 : tie.Need-same-length-2
+same-length-2 c = search needs
+
+same-length-3 : tie.Need-same-length-3
+same-length-3 c = search needs
+
+returns : tie.Need-returns
+unfolding two-phase-map two-phase-marks
+returns c =
+    let ones = c .before .before .before .before .before .before .before .before .before .before .before .before .mark-old .ensures ∙ ap (λ n. replicate n 1) (c .before .before .before .before .before .before .before .before .before .before .before .before .before .before .before .before .before .before .before .pre .1) in
+    let d = c .before .before .before .before .before .before .decode-frame .ensures in
+    (d .0, (d .1 .0 ∙ ap (two-phase-marks _ _ _) ones, d .1 .1))
+
+pub decode-marked-spec : {M : Type 1} → statement M
+decode-marked-spec =
+    tie.close
+    (tie.spec
+    mark-old-requires
+    decode-frame-requires
+    same-length
+    same-length-2
+    same-length-3
+    returns)

@@ -1,0 +1,77 @@
+-- `decode_v0` meets its contract: a refusal is the rules', and else the frame's samples and directions are what the decoder leaves.
+use mathlib.Core.Path.{_≡_, refl, sym, _∙_}
+use mathlib.Core.Logic.{inl, inr}
+use native.Mathlib.Omega.{arith}
+use borrow.Author.Needs.{needs}
+use borrow.Author.Tests.{ltb-false}
+use lib.Seq.{length-take-le}
+use Rattle.rules.specs.Answer.{refusal, too-small, short-samples, short-offsets, short-map, short-scratch, frame-samples, frame-scratch, stream-answer}
+use Rattle.samsung.specs.Lending.{short}
+use Rattle.samsung.proofs.EntryLaws.{cells-most, room, bytes-enough, refused-answer, refused-samples, refused-scratch, passed-answer, passed-samples, passed-scratch}
+use Rattle.samsung.proofs.two_phase.decode_v0.Statement.{statement}
+use Rattle.samsung.proofs.two_phase.decode_v0.Tie as tie
+
+refuse-requires : tie.Need-refuse-requires
+refuse-requires c κs = search needs
+
+refused-requires : tie.Need-refused-requires
+refused-requires c κs = search needs
+
+returns : tie.Need-returns
+unfolding refusal too-small short-samples short-offsets short-map short-scratch short
+returns c =
+    let e = sym (c .before .before .refuse .ensures) in
+    let n = c .before .if1 .taken in
+    (refused-answer _ _ _ e n _ (c .refused .ensures), (refused-samples _ _ _ e n _, refused-scratch _ _ _ e n _))
+
+mul-n : tie.Need-mul-n
+mul-n c =
+    let p = room _ _ _ _ _ _ _ (c .before .refuse .ensures) (c .if1 .left) in
+    omega (arith, cells-most _ _ (p .wide) (p .high))
+
+slice-relend-prefix-decode-frame : tie.Need-slice-relend-prefix-decode-frame
+slice-relend-prefix-decode-frame c = room _ _ _ _ _ _ _ (c .before .refuse .ensures) (c .if1 .left) .samples-enough
+
+slice-aggregate-decode-frame : tie.Need-slice-aggregate-decode-frame
+slice-aggregate-decode-frame c = sym (length-take-le _ _ (room _ _ _ _ _ _ _ (c .before .before .refuse .ensures) (c .before .if1 .left) .samples-enough))
+
+slice-aggregate-decode-frame-2 : tie.Need-slice-aggregate-decode-frame-2
+slice-aggregate-decode-frame-2 c = search needs
+
+decode-frame-requires : tie.Need-decode-frame-requires
+decode-frame-requires c κs =
+    let p = room _ _ _ _ _ _ _ (c .before .before .before .before .refuse .ensures) (c .before .before .before .if1 .left) in
+    record { frame = record { width = p .wide; height = p .high; offsets-enough = ltb-false _ _ (p .offsets-enough); samples-lent = length-take-le _ _ (p .samples-enough); map-lent = inr refl }; directions-lent = bytes-enough _ _ (p .scratch-enough) }
+
+done-requires : tie.Need-done-requires
+done-requires c κs = search needs
+
+same-length : tie.Need-same-length
+same-length c = search needs
+
+same-length-2 : tie.Need-same-length-2
+same-length-2 c = search needs
+
+returns-2 : tie.Need-returns-2
+unfolding refusal too-small short-samples short-offsets short-map short-scratch short frame-samples frame-scratch stream-answer
+returns-2 c =
+    let ok = sym (c .before .before .before .before .before .before .before .before .before .before .before .refuse .ensures) ∙ c .before .before .before .before .before .before .before .before .before .before .if1 .left in
+    let d = c .before .before .before .before .before .before .decode-frame .ensures in
+    (passed-answer _ _ ok _ (c .done .ensures), (passed-samples _ _ ok _ _ (d .0), passed-scratch _ _ ok _ _ (d .1 .1)))
+
+pub decode-v0-spec : {M : Type 1} → statement M
+decode-v0-spec =
+    tie.close
+    (tie.spec
+    refuse-requires
+    refused-requires
+    returns
+    mul-n
+    slice-relend-prefix-decode-frame
+    slice-aggregate-decode-frame
+    slice-aggregate-decode-frame-2
+    decode-frame-requires
+    done-requires
+    same-length
+    same-length-2
+    returns-2)
