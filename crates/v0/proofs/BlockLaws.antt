@@ -21,8 +21,10 @@ use Rattle.rules.specs.declared.reader.Bits.{Bits}
 use Rattle.rules.specs.declared.reader.Residual.{Residual}
 use Rattle.rules.specs.declared.v0.V0Row.{V0Row}
 use Rattle.rules.specs.declared.v0.V0Head.{V0Head}
+use Rattle.v0.specs.Lengths.{Within}
 use Rattle.v0.specs.Block.{with-residuals, whole-block}
 use Rattle.v0.specs.declared.block.ReadBlock.{ReadBlock}
+use Rattle.v0.proofs.HeadLaws.{head-within}
 
 -- ── The order of the stream ──
 
@@ -135,3 +137,8 @@ module _ (s : List ℕ) (ls : List ℤ) (b₀ : Bits) where
 pub block-read : (s : List ℕ) (st : V0Row) (h : V0Head) (r : ReadBlock) → h ≡ head s st → r ≡ with-residuals s h → r ≡ whole-block s st
 unfolding whole-block
 block-read s st h r eh er = er ∙ ap (with-residuals s) eh
+
+-- So that a row of 1,024 blocks can be read: each keeps the lengths as near to 0 as its head does.
+pub block-within : (s : List ℕ) (st : V0Row) (n : ℕ) → 15 ≤ n → Within n (st .lengths) → Within (suc n) (whole-block s st .row .lengths)
+unfolding whole-block with-residuals
+block-within s st n h w = head-within s st n h w

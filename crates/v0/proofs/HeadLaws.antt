@@ -189,6 +189,9 @@ operate-within s (op ∷ ops) [] b n h near j = omega arith
 operate-within s (op ∷ ops) (l ∷ ls) b n h near zero = length-within s op l b h (near 0)
 operate-within s (op ∷ ops) (l ∷ ls) b n h near (suc j) = operate-within s ops ls (operated s op l b .bits) n h (λ i. near (suc i)) j
 
+pub within-more : (m n : ℕ) (ls : List ℤ) → m ≤ n → Within m ls → Within n ls
+within-more m n ls l w = record { each = λ j. omega (arith, w .each j) }
+
 -- A fresh row's lengths are near 0, and a block moves each by 1 at most, or sets it to at most 15.
 pub fresh-within : (row offset : ℕ) → Within 15 (fresh-row row offset .lengths)
 unfolding fresh-row

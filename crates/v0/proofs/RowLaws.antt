@@ -5,7 +5,6 @@ use mathlib.Core.List.{List, [], _++_}
 use Prim.Native.Nat.{ℕ, suc, _+_, _-_, _*_, _/_, _%_, _≤_, _<_}
 use native.Mathlib.Omega.{arith}
 use lib.Dec.{leb}
-use lib.IntN.{ℤ}
 use lib.ListN.{length}
 use borrow.Author.Tests.{leb-true}
 use Rattle.rules.specs.Frame.{cells}
@@ -19,7 +18,7 @@ use Rattle.rules.specs.declared.v0.V0Op.{V0Op}
 use Rattle.v0.specs.Lengths.{Within, furthest}
 use Rattle.v0.specs.Limits.{Whole, InFrame, Inner, InRow}
 use Rattle.v0.specs.Block.{samples-of, block-ops, after-block}
-use Rattle.v0.proofs.HeadLaws.{fresh-within, head-within}
+use Rattle.v0.proofs.HeadLaws.{within-more, fresh-within, head-within}
 use Rattle.v0.proofs.CellLaws.{Left, left-begun, left-on, left-none}
 
 -- ── One block ──
@@ -42,9 +41,6 @@ module _ (s : List ℕ) (z : Size) (row col : ℕ) (st : V0Row) (h : V0Head) (eh
   block-cells k f f′ e = e ∙ ap (λ x. apply k (samples-of s z row col x order (x .row .bits) .ops) f) eh
 
 -- ── The blocks of a row ──
-
-within-more : (m n : ℕ) (ls : List ℤ) → m ≤ n → Within m ls → Within n ls
-within-more m n ls l w = record { each = λ j. omega (arith, w .each j) }
 
 -- What is left of a row from a column on.
 abbrev pub rest-of : List ℕ → Size → ℕ → ℕ → V0Row → List V0Op

@@ -1,5 +1,6 @@
 -- What is left from a row on comes to the whole exchange.
 use Prim.Native.Nat.{_+_, _-_}
+use native.Mathlib.Omega.{arith}
 use borrow.Author.Needs.{needs}
 use Rattle.rules.specs.V0.{sample-kind}
 use Rattle.v0.proofs.ExchangeLaws.{Exchanging, exchanging-begun, exchanging-on, exchanged, frame-pair}
@@ -16,25 +17,25 @@ loop-holds : tie.Need-loop-holds Inv-loop μ-loop
 loop-holds c = exchanging-begun sample-kind _ _ _
 
 add-loop : tie.Need-add-loop Inv-loop μ-loop
-add-loop c = search needs
+add-loop c = omega arith
 
 exchange-pair-requires : tie.Need-exchange-pair-requires Inv-loop μ-loop
-exchange-pair-requires c κs = let a = c .before .before .before .before in frame-pair sample-kind (a .args .size) (a .args .out .now) (c .before .before .loop .out) (c .before .before .loop .row) (search needs) (a .pre) (c .before .before .loop .inv)
+exchange-pair-requires c κs = let a = c .before .before .before .before in frame-pair sample-kind (a .args .size) (a .args .out .now) (c .before .before .loop .out) (c .before .before .loop .row) (omega arith) (a .pre) (c .before .before .loop .inv)
 
 add-row : tie.Need-add-row Inv-loop μ-loop
-add-row c = search needs
+add-row c = omega arith
 
 loop-less : tie.Need-loop-less Inv-loop μ-loop
-loop-less c = search needs
+loop-less c = omega arith
 
 loop-again : tie.Need-loop-again Inv-loop μ-loop
-loop-again c = exchanging-on sample-kind _ _ _ _ _ _ (search needs) (c .before .before .exchange-pair .ensures) (c .before .before .before .before .before .loop .inv)
+loop-again c = exchanging-on sample-kind _ _ _ _ _ _ (omega arith) (c .before .before .exchange-pair .ensures) (c .before .before .before .before .before .loop .inv)
 
 same-length : tie.Need-same-length Inv-loop μ-loop
 same-length c = search needs
 
 returns : tie.Need-returns Inv-loop μ-loop
-returns c = exchanged sample-kind (c .before .before .before .args .size) _ _ _ (search needs) (c .before .loop .inv)
+returns c = exchanged sample-kind (c .before .before .before .args .size) _ _ _ (omega arith) (c .before .loop .inv)
 
 pub exchange-spec : {M : Type 1} → statement M
 exchange-spec =

@@ -17,7 +17,7 @@ loop-holds : tie.Need-loop-holds Inv-loop μ-loop
 loop-holds c = pairing-begun _ (c .before .args .w) (c .before .args .row) (c .before .args .out .now)
 
 add-loop : tie.Need-add-loop Inv-loop μ-loop
-add-loop c = search needs
+add-loop c = omega arith
 
 mul-swap : tie.Need-mul-swap Inv-loop μ-loop
 mul-swap c = let a = c .before .before .before .before in record { fits = omega (arith, pair-fits (a .args .w) (a .args .row) (a .args .out .now) (a .pre)) }
@@ -41,19 +41,19 @@ swap-requires : tie.Need-swap-requires Inv-loop μ-loop
 swap-requires c κs = search needs
 
 add-col : tie.Need-add-col Inv-loop μ-loop
-add-col c = search needs
+add-col c = omega arith
 
 loop-less : tie.Need-loop-less Inv-loop μ-loop
-loop-less c = search needs
+loop-less c = omega arith
 
 loop-again : tie.Need-loop-again Inv-loop μ-loop
-loop-again c = pairing-on _ _ _ _ _ _ _ (search needs) (c .before .before .swap .ensures) (c .before .before .before .before .before .loop .inv)
+loop-again c = pairing-on _ _ _ _ _ _ _ (omega arith) (c .before .before .swap .ensures) (c .before .before .before .before .before .loop .inv)
 
 same-length : tie.Need-same-length Inv-loop μ-loop
 same-length c = search needs
 
 returns : tie.Need-returns Inv-loop μ-loop
-returns c = paired _ _ _ _ _ _ (search needs) (c .before .loop .inv)
+returns c = paired _ _ _ _ _ _ (omega arith) (c .before .loop .inv)
 
 pub exchange-pair-spec : {M : Type 1} → statement M
 exchange-pair-spec =

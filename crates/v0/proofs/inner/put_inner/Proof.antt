@@ -1,5 +1,6 @@
 -- What is left from sample k on comes to the whole block.
 use Prim.Native.Nat.{_-_}
+use native.Mathlib.Omega.{arith}
 use borrow.Author.Needs.{needs}
 use Rattle.rules.specs.V0.{sample-kind}
 use Rattle.v0.proofs.InnerLaws.{Putting, putting-begun, putting-on, putting-done}
@@ -22,43 +23,43 @@ source-requires : tie.Need-source-requires Inv-loop μ-loop
 source-requires c κs = let a = c .before .before .before .before .pre in (a .0 .rows, (a .0 .columns, (a .1, c .stream-column .ensures .1)))
 
 mul-wrapping-add-u16 : tie.Need-mul-wrapping-add-u16 Inv-loop μ-loop
-mul-wrapping-add-u16 c = search needs
+mul-wrapping-add-u16 c = omega arith
 
 slice-read-wrapping-add-u16 : tie.Need-slice-read-wrapping-add-u16 Inv-loop μ-loop
-slice-read-wrapping-add-u16 c = search needs
+slice-read-wrapping-add-u16 c = omega arith
 
 mul-wrapping-add-u16-2 : tie.Need-mul-wrapping-add-u16-2 Inv-loop μ-loop
-mul-wrapping-add-u16-2 c = search needs
+mul-wrapping-add-u16-2 c = omega arith
 
 array-read-wrapping-add-u16 : tie.Need-array-read-wrapping-add-u16 Inv-loop μ-loop
-array-read-wrapping-add-u16 c = search needs
+array-read-wrapping-add-u16 c = omega arith
 
 wrapping-add-u16-requires : tie.Need-wrapping-add-u16-requires Inv-loop μ-loop
 wrapping-add-u16-requires c κs = search needs
 
 add-out : tie.Need-add-out Inv-loop μ-loop
-add-out c = search needs
+add-out c = omega arith
 
 mul-out : tie.Need-mul-out Inv-loop μ-loop
-mul-out c = search needs
+mul-out c = omega arith
 
 slice-write-out : tie.Need-slice-write-out Inv-loop μ-loop
-slice-write-out c = search needs
+slice-write-out c = omega arith
 
 add-k : tie.Need-add-k Inv-loop μ-loop
-add-k c = search needs
+add-k c = omega arith
 
 loop-less : tie.Need-loop-less Inv-loop μ-loop
-loop-less c = search needs
+loop-less c = omega arith
 
 loop-again : tie.Need-loop-again Inv-loop μ-loop
-loop-again c = putting-on _ _ _ _ (c .before .before .before .before .before .before .before .args .t5) _ _ _ _ (c .before .before .source .result) _ (search needs) (search needs) (c .before .before .before .stream-column .ensures .0) (c .before .before .source .ensures .0) (c .wrapping-add-u16 .ensures) (c .before .before .before .before .before .loop .inv)
+loop-again c = putting-on _ _ _ _ (c .before .before .before .before .before .before .before .args .t5) _ _ _ _ (c .before .before .source .result) _ (omega arith) (omega arith) (c .before .before .before .stream-column .ensures .0) (c .before .before .source .ensures .0) (c .wrapping-add-u16 .ensures) (c .before .before .before .before .before .loop .inv)
 
 same-length : tie.Need-same-length Inv-loop μ-loop
 same-length c = search needs
 
 returns : tie.Need-returns Inv-loop μ-loop
-returns c = putting-done _ _ _ _ (c .before .before .before .args .t5) _ _ _ (search needs) (c .before .loop .inv)
+returns c = putting-done _ _ _ _ (c .before .before .before .args .t5) _ _ _ (omega arith) (c .before .loop .inv)
 
 pub put-inner-spec : {M : Type 1} → statement M
 put-inner-spec =

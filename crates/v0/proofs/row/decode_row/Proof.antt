@@ -1,5 +1,6 @@
 -- What is left from a column on comes to the whole row; a row has at most 1,024 blocks, so that its lengths stay near 0.
 use Prim.Native.Nat.{_+_, _-_}
+use native.Mathlib.Omega.{arith}
 use borrow.Author.Needs.{needs}
 use Rattle.rules.specs.V0.{sample-kind}
 use Rattle.rules.specs.Map.{v0-marks}
@@ -20,16 +21,16 @@ loop-holds : tie.Need-loop-holds Inv-loop μ-loop
 loop-holds c = rowing-begun _ (c .before .before .before .before .args .size) _ _ _ _ _ (c .fresh .ensures)
 
 decode-block-requires : tie.Need-decode-block-requires Inv-loop μ-loop
-decode-block-requires c κs = let a = c .before .before .before .before .before .before .before .before in row-block (a .args .src .now) (a .args .size) (a .args .row) (a .args .offset) (a .args .out .now) (a .args .map .now) (c .before .before .before .loop .out) (c .before .before .before .loop .map) (c .before .before .before .loop .state) (c .before .before .before .loop .col) (search needs) (a .pre) (c .before .before .before .loop .inv)
+decode-block-requires c κs = let a = c .before .before .before .before .before .before .before .before in row-block (a .args .src .now) (a .args .size) (a .args .row) (a .args .offset) (a .args .out .now) (a .args .map .now) (c .before .before .before .loop .out) (c .before .before .before .loop .map) (c .before .before .before .loop .state) (c .before .before .before .loop .col) (omega arith) (a .pre) (c .before .before .before .loop .inv)
 
 add-col : tie.Need-add-col Inv-loop μ-loop
-add-col c = search needs
+add-col c = omega arith
 
 loop-less : tie.Need-loop-less Inv-loop μ-loop
-loop-less c = search needs
+loop-less c = omega arith
 
 loop-again : tie.Need-loop-again Inv-loop μ-loop
-loop-again c = let a = c .before .before .before .before .before .before .before .before .before .before .before .before .before in let d = c .before .before .before .before .decode-block .ensures in rowing-on (a .args .src .now) (a .args .size) (a .args .row) (a .args .offset) (a .args .out .now) (a .args .map .now) (c .before .before .before .before .before .before .before .before .loop .out) _ (c .before .before .before .before .before .before .before .before .loop .map) _ (c .before .before .before .before .before .before .before .before .loop .state) _ (c .before .before .before .before .before .before .before .before .loop .col) (search needs) (d .0) (d .1 .0) (d .1 .1) (c .before .before .before .before .before .before .before .before .loop .inv)
+loop-again c = let a = c .before .before .before .before .before .before .before .before .before .before .before .before .before in let d = c .before .before .before .before .decode-block .ensures in rowing-on (a .args .src .now) (a .args .size) (a .args .row) (a .args .offset) (a .args .out .now) (a .args .map .now) (c .before .before .before .before .before .before .before .before .loop .out) _ (c .before .before .before .before .before .before .before .before .loop .map) _ (c .before .before .before .before .before .before .before .before .loop .state) _ (c .before .before .before .before .before .before .before .before .loop .col) (omega arith) (d .0) (d .1 .0) (d .1 .1) (c .before .before .before .before .before .before .before .before .loop .inv)
 
 same-length : tie.Need-same-length Inv-loop μ-loop
 same-length c = search needs
@@ -39,8 +40,8 @@ same-length-2 c = search needs
 
 returns : tie.Need-returns Inv-loop μ-loop
 returns c = let a = c .before .before .before .before .before .before in let l = c .before .loop in (
-  rowed (a .args .src .now) (a .args .size) (a .args .row) (a .args .offset) (a .args .out .now) (a .args .map .now) sample-kind (l .state) (l .col) (a .args .out .now) (l .out) (search needs) (l .inv .samples-left),
-  rowed (a .args .src .now) (a .args .size) (a .args .row) (a .args .offset) (a .args .out .now) (a .args .map .now) v0-marks (l .state) (l .col) (a .args .map .now) (l .map) (search needs) (l .inv .marks-left),
+  rowed (a .args .src .now) (a .args .size) (a .args .row) (a .args .offset) (a .args .out .now) (a .args .map .now) sample-kind (l .state) (l .col) (a .args .out .now) (l .out) (omega arith) (l .inv .samples-left),
+  rowed (a .args .src .now) (a .args .size) (a .args .row) (a .args .offset) (a .args .out .now) (a .args .map .now) v0-marks (l .state) (l .col) (a .args .map .now) (l .map) (omega arith) (l .inv .marks-left),
 )
 
 pub decode-row-spec : {M : Type 1} → statement M

@@ -1,5 +1,6 @@
 -- What is left from sample k on comes to the whole block.
 use Prim.Native.Nat.{_-_}
+use native.Mathlib.Omega.{arith}
 use borrow.Author.Needs.{needs}
 use Rattle.v0.proofs.SampleLaws.{Sampling, sampling-begun, sampling-on, sampled}
 use Rattle.v0.proofs.sample.decode_samples.Statement.{statement}
@@ -21,13 +22,13 @@ decode-sample-requires : tie.Need-decode-sample-requires Inv-loop μ-loop
 decode-sample-requires c κs = (c .before .before .before .before .before .before .before .before .before .before .pre, c .before .before .stream-column .ensures .1)
 
 add-k : tie.Need-add-k Inv-loop μ-loop
-add-k c = search needs
+add-k c = omega arith
 
 loop-less : tie.Need-loop-less Inv-loop μ-loop
-loop-less c = search needs
+loop-less c = omega arith
 
 loop-again : tie.Need-loop-again Inv-loop μ-loop
-loop-again c = let d = c .before .before .before .before .decode-sample .ensures in sampling-on _ (c .before .before .before .before .before .before .before .before .before .before .before .before .before .before .before .args .size) _ _ (c .before .before .before .before .before .before .before .before .before .before .before .before .before .before .before .args .head) _ _ _ _ _ _ _ _ _ _ _ (search needs) (c .before .before .before .before .before .before .before .stream-column .ensures .0) (d .0) (d .1 .0) (d .1 .1) (c .before .before .before .before .before .before .before .before .before .loop .inv)
+loop-again c = let d = c .before .before .before .before .decode-sample .ensures in sampling-on _ (c .before .before .before .before .before .before .before .before .before .before .before .before .before .before .before .args .size) _ _ (c .before .before .before .before .before .before .before .before .before .before .before .before .before .before .before .args .head) _ _ _ _ _ _ _ _ _ _ _ (omega arith) (c .before .before .before .before .before .before .before .stream-column .ensures .0) (d .0) (d .1 .0) (d .1 .1) (c .before .before .before .before .before .before .before .before .before .loop .inv)
 
 same-length : tie.Need-same-length Inv-loop μ-loop
 same-length c = search needs
@@ -36,7 +37,7 @@ same-length-2 : tie.Need-same-length-2 Inv-loop μ-loop
 same-length-2 c = search needs
 
 returns : tie.Need-returns Inv-loop μ-loop
-returns c = sampled _ (c .before .before .before .before .before .before .before .args .size) _ _ (c .before .before .before .before .before .before .before .args .head) _ _ _ _ _ _ _ (search needs) (c .before .loop .inv)
+returns c = sampled _ (c .before .before .before .before .before .before .before .args .size) _ _ (c .before .before .before .before .before .before .before .args .head) _ _ _ _ _ _ _ (omega arith) (c .before .loop .inv)
 
 pub decode-samples-spec : {M : Type 1} → statement M
 decode-samples-spec =
