@@ -3,3 +3,4 @@
 pub mod direct;
 pub mod motion;
 pub mod reader;
+pub mod two_phase;

@@ -26,16 +26,28 @@ use Rattle.rules.proofs.Isolation.{Returned, Alike, Ran, Same, Samples}
 use Rattle.rules.proofs.Isolation as Rules
 use Rattle.samsung.proofs.direct.decode_v0_reference.Kinds as direct-kinds
 use Rattle.samsung.proofs.direct.decode_v0_reference.Reads as direct-reads
+use Rattle.samsung.proofs.direct.decode_v0_reference.Statement as direct-stated
+use Rattle.samsung.proofs.direct.decode_v0_reference.Met as direct-thm
 use Rattle.samsung.proofs.direct.decode_v0_reference_map.Kinds as direct-map-kinds
 use Rattle.samsung.proofs.direct.decode_v0_reference_map.Reads as direct-map-reads
+use Rattle.samsung.proofs.direct.decode_v0_reference_map.Statement as direct-map-stated
+use Rattle.samsung.proofs.direct.decode_v0_reference_map.Met as direct-map-thm
 use Rattle.samsung.proofs.two_phase.decode_v0.Kinds as phases-kinds
 use Rattle.samsung.proofs.two_phase.decode_v0.Reads as phases-reads
+use Rattle.samsung.proofs.two_phase.decode_v0.Statement as phases-stated
+use Rattle.samsung.proofs.two_phase.decode_v0.Met as phases-thm
 use Rattle.samsung.proofs.two_phase.decode_v0_map.Kinds as phases-map-kinds
 use Rattle.samsung.proofs.two_phase.decode_v0_map.Reads as phases-map-reads
+use Rattle.samsung.proofs.two_phase.decode_v0_map.Statement as phases-map-stated
+use Rattle.samsung.proofs.two_phase.decode_v0_map.Met as phases-map-thm
 use Rattle.samsung.proofs.motion.decode_v2.Kinds as v2-kinds
 use Rattle.samsung.proofs.motion.decode_v2.Reads as v2-reads
+use Rattle.samsung.proofs.motion.decode_v2.Statement as v2-stated
+use Rattle.samsung.proofs.motion.decode_v2.Met as v2-thm
 use Rattle.samsung.proofs.motion.decode_v2_map.Kinds as v2-map-kinds
 use Rattle.samsung.proofs.motion.decode_v2_map.Reads as v2-map-reads
+use Rattle.samsung.proofs.motion.decode_v2_map.Statement as v2-map-stated
+use Rattle.samsung.proofs.motion.decode_v2_map.Met as v2-map-thm
 
 -- ── The statement ──
 
@@ -168,3 +180,25 @@ by-the-rules (call cs c rest e) = Rules.call (by-the-rules cs) (returned c) rest
 pub isolation : Isolation
 isolation b b′ x y h h′ cs ds c d rest rest′ e e′ alike ran ran′ =
     Rules.isolation b b′ x y h h′ (by-the-rules cs) (by-the-rules ds) (returned c) (returned d) rest rest′ e e′ alike ran ran′
+
+-- The claim, beside each entry point's theorem that its code meets the contract that the claim speaks of.
+pub record OfTheCode (M : Type 1) : Type 2 where
+  pub decode-v0-reference : direct-stated.statement M
+  pub decode-v0-reference-map : direct-map-stated.statement M
+  pub decode-v0 : phases-stated.statement M
+  pub decode-v0-map : phases-map-stated.statement M
+  pub decode-v2 : v2-stated.statement M
+  pub decode-v2-map : v2-map-stated.statement M
+  pub claim : Isolation
+
+pub of-the-code : {M : Type 1} → OfTheCode M
+of-the-code =
+    record {
+      decode-v0-reference = direct-thm.met;
+      decode-v0-reference-map = direct-map-thm.met;
+      decode-v0 = phases-thm.met;
+      decode-v0-map = phases-map-thm.met;
+      decode-v2 = v2-thm.met;
+      decode-v2-map = v2-map-thm.met;
+      claim = isolation;
+    }
