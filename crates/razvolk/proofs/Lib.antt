@@ -1,0 +1,2 @@
+-- The claim of the exports.
+pub mod Isolation
