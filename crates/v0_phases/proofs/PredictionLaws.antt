@@ -26,8 +26,8 @@ use Rattle.v0_phases.specs.Lent.{LateRow, PhaseLent, MapLent}
 abbrev pub source-of : ℕ → ℕ → ℕ → Bool → ℕ → ℕ
 source-of w row col up c = cond up ((row - (1 + c % 2)) * w + col + c) (row * w + col - (2 - c % 2))
 
-pub when-true : (t : Bool) (a b : ℕ) → t ≡ true → a ≡ cond t a b
-when-true t a b e = rw e
+pub when-true : (t : Bool) (x a b : ℕ) → t ≡ true → x ≡ a → x ≡ cond t a b
+when-true t x a b e q = rw e q
 
 pub when-false : (t : Bool) (a b : ℕ) → t ≡ false → b ≡ cond t a b
 when-false t a b e = rw e

@@ -16,13 +16,20 @@ use v0::cells::put;
 use v0::cells::put_mark;
 use v0::sample::stream_column;
 
+// How many rows up sample c looks.
+fn rows_up(c: usize) -> usize
+    ensures { λ r. ⌜ r ≡ 1 + c % 2 ⌝ }
+{
+    c % 2 + 1
+}
+
 // The place that sample c of the block at a column predicts from, unless it takes 128.
 fn source(w: usize, row: usize, col: usize, up: bool, c: usize) -> usize
     requires { ⌜ LateSample w row col c ⌝ }
     ensures { λ r. ⌜ r ≡ cond up ((row - (1 + c % 2)) * w + col + c) (row * w + col - (2 - c % 2)) ⌝ }
 {
     if up {
-        return (row - (1 + c % 2)) * w + col + c;
+        return (row - rows_up(c)) * w + col + c;
     }
     row * w + col - (2 - c % 2)
 }
