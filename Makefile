@@ -1,14 +1,15 @@
 .PHONY: run test compare bench fmt
 
+# The main job: proves and builds the program, and decodes the example with it.
 run:
-	@echo "There is no program to run yet; this proves the crates that there are."
-	rt check
+	rt check samrows
+	target/bin/samrows < crates/samrows/stdin
 
 # The gate.
 test:
 	bash .ci/run
 
-# The long comparison with the Rust, some minutes.
+# The long comparison with the Rust.
 compare:
 	cd rust && cargo run --release --offline --locked -p compare -- long
 

@@ -30,27 +30,7 @@ fn link() -> Result<(), String> {
     fs::copy(&archive, out.join("librazvolk.a")).map_err(|e| format!("no archive at {}: {e}", archive.display()))?;
     println!("cargo::rustc-link-search=native={}", out.display());
     println!("cargo::rustc-link-lib=static=razvolk");
-    landed(&archive, &out)
-}
-
-/// Writes which decoders the archive has, with an entry that stops the program in place of each that it does not have yet. To
-/// be taken out, with src/landed.rs, when it has all of them.
-fn landed(archive: &Path, out: &Path) -> Result<(), String> {
-    const DECODERS: [(&str, &str); 3] = [("V0_REFERENCE", "v0_reference"), ("V0", "v0"), ("V2", "v2")];
-    let bytes = fs::read(archive).map_err(|e| format!("{}: {e}", archive.display()))?;
-    let mut text = String::new();
-    for (constant, decoder) in DECODERS {
-        let mut all = true;
-        for entry in [format!("razvolk_decode_{decoder}"), format!("razvolk_decode_{decoder}_map")] {
-            let name = [b"\0", entry.as_bytes(), b"\0"].concat();
-            if !bytes.windows(name.len()).any(|found| found == name) {
-                all = false;
-                text += &format!("std::arch::global_asm!(\".globl {entry}\", \"{entry}: ud2\");\n");
-            }
-        }
-        text += &format!("pub const {constant}: bool = {all};\n");
-    }
-    fs::write(out.join("landed.rs"), text).map_err(|e| format!("{}: {e}", out.display()))
+    Ok(())
 }
 
 /// The repository's archive, made anew where it is missing or older than what it is made from.

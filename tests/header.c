@@ -1,6 +1,6 @@
 /* Calls every function of include/razvolk.h from C, and from C++: that the header and the archive agree on how a structure
  * is laid out and handed over, and in which order the arguments come. What the functions compute is proved, and compared in
- * rust/compare. WITHOUT_V0_REFERENCE, WITHOUT_V0 and WITHOUT_V2 leave out decoders that the archive does not have. */
+ * rust/compare. */
 #include "razvolk.h"
 
 #include <stdio.h>
@@ -41,7 +41,6 @@ static void reader(void) {
     expect(got.value == 1 && got.bits.pos == 3 && got.bits.count == 31, "the position wraps at 2^64");
 }
 
-#if !defined WITHOUT_V0_REFERENCE || !defined WITHOUT_V0
 /* A frame of 2 by 3, whose first row is skipped: stream, offsets, what the buffers hold before and after. The seventh sample and
  * map byte, and the second byte of scratch, lie past the frame. */
 static const uint8_t stream[12] = {0x00, 0x00, 0x00, 0x80, 0x18, 0x20, 0xa0, 0x7f, 0x00, 0x00, 0x70, 0x00};
@@ -65,9 +64,7 @@ static void done(razvolk_answer answer, bool with_map, bool with_scratch, const 
     expect(memcmp(map, with_map ? marks : untouched, sizeof map) == 0, what);
     expect(scratch[0] == (with_scratch ? 1 : 9) && scratch[1] == 9, what);
 }
-#endif
 
-#ifndef WITHOUT_V0_REFERENCE
 static void v0_reference(void) {
     razvolk_answer answer;
     before();
@@ -82,9 +79,7 @@ static void v0_reference(void) {
     answer = razvolk_decode_v0_reference_map(stream, 12, offsets, 3, 2, 3, samples, 5, map, 5);
     expect(answer.number == 3 && answer.row == 0, "5 samples for a frame of 6 are refused by 3");
 }
-#endif
 
-#ifndef WITHOUT_V0
 static void v0(void) {
     razvolk_answer answer;
     before();
@@ -96,9 +91,7 @@ static void v0(void) {
     answer = razvolk_decode_v0(stream, 12, offsets, 3, 2, 3, samples, 7, scratch, 0);
     expect(answer.number == 4 && answer.row == 0, "no scratch for a frame of 3 rows is refused by 4");
 }
-#endif
 
-#ifndef WITHOUT_V2
 static void v2(void) {
     const size_t n = 646 * 436;
     static const uint8_t zeros[16] = {0};
@@ -119,19 +112,12 @@ static void v2(void) {
     free(out);
     free(marked);
 }
-#endif
 
 int main(void) {
     reader();
-#ifndef WITHOUT_V0_REFERENCE
     v0_reference();
-#endif
-#ifndef WITHOUT_V0
     v0();
-#endif
-#ifndef WITHOUT_V2
     v2();
-#endif
     puts(failed ? "header: FAILED" : "header: ok");
     return failed;
 }

@@ -1,7 +1,6 @@
 //! Samsung raw decoders, proved in Rattle. These are safe wrappers of the functions that `include/razvolk.h` declares.
 //!
 //! ```
-//! # if !razvolk::landed::V0_REFERENCE { return Ok(()) }
 //! // A frame of 2 by 2. The first block of row 0 predicts from a row that does not exist: its samples are skipped.
 //! let stream = [0x00, 0x00, 0x00, 0x80, 0x18, 0x20, 0xa0, 0x7f, 0x00, 0x00, 0x70, 0x00];
 //! let (mut samples, mut map) = ([7, 8, 9, 10], [0; 4]);
@@ -17,9 +16,6 @@
 
 mod answer;
 pub mod bits;
-#[doc(hidden)]
-#[allow(missing_docs)]
-pub mod landed;
 mod v0;
 mod v2;
 

@@ -196,7 +196,6 @@ pub const fn scratch_len(width: usize, height: usize) -> usize {
 #[cfg(test)]
 mod tests {
     use super::*;
-    use crate::landed;
 
     /// The document's frame whose first row is skipped, and the one with spill: stream and offsets.
     const SKIPPED: ([u8; 12], [u32; 2]) = ([0, 0, 0, 0x80, 0x18, 0x20, 0xa0, 0x7f, 0, 0, 0x70, 0], [0, 4]);
@@ -215,29 +214,21 @@ mod tests {
 
     type Entry = fn(&[u8], &[u32], usize, usize, &mut [u16], &mut [u8], &mut [u8]) -> Result<(), Refusal>;
 
-    /// The entries that the archive has, those without a map first.
-    fn entries() -> (Vec<Entry>, Vec<Entry>) {
-        let (mut plain, mut marked): (Vec<Entry>, Vec<Entry>) = (Vec::new(), Vec::new());
-        if landed::V0_REFERENCE {
-            plain.push(|s, o, w, h, out, _, _| decode_v0_reference(s, o, w, h, out));
-            marked.push(|s, o, w, h, out, map, _| decode_v0_reference_map(s, o, w, h, out, map));
-        }
-        if landed::V0 {
-            plain.push(|s, o, w, h, out, _, scratch| decode_v0(s, o, w, h, out, scratch));
-            marked.push(decode_v0_map);
-        }
-        (plain, marked)
-    }
+    /// The entries without a map, and those with one.
+    const PLAIN: [Entry; 2] = [
+        |s, o, w, h, out, _, _| decode_v0_reference(s, o, w, h, out),
+        |s, o, w, h, out, _, scratch| decode_v0(s, o, w, h, out, scratch),
+    ];
+    const MARKED: [Entry; 2] = [|s, o, w, h, out, map, _| decode_v0_reference_map(s, o, w, h, out, map), decode_v0_map];
 
     #[test]
     fn frames_of_the_document() {
-        let (plain, marked) = entries();
-        for entry in plain {
+        for entry in PLAIN {
             assert_eq!(decoded(entry, &SKIPPED.0, &SKIPPED.1, (2, 2)), (0, [7, 131, 8, 126], [9; 4]));
             assert_eq!(decoded(entry, &SPILL.0, &SPILL.1, (2, 2)), (0, [131, 132, 126, 128], [9; 4]));
             assert_eq!(decoded(entry, &[], &[0], (1, 1)), (0, [7, 8, 9, 10], [9; 4]));
         }
-        for entry in marked {
+        for entry in MARKED {
             assert_eq!(decoded(entry, &SKIPPED.0, &SKIPPED.1, (2, 2)), (0, [7, 131, 8, 126], [1, 0, 1, 0]));
             assert_eq!(decoded(entry, &SPILL.0, &SPILL.1, (2, 2)), (0, [131, 132, 126, 128], [0; 4]));
             assert_eq!(decoded(entry, &[], &[0], (1, 1)), (0, [7, 8, 9, 10], [1, 9, 9, 9]));
@@ -246,8 +237,7 @@ mod tests {
 
     #[test]
     fn sizes_of_the_document() {
-        let (plain, marked) = entries();
-        for entry in plain.into_iter().chain(marked) {
+        for entry in PLAIN.into_iter().chain(MARKED) {
             assert_eq!(decoded(entry, &[], &[], (16_385, 0)), (1, [7, 8, 9, 10], [9; 4]));
             assert_eq!(decoded(entry, &[], &[0; 16_384], (0, 16_384)), (0, [7, 8, 9, 10], [9; 4]));
             assert_eq!(decoded(entry, &[], &[0; 16_383], (0, 16_384)), (3, [7, 8, 9, 10], [9; 4]));
@@ -259,18 +249,14 @@ mod tests {
     #[test]
     fn a_short_map_or_scratch_is_refused() {
         let mut out = [7; 4];
-        if landed::V0_REFERENCE {
-            let refused = decode_v0_reference_map(&[], &[0; 4], 1, 4, &mut out, &mut [9; 3]);
-            assert_eq!(refused, Err(Refusal { number: 4, row: 0 }));
-        }
-        if landed::V0 {
-            let short = decode_v0(&[], &[0; 4], 1, 4, &mut out, &mut [9; 1]);
-            assert_eq!(short, Err(Refusal { number: 4, row: 0 }));
-            let short = decode_v0_map(&[], &[0; 4], 1, 4, &mut out, &mut [9; 3], &mut [9; 2]);
-            assert_eq!(short, Err(Refusal { number: 4, row: 0 }));
-            let short = decode_v0_map(&[], &[0; 4], 1, 4, &mut out, &mut [9; 4], &mut [9; 1]);
-            assert_eq!(short, Err(Refusal { number: 4, row: 0 }));
-        }
+        let short = decode_v0_reference_map(&[], &[0; 4], 1, 4, &mut out, &mut [9; 3]);
+        assert_eq!(short, Err(Refusal { number: 4, row: 0 }));
+        let short = decode_v0(&[], &[0; 4], 1, 4, &mut out, &mut [9; 1]);
+        assert_eq!(short, Err(Refusal { number: 4, row: 0 }));
+        let short = decode_v0_map(&[], &[0; 4], 1, 4, &mut out, &mut [9; 3], &mut [9; 2]);
+        assert_eq!(short, Err(Refusal { number: 4, row: 0 }));
+        let short = decode_v0_map(&[], &[0; 4], 1, 4, &mut out, &mut [9; 4], &mut [9; 1]);
+        assert_eq!(short, Err(Refusal { number: 4, row: 0 }));
         assert_eq!(out, [7; 4]);
     }
 

@@ -66,7 +66,6 @@ pub fn decode_v2_map(src: &[u8], width: usize, height: usize, out: &mut [u16], m
 #[cfg(test)]
 mod tests {
     use super::*;
-    use crate::landed;
 
     /// The refusal of both entries, and the samples and marks that they leave of samples 7 and map bytes 9.
     fn decoded(src: &[u8], width: usize, height: usize) -> (Refusal, Vec<u16>, Vec<u8>) {
@@ -80,9 +79,6 @@ mod tests {
 
     #[test]
     fn frames_of_the_document() {
-        if !landed::V2 {
-            return;
-        }
         let (refusal, out, map) = decoded(&[], 646, 436);
         assert_eq!(refusal, Refusal { number: 5, row: 0 });
         assert!(out.iter().all(|&s| s == 7) && map.iter().all(|&m| m == 1));
@@ -94,9 +90,6 @@ mod tests {
 
     #[test]
     fn sizes_of_the_document() {
-        if !landed::V2 {
-            return;
-        }
         for (width, height, number) in [(645, 436, 2), (646, 435, 2), (16_385, 0, 1), (0, 16_385, 1), (647, 436, 3)] {
             let (refusal, out, map) = decoded(&[0; 16], width, height);
             assert_eq!(refusal, Refusal { number, row: 0 }, "{width} by {height}");

@@ -1,6 +1,5 @@
 //! A call of a decoder, whichever it is: what is asked for, what is lent, and what is answered.
 
-use razvolk::landed;
 use std::fmt;
 
 /// What a call asks for. V2 has no offsets.
@@ -96,34 +95,28 @@ fn answer(result: Result<(), razvolk::Refusal>) -> Answer {
     }
 }
 
-/// Razvolk's six entries; those that the archive does not have yet are left out.
+/// Razvolk's six entries.
 pub fn razvolk() -> Vec<Entry> {
-    let mut entries = Vec::new();
-    if landed::V0_REFERENCE {
-        entries.push(Entry::new("decode_v0_reference", Decoder::Direct, false, |a, l| {
+    vec![
+        Entry::new("decode_v0_reference", Decoder::Direct, false, |a, l| {
             answer(razvolk::decode_v0_reference(a.src, a.offsets, a.width, a.height, l.samples))
-        }));
-        entries.push(Entry::new("decode_v0_reference_map", Decoder::Direct, true, |a, l| {
+        }),
+        Entry::new("decode_v0_reference_map", Decoder::Direct, true, |a, l| {
             answer(razvolk::decode_v0_reference_map(a.src, a.offsets, a.width, a.height, l.samples, l.map))
-        }));
-    }
-    if landed::V0 {
-        entries.push(Entry::new("decode_v0", Decoder::TwoPhase, false, |a, l| {
+        }),
+        Entry::new("decode_v0", Decoder::TwoPhase, false, |a, l| {
             answer(razvolk::decode_v0(a.src, a.offsets, a.width, a.height, l.samples, l.scratch))
-        }));
-        entries.push(Entry::new("decode_v0_map", Decoder::TwoPhase, true, |a, l| {
+        }),
+        Entry::new("decode_v0_map", Decoder::TwoPhase, true, |a, l| {
             answer(razvolk::decode_v0_map(a.src, a.offsets, a.width, a.height, l.samples, l.map, l.scratch))
-        }));
-    }
-    if landed::V2 {
-        entries.push(Entry::new("decode_v2", Decoder::V2, false, |a, l| {
+        }),
+        Entry::new("decode_v2", Decoder::V2, false, |a, l| {
             answer(razvolk::decode_v2(a.src, a.width, a.height, l.samples))
-        }));
-        entries.push(Entry::new("decode_v2_map", Decoder::V2, true, |a, l| {
+        }),
+        Entry::new("decode_v2_map", Decoder::V2, true, |a, l| {
             answer(razvolk::decode_v2_map(a.src, a.width, a.height, l.samples, l.map))
-        }));
-    }
-    entries
+        }),
+    ]
 }
 
 /// Those of V0, or those of V2.

@@ -229,7 +229,7 @@ pub fn compare(entries: &[Entry], seed: u64, pairs: u64) -> Result<Seen, Differe
     let mut random = Random::new(seed);
     let mut seen = Seen { seed, ..Seen::default() };
     let pool = Pool::new(&mut random);
-    while seen.pairs < pairs && !entries.is_empty() {
+    while seen.pairs < pairs {
         pair(entries, &mut random, &pool, &mut seen)
             .map_err(|what| Difference(format!("lists, seed {seed}, pair {}: {what}", seen.pairs)))?;
     }

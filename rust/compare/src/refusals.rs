@@ -88,7 +88,7 @@ impl fmt::Display for Seen {
 pub fn compare(entries: &[Entry], seed: u64, calls: u64) -> Result<Seen, Difference> {
     let mut random = Random::new(seed);
     let mut seen = Seen { seed, ..Seen::default() };
-    while seen.calls < calls && !entries.is_empty() {
+    while seen.calls < calls {
         for entry in entries {
             let (width, height) = size(&mut random);
             let n = width as u128 * height as u128;
