@@ -9,7 +9,7 @@ run:
 test:
 	bash .ci/run
 
-# The long comparison with the Rust.
+# The long comparison with the Rust, ten to twenty minutes.
 compare:
 	cd rust && cargo run --release --offline --locked -p compare -- long
 
