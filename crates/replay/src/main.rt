@@ -1,6 +1,6 @@
-// Replays the recorded calls of the Rust (docs/RECORD.md) on the entries of `samsung` that take no map, and tells how many differ. Past the end of
-// the file every number reads as 0, and what is larger than the buffers is cut to them, so that a broken record shows as calls
-// that differ.
+// Replays the recorded calls of the Rust (docs/RECORD.md) on the entries of `samsung` that take no map, and tells how many
+// differ. Past the end of the file every number reads as the reader's filler, and what is larger than the buffers is cut to
+// them, so that a broken record shows as calls that differ.
 mod call;
 mod samples;
 
