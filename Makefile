@@ -1,4 +1,4 @@
-.PHONY: run test compare bench fmt
+.PHONY: run test refuse compare bench fmt
 
 # The main job: proves and builds the program, and decodes the example with it.
 run:
@@ -8,6 +8,13 @@ run:
 # The gate.
 test:
 	bash .ci/run
+
+# Every wrong edit that the proofs must refuse, also those of edits/, which cost too much for the gate: about an hour.
+refuse:
+	rm -rf target/refuse && mkdir -p target/refuse
+	cp -r crates crates.txt target/refuse/
+	for crate in edits/*; do cp $$crate/*.edit target/refuse/crates/$${crate#edits/}/must-fail/; done
+	cd target/refuse && rt must-fail
 
 # The long comparison with the Rust, ten to twenty minutes.
 compare:
