@@ -9,7 +9,7 @@ run:
 test:
 	bash .ci/run
 
-# Every wrong edit that the proofs must refuse, also those of edits/, which cost too much for the gate: about an hour.
+# Every wrong edit that the proofs must refuse, also those of edits/, which cost too much for the gate.
 refuse:
 	rm -rf target/refuse && mkdir -p target/refuse
 	cp -r crates crates.txt target/refuse/
