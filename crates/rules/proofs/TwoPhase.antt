@@ -2,7 +2,7 @@
 -- two adds to, the operations of rows 2 on without their spill; storing and adding come to applying them (Stored), the skip rule
 -- changes none of them (SkipRule), and their spill changes no sample (Spill).
 use Prim.Native.Nat.{ℕ, zero, suc, _+_, _-_, _*_, _%_, _≤_, _<_, min}
-use mathlib.Core.Bool.{Bool, true, false, cond, not}
+use mathlib.Core.Bool.{Bool, true, false, cond}
 use mathlib.Core.Path.{_≡_, refl, sym, ap, _∙_}
 use mathlib.Core.Logic.{_≢_}
 use mathlib.Core.List.{List, [], _∷_, _++_, map, append-assoc, append-nil}
@@ -21,7 +21,7 @@ use Rattle.rules.specs.declared.v0.V0Op.{V0Op}
 use Rattle.rules.specs.declared.v0.V0Row.{V0Row}
 use Rattle.rules.specs.Frame.{cells}
 use Rattle.rules.specs.V0.{Step, put, apply, columns-back, head, residual-bits, length-bits, length-of, sample, samples, order, blocks, blocks-in, fresh-row, rows, exchange, frame, sample-kind, decoded}
-use Rattle.rules.specs.Phases.{residuals, BlockRecord, block-records, row-records, store-samples, store-blocks, phase-one, direction, directions, late-predictor, Stage, predict-samples, predict-blocks, phase-two, sample-stage, scratch, first-rows, two-phase}
+use Rattle.rules.specs.Phases.{residuals, BlockRecord, block-records, row-records, store-samples, store-blocks, phase-one, direction, upward, directions, late-predictor, Stage, predict-samples, predict-blocks, phase-two, sample-stage, scratch, first-rows, two-phase}
 use Rattle.rules.specs.Map.{all-old, v0-marks, mark-stage, v0-map, two-phase-map}
 use Rattle.rules.specs.Answer.{scratch-bytes}
 use Rattle.rules.proofs.Cells.{All, nil, more, all-append, all-map, all-every}
@@ -145,7 +145,7 @@ scratch-bytes-below s offsets z = directions-bytes s offsets (z .width) (z .heig
 
 -- ── Phase two adds the predictions ──
 
-direction-up : (up : Bool) → not (eqb (cond up 1 0) 0) ≡ up
+direction-up : (up : Bool) → upward (cond up 1 0) ≡ up
 direction-up true = refl
 direction-up false = refl
 

@@ -72,6 +72,10 @@ phase-one s offsets w (suc n) row f =
 abbrev pub direction : BlockRecord → ℕ
 direction r = cond (r .up) 1 0
 
+-- The direction that a byte stands for: 0 is direction 0, any other 1.
+abbrev pub upward : ℕ → Bool
+upward d = not (eqb d 0)
+
 -- The direction bytes of n rows from a row on, one for each block, row by row.
 unfoldable pub directions : List ℕ → List ℕ → ℕ → ℕ → ℕ → List ℕ
 directions s offsets w zero row = []
@@ -101,11 +105,11 @@ module _ {A : Type 0} (g : Stage A) where
       predict-samples w row col up cs
       (cond (ltb (col + c) w) (put (g .kind) place (late-predictor w row col up c) d f) f)
 
-  -- The blocks of a row from a column on, one for each direction byte: byte 0 is direction 0, any other 1.
+  -- The blocks of a row from a column on, one for each direction byte.
   unfoldable pub predict-blocks : ℕ → ℕ → ℕ → List ℕ → List A → List A
   predict-blocks w row col [] f = f
   predict-blocks w row col (d ∷ ds) f =
-      predict-blocks w row (col + 16) ds (predict-samples w row col (not (eqb d 0)) order f)
+      predict-blocks w row (col + 16) ds (predict-samples w row col (upward d) order f)
 
   -- n rows from a row on, whose direction bytes are the first of `ds`.
   unfoldable pub phase-two : ℕ → ℕ → ℕ → List ℕ → List A → List A

@@ -1,19 +1,18 @@
 -- Phase two of any kind of cell: row by row, block by block and sample by sample, what is left from here comes to the whole from
 -- the start.
 use mathlib.Core.Path.{_≡_, refl, sym, _∙_}
-use mathlib.Core.Bool.{Bool, true, false, cond, not}
+use mathlib.Core.Bool.{Bool, true, false, cond}
 use mathlib.Core.List.{List, [], _∷_, _++_}
 use mathlib.Core.Logic.{⊎-elim}
 use Prim.Native.Nat.{ℕ, zero, suc, _+_, _-_, _*_, _%_, _≤_, _<_}
 use native.Mathlib.Omega.{arith}
 use native.Mathlib.Nat.{mul-le-mul-right}
 use native.Mathlib.Numerals.{add-one}
-use lib.Dec.{eqb}
 use lib.ListN.{length, getD, set, take, drop, length-drop, drop-of-length-le}
 use lib.Seq.{drop-cons, drop-drop, getD-take, getD-drop, length-take-le, take-append-le, drop-append-le}
 use borrow.Author.Tests.{lt-ltb, le-ltb, ne-eqb}
 use Rattle.rules.specs.V0.{put, order, blocks-in, rows-up, columns-back}
-use Rattle.rules.specs.Phases.{Stage, late-predictor, predict-samples, predict-blocks, phase-two}
+use Rattle.rules.specs.Phases.{Stage, upward, late-predictor, predict-samples, predict-blocks, phase-two}
 use Rattle.rules.specs.declared.v0.Predictor.{Predictor}
 use Rattle.rules.specs.declared.v0.Predictor.the-variants.{Constant, Sample}
 use Rattle.rules.specs.declared.answer.Size.{Size}
@@ -115,7 +114,7 @@ module _ (g : Stage ℕ) (w row n : ℕ) (ds : List ℕ) where
   blocks-begun f = record { below = omega arith; same-length = refl; cells-are = refl }
 
   pub blocks-on : (f₀ f f′ : List ℕ) (k d : ℕ) → k < n → length ds ≡ n → d ≡ getD ds k 0 → length f′ ≡ length f
-      → f′ ≡ predict-samples g w row (k * 16) (not (eqb d 0)) order f → Blocks f₀ f k → Blocks f₀ f′ (k + 1)
+      → f′ ≡ predict-samples g w row (k * 16) (upward d) order f → Blocks f₀ f k → Blocks f₀ f′ (k + 1)
   unfolding predict-blocks
   blocks-on f₀ f f′ k d h all ed same q p =
       record { below = omega arith; same-length = same ∙ p .same-length; cells-are = sym left ∙ p .cells-are }
