@@ -13,7 +13,7 @@ test:
 refuse:
 	rm -rf target/refuse && mkdir -p target/refuse
 	cp -r crates crates.txt target/refuse/
-	for crate in edits/*; do cp $$crate/*.edit target/refuse/crates/$${crate#edits/}/must-fail/; done
+	for crate in edits/*; do to=target/refuse/crates/$${crate#edits/}/must-fail; mkdir -p $$to; cp $$crate/*.edit $$to/; done
 	cd target/refuse && rt must-fail
 
 # The long comparison with the Rust, ten to twenty minutes.

@@ -23,9 +23,10 @@ use Rattle.rules.specs.declared.v0.Predictor.the-variants.{Sample}
 use Rattle.rules.specs.declared.v0.V0Op.{V0Op}
 use Rattle.rules.specs.declared.v0.V0Row.{V0Row}
 use Rattle.v0.specs.Limits.{Inner, Inside, Whole}
-use Rattle.v0.specs.Block.{block-ops, after-block, with-residuals, whole-block, source-of, inner-ops}
-use Rattle.v0.specs.declared.block.ReadBlock.{ReadBlock}
-use Rattle.v0.proofs.BlockLaws.{order-below}
+use Rattle.v0_block.specs.Block.{with-residuals, whole-block}
+use Rattle.v0_block.specs.declared.block.ReadBlock.{ReadBlock}
+use Rattle.v0_block.proofs.BlockLaws.{order-below}
+use Rattle.v0.specs.Block.{block-ops, after-block, source-of, inner-ops}
 use Rattle.v0.proofs.CellLaws.{product, apply-empty, bounded-both, Left, left-begun, left-on, left-none}
 
 -- ── The source of a sample ──

@@ -1,5 +1,3 @@
-pub mod HeadLaws
-pub mod BlockLaws
 pub mod CellLaws
 pub mod SampleLaws
 pub mod InnerLaws

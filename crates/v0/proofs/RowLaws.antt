@@ -15,10 +15,10 @@ use Rattle.rules.specs.declared.reader.Bits.{Bits}
 use Rattle.rules.specs.declared.v0.V0Row.{V0Row}
 use Rattle.rules.specs.declared.v0.V0Head.{V0Head}
 use Rattle.rules.specs.declared.v0.V0Op.{V0Op}
-use Rattle.v0.specs.Lengths.{Within, furthest}
+use Rattle.v0_block.specs.Lengths.{Within, furthest}
 use Rattle.v0.specs.Limits.{Whole, InFrame, Inner, InRow}
 use Rattle.v0.specs.Block.{samples-of, block-ops, after-block}
-use Rattle.v0.proofs.HeadLaws.{within-more, fresh-within, head-within}
+use Rattle.v0_block.proofs.HeadLaws.{within-more, fresh-within, head-within}
 use Rattle.v0.proofs.CellLaws.{Left, left-begun, left-on, left-none}
 
 -- ── One block ──

@@ -3,24 +3,12 @@ use Prim.Native.Nat.{ℕ, _+_, _-_, _*_}
 use mathlib.Core.Bool.{Bool, cond}
 use mathlib.Core.List.{List, [], _∷_}
 use Rattle.rules.specs.V0.{Ops, head, samples, predictor, order, rows-up, columns-back}
-use Rattle.rules.specs.Phases.{residuals}
 use Rattle.rules.specs.declared.answer.Size.{Size}
 use Rattle.rules.specs.declared.reader.Bits.{Bits}
 use Rattle.rules.specs.declared.v0.Predictor.the-variants.{Sample}
 use Rattle.rules.specs.declared.v0.V0Op.{V0Op}
 use Rattle.rules.specs.declared.v0.V0Row.{V0Row}
 use Rattle.rules.specs.declared.v0.V0Head.{V0Head}
-use Rattle.v0.specs.declared.block.ReadBlock.{ReadBlock}
-
--- The residuals after a head, in the order of the stream, and the row's state after them.
-unfoldable pub with-residuals : List ℕ → V0Head → ReadBlock
-with-residuals s h =
-    let x = residuals s (h .row .lengths) order (h .row .bits) in
-    record { up = h .up; row = record { lengths = h .row .lengths; bits = x .bits }; residuals = x .values }
-
--- A block of which every sample is read, as `read_block` gives it.
-unfoldable pub whole-block : List ℕ → V0Row → ReadBlock
-whole-block s st = with-residuals s (head s st)
 
 -- The samples `cs` of the block at a column of a row, after the block's head.
 abbrev pub samples-of : List ℕ → Size → ℕ → ℕ → V0Head → List ℕ → Bits → Ops

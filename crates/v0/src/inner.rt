@@ -6,13 +6,13 @@ ghost use lib.ListN.{length, replicate};
 ghost use Rattle.rules.specs.V0 as V0;
 ghost use Rattle.rules.specs.Frame.{cells};
 ghost use Rattle.rules.specs.Map.{v0-marks};
-ghost use Rattle.v0.specs.Lengths.{Within, furthest};
+ghost use Rattle.v0_block.specs.Lengths.{Within, furthest};
 ghost use Rattle.v0.specs.Limits.{Whole, Inner, Inside};
 ghost use Rattle.v0.specs.Block.{source-of, inner-ops, block-ops, after-block};
-use super::block::read_block;
 use super::sample::stream_column;
 use rules::Size;
 use rules::V0Row;
+use v0_block::block::read_block;
 
 // Where sample c predicts from.
 fn source(w: usize, base: usize, up: bool, c: usize) -> usize

@@ -6,14 +6,14 @@ ghost use lib.ListN.{length};
 ghost use Rattle.rules.specs.V0 as V0;
 ghost use Rattle.rules.specs.Frame.{cells};
 ghost use Rattle.rules.specs.Map.{v0-marks};
-ghost use Rattle.v0.specs.Lengths.{Within, furthest};
+ghost use Rattle.v0_block.specs.Lengths.{Within, furthest};
 ghost use Rattle.v0.specs.Limits.{Whole, InFrame, Inner, InRow};
 ghost use Rattle.v0.specs.Block.{block-ops, after-block};
-use super::head::read_head;
 use super::inner::decode_inner;
 use super::sample::decode_samples;
 use rules::Size;
 use rules::V0Row;
+use v0_block::head::read_head;
 
 // Whether a block is an inner one.
 fn is_inner(size: Size, row: usize, col: usize) -> bool

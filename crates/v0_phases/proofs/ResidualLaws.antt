@@ -13,10 +13,10 @@ use borrow.Author.Tests.{lt-ltb, le-ltb}
 use Rattle.rules.specs.V0.{order, fresh-row, blocks-in}
 use Rattle.rules.specs.Phases.{BlockRecord, block-records, row-records, store-samples, store-blocks, direction}
 use Rattle.rules.specs.declared.v0.V0Row.{V0Row}
-use Rattle.v0.specs.Block.{with-residuals, whole-block}
-use Rattle.v0.specs.Lengths.{Within, furthest}
-use Rattle.v0.specs.declared.block.ReadBlock.{ReadBlock}
-use Rattle.v0.proofs.HeadLaws.{fresh-within, head-within}
+use Rattle.v0_block.specs.Block.{with-residuals, whole-block}
+use Rattle.v0_block.specs.Lengths.{Within, furthest}
+use Rattle.v0_block.specs.declared.block.ReadBlock.{ReadBlock}
+use Rattle.v0_block.proofs.HeadLaws.{fresh-within, head-within}
 
 -- ── A block's residuals ──
 

@@ -11,8 +11,8 @@ ghost use Rattle.rules.specs.Phases.{store-samples, store-blocks, row-records, 
 ghost use Rattle.v0_phases.specs.Lent.{RowLent, PhaseLent};
 use rules::Size;
 use rules::V0Row;
-use v0::block::read_block;
 use v0::sample::stream_column;
+use v0_block::block::read_block;
 
 // A block's direction as a byte.
 fn direction_byte(up: bool) -> u8

@@ -1,7 +1,7 @@
 use mathlib.Core.Path.{sym}
 use native.Mathlib.Omega.{arith}
 use borrow.Author.Needs.{needs}
-use Rattle.v0.proofs.BlockLaws.{order-at}
+use Rattle.v0_block.proofs.BlockLaws.{order-at}
 use Rattle.v0.proofs.sample.stream_column.Statement.{statement}
 use Rattle.v0.proofs.sample.stream_column.Tie as tie
 

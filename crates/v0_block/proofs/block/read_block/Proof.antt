@@ -1,8 +1,8 @@
 -- The head, and the residuals after it.
 use borrow.Author.Needs.{needs}
-use Rattle.v0.proofs.BlockLaws.{block-read}
-use Rattle.v0.proofs.block.read_block.Statement.{statement}
-use Rattle.v0.proofs.block.read_block.Tie as tie
+use Rattle.v0_block.proofs.BlockLaws.{block-read}
+use Rattle.v0_block.proofs.block.read_block.Statement.{statement}
+use Rattle.v0_block.proofs.block.read_block.Tie as tie
 
 read-head-requires : tie.Need-read-head-requires
 read-head-requires c κs = search needs

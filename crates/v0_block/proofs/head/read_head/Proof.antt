@@ -1,9 +1,9 @@
 -- A 2-bit number is an operation, as `read_lengths` asks.
 use mathlib.Core.Path.{refl}
 use borrow.Author.Needs.{needs}
-use Rattle.v0.proofs.HeadLaws.{operations-below, head-is}
-use Rattle.v0.proofs.head.read_head.Statement.{statement}
-use Rattle.v0.proofs.head.read_head.Tie as tie
+use Rattle.v0_block.proofs.HeadLaws.{operations-below, head-is}
+use Rattle.v0_block.proofs.head.read_head.Statement.{statement}
+use Rattle.v0_block.proofs.head.read_head.Tie as tie
 
 get-requires : tie.Need-get-requires
 get-requires c κs = search needs

@@ -4,7 +4,7 @@ ghost use Prim.Native.Nat.{_<_, _≤_};
 ghost use lib.Signed.{mag};
 ghost use Rattle.rules.specs.Reader.{four};
 ghost use Rattle.rules.specs.V0.{operated, operate, head};
-ghost use Rattle.v0.specs.Lengths.{stepped, Below, Within, furthest};
+ghost use Rattle.v0_block.specs.Lengths.{stepped, Below, Within, furthest};
 use bits::get;
 use rules::Bits;
 use rules::Four;

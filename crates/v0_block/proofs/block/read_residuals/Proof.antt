@@ -7,9 +7,9 @@ use lib.ListN.{getD}
 use mir.ValLaws.{toZ-ofZ}
 use mir.Syntax.{w32}
 use borrow.Author.Needs.{needs}
-use Rattle.v0.proofs.BlockLaws.{Reading, reading-begun, reading-on, read-all}
-use Rattle.v0.proofs.block.read_residuals.Statement.{statement}
-use Rattle.v0.proofs.block.read_residuals.Tie as tie
+use Rattle.v0_block.proofs.BlockLaws.{Reading, reading-begun, reading-on, read-all}
+use Rattle.v0_block.proofs.block.read_residuals.Statement.{statement}
+use Rattle.v0_block.proofs.block.read_residuals.Tie as tie
 
 abbrev Inv-loop : tie.InvT-loop
 Inv-loop src head lengths bits₀ residuals₀ k₀ bits residuals k = Reading src lengths bits₀ bits residuals k

@@ -2,8 +2,8 @@
 // inner blocks by it.
 ghost use mathlib.Core.Path.{_≡_};
 ghost use Rattle.rules.specs.V0.{length-bits};
-ghost use Rattle.v0.specs.Lengths.{Within, furthest};
-ghost use Rattle.v0.specs.Block.{with-residuals, whole-block};
+ghost use Rattle.v0_block.specs.Lengths.{Within, furthest};
+ghost use Rattle.v0_block.specs.Block.{with-residuals, whole-block};
 use super::head::read_head;
 use bits::read_residual;
 use rules::V0Head;

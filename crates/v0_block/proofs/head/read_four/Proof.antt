@@ -1,8 +1,8 @@
 -- One read after another is the rule's list of fields.
 use borrow.Author.Needs.{needs}
-use Rattle.v0.proofs.HeadLaws.{four-are}
-use Rattle.v0.proofs.head.read_four.Statement.{statement}
-use Rattle.v0.proofs.head.read_four.Tie as tie
+use Rattle.v0_block.proofs.HeadLaws.{four-are}
+use Rattle.v0_block.proofs.head.read_four.Statement.{statement}
+use Rattle.v0_block.proofs.head.read_four.Tie as tie
 
 get-requires : tie.Need-get-requires
 get-requires c κs = search needs

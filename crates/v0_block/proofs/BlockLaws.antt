@@ -21,10 +21,10 @@ use Rattle.rules.specs.declared.reader.Bits.{Bits}
 use Rattle.rules.specs.declared.reader.Residual.{Residual}
 use Rattle.rules.specs.declared.v0.V0Row.{V0Row}
 use Rattle.rules.specs.declared.v0.V0Head.{V0Head}
-use Rattle.v0.specs.Lengths.{Within}
-use Rattle.v0.specs.Block.{with-residuals, whole-block}
-use Rattle.v0.specs.declared.block.ReadBlock.{ReadBlock}
-use Rattle.v0.proofs.HeadLaws.{head-within}
+use Rattle.v0_block.specs.Lengths.{Within}
+use Rattle.v0_block.specs.Block.{with-residuals, whole-block}
+use Rattle.v0_block.specs.declared.block.ReadBlock.{ReadBlock}
+use Rattle.v0_block.proofs.HeadLaws.{head-within}
 
 -- ── The order of the stream ──
 

@@ -21,7 +21,7 @@ use Rattle.rules.specs.declared.reader.Got.{Got}
 use Rattle.rules.specs.declared.reader.Four.{Four}
 use Rattle.rules.specs.declared.v0.V0Row.{V0Row}
 use Rattle.rules.specs.declared.v0.V0Length.{V0Length}
-use Rattle.v0.specs.Lengths.{stepped, Below, Within, furthest}
+use Rattle.v0_block.specs.Lengths.{stepped, Below, Within, furthest}
 
 -- ── One length ──
 

@@ -1,0 +1,18 @@
+-- A block of which every sample is read.
+use Prim.Native.Nat.{ℕ}
+use mathlib.Core.List.{List}
+use Rattle.rules.specs.V0.{head, order}
+use Rattle.rules.specs.Phases.{residuals}
+use Rattle.rules.specs.declared.v0.V0Row.{V0Row}
+use Rattle.rules.specs.declared.v0.V0Head.{V0Head}
+use Rattle.v0_block.specs.declared.block.ReadBlock.{ReadBlock}
+
+-- The residuals after a head, in the order of the stream, and the row's state after them.
+unfoldable pub with-residuals : List ℕ → V0Head → ReadBlock
+with-residuals s h =
+    let x = residuals s (h .row .lengths) order (h .row .bits) in
+    record { up = h .up; row = record { lengths = h .row .lengths; bits = x .bits }; residuals = x .values }
+
+-- A block as `read_block` gives it.
+unfoldable pub whole-block : List ℕ → V0Row → ReadBlock
+whole-block s st = with-residuals s (head s st)
