@@ -8,7 +8,7 @@ use Rattle.rules.specs.Reader.{fetched, held, first-bits, read}
 use Rattle.rules.proofs.ReaderLaws.{held-small, read-held, read-next, read-capped}
 use Rattle.rules.specs.declared.reader.Bits.{Bits}
 use Rattle.rules.specs.declared.reader.Word.{Word}
-use Rattle.bits.specs.Refilled.{Enough}
+use Rattle.bits.specs.Refilled.{Enough, Whole}
 use Rattle.bits.specs.declared.Refilled.{Refilled}
 
 module _ (s : List ℕ) (b : Bits) (k h : ℕ) (few : k ≤ 32) (is : h ≡ held b) where
@@ -19,20 +19,22 @@ module _ (s : List ℕ) (b : Bits) (k h : ℕ) (few : k ≤ 32) (is : h ≡ held
         enough = l;
         few = omega (arith, held-small b);
         reads = read-held s b k (omega arith) ∙ rw (m, is);
+        whole = λ e. absurd (omega (arith, is));
       }
 
-  pub enough-next : (w : Word) (p : ℕ) (o : Bool) → h < k → w ≡ fetched s (b .pos) → p ≡ (b .pos + 4) % 2 ^ 64 → o ≡ b .overrun || w .missing
+  pub enough-next : (w : Word) (p : ℕ) (o : Bool) → h < k → w ≡ fetched s (b .pos) → w .value < 2 ^ 32 → p ≡ (b .pos + 4) % 2 ^ 64 → o ≡ b .overrun || w .missing
       → Enough s b k (record { words = b .word * 2 ^ 32 + w .value; bits = record { pos = p; word = w .value; count = h + 32; overrun = o } })
-  enough-next w p o l ew ep eo =
+  enough-next w p o l ew lw ep eo =
       let m : min k 32 ≡ k = omega arith in
       record {
         enough = omega (arith, held-small b);
         few = omega arith;
         reads = read-next s b k (omega arith) ∙ rw (m, eo, ep, ew, is);
+        whole = λ e. rw ew at lw;
       }
 
 pub read-cut : (s : List ℕ) (b : Bits) (n k : ℕ) (r : Refilled) (v : ℕ) → k ≡ min n 32 → Enough s b k r → v ≡ first-bits (r .words) (r .bits .count) k
-    → record { value = v; bits = record { pos = r .bits .pos; word = r .bits .word; count = (r .bits .count - k) % 32; overrun = r .bits .overrun } } ≡ read s b n
+    → Whole s b n (record { value = v; bits = record { pos = r .bits .pos; word = r .bits .word; count = (r .bits .count - k) % 32; overrun = r .bits .overrun } })
 read-cut s b n k r v ek e ev =
     let c : (r .bits .count - k) % 32 ≡ r .bits .count - k = omega (arith, e .few, e .enough) in
-    rw (← read-capped s b n, ← ek, e .reads, ev, c)
+    record { reads = rw (← read-capped s b n, ← ek, e .reads, ev, c); whole = rw ek at (e .whole) }

@@ -1,8 +1,8 @@
--- What `refill` leaves for the one cut of `get`.
-use Prim.Native.Nat.{ℕ, _+_, _-_, _≤_, _<_}
+-- What `refill` leaves for the one cut of `get_whole`, and what that gives.
+use Prim.Native.Nat.{ℕ, _+_, _-_, _^_, _≤_, _<_, min}
 use mathlib.Core.List.{List}
 use mathlib.Core.Path.{_≡_}
-use Rattle.rules.specs.Reader.{first-bits, read}
+use Rattle.rules.specs.Reader.{fetched, held, first-bits, read}
 use Rattle.rules.specs.declared.reader.Bits.{Bits}
 use Rattle.rules.specs.declared.reader.Got.{Got}
 use Rattle.bits.specs.declared.Refilled.{Refilled}
@@ -21,3 +21,9 @@ pub record Enough (s : List ℕ) (b : Bits) (k : ℕ) (r : Refilled) : Type 0 wh
   pub enough : k ≤ r .bits .count
   pub few : r .bits .count < k + 32
   pub reads : read s b k ≡ cut r k
+  pub whole : held b < k → fetched s (b .pos) .value < 2 ^ 32
+
+-- A read of n bits. If it fetched a word, that word has 32 bits.
+pub record Whole (s : List ℕ) (b : Bits) (n : ℕ) (r : Got) : Type 0 where
+  pub reads : r ≡ read s b n
+  pub whole : held b < min n 32 → fetched s (b .pos) .value < 2 ^ 32

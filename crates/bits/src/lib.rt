@@ -4,7 +4,10 @@ ghost use mathlib.Core.Bool.{_||_};
 ghost use mathlib.Core.Path.{_≡_};
 ghost use Prim.Native.Nat.{_+_, _*_, _/_, _%_, _^_, _≤_, _<_, min};
 ghost use Rattle.rules.specs.Reader.{fetched, held, reset-at, read, signed, read-signed, modulo, read-residual};
-ghost use Rattle.bits.specs.Refilled.{Enough};
+ghost use Rattle.bits.specs.Refilled.{Enough, Whole};
+use fields::field;
+use fields::residual_of;
+use fields::signed_of;
 pub use rules::Bits;
 pub use rules::Got;
 pub use rules::Residual;
@@ -36,22 +39,6 @@ pub fn fetch(src: &[u8], pos: u64) -> Word
         value: Bits::FILLER,
         missing: true,
     }
-}
-
-// 2^k.
-fn power(k: u32) -> u64
-    requires { ⌜ k < 64 ⌝ }
-    ensures { λ r. ⌜ r ≡ 2 ^ k ⌝ }
-{
-    1u64 << k
-}
-
-// The k bits of x above its lowest `left`.
-fn field(x: u64, left: u32, k: u32) -> u32
-    requires { ⌜ (left < 64) × (k ≤ 32) ⌝ }
-    ensures { λ r. ⌜ r ≡ x / 2 ^ left % 2 ^ k ⌝ }
-{
-    (x / power(left) % power(k)) as u32
 }
 
 // How many bits a read of n takes.
@@ -117,10 +104,11 @@ fn refill(src: &[u8], bits: Bits, k: u32) -> Refilled
     }
 }
 
-// Reads n bits, at most 32. Both ways of `refill` end in one cut, and the remainder by 32, which changes nothing, tells the
-// compiler what the next read need not test: so this reads in fewer instructions than two ways with a result each.
-pub fn get(src: &[u8], bits: Bits, n: u32) -> Got
-    ensures { λ r. ⌜ r ≡ read (now (src .entry)) bits n ⌝ }
+// Reads n bits, at most 32, and says that a word it fetched has 32 bits: so the value can be cut into shorter fields. Both ways
+// of `refill` end in one cut, and the remainder by 32, which changes nothing, tells the compiler what the next read need not
+// test: so this reads in fewer instructions than two ways with a result each.
+pub fn get_whole(src: &[u8], bits: Bits, n: u32) -> Got
+    ensures { λ r. ⌜ Whole (now (src .entry)) bits n r ⌝ }
 {
     let k = capped(n);
     let r = refill(src, bits, k);
@@ -137,6 +125,13 @@ pub fn get(src: &[u8], bits: Bits, n: u32) -> Got
     }
 }
 
+// Reads n bits, at most 32.
+pub fn get(src: &[u8], bits: Bits, n: u32) -> Got
+    ensures { λ r. ⌜ r ≡ read (now (src .entry)) bits n ⌝ }
+{
+    get_whole(src, bits, n)
+}
+
 // Drops the buffered bits and goes to `pos`; an overrun stays.
 pub fn reset_at(bits: Bits, pos: u64) -> Bits
     ensures { λ r. ⌜ r ≡ reset-at bits pos ⌝ }
@@ -148,32 +143,6 @@ pub fn reset_at(bits: Bits, pos: u64) -> Bits
         count: 0,
         overrun,
     }
-}
-
-// What two's complement takes off the k bits v: 2^k if the highest is set, else 0. A residual's sign is not to be guessed, so
-// there is no branch.
-fn sign_part(v: u32, k: u32) -> u64
-    requires { ⌜ (k ≤ 32) × (v < 2 ^ k) ⌝ }
-    ensures { λ r. ⌜ r ≡ v * 2 / 2 ^ k * 2 ^ k ⌝ }
-{
-    let top = power(k);
-    v as u64 * 2 / top * top
-}
-
-// The number that the k bits v are in two's complement.
-fn signed_of(v: u32, k: u32) -> i32
-    requires { ⌜ (k ≤ 32) × (v < 2 ^ k) ⌝ }
-    ensures { λ r. ⌜ r ≡ signed k v ⌝ }
-{
-    (v as i64 - sign_part(v, k) as i64) as i32
-}
-
-// The same number modulo 65,536.
-fn residual_of(v: u32, k: u32) -> u16
-    requires { ⌜ (k ≤ 32) × (v < 2 ^ k) ⌝ }
-    ensures { λ r. ⌜ r ≡ modulo (signed k v) ⌝ }
-{
-    ((4_294_967_296 + v as u64 - sign_part(v, k)) % 65_536) as u16
 }
 
 // Reads a number of n bits, at most 32, in two's complement.

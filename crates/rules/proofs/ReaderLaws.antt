@@ -3,7 +3,7 @@ use mathlib.Core.Path.{_≡_, refl, sym, ap, _∙_}
 use mathlib.Core.Bool.{Bool, true, false, cond, _||_}
 use mathlib.Core.List.{List, [], _∷_}
 use Prim.Native.Nat.{ℕ, zero, suc, _+_, _*_, _-_, _/_, _%_, _^_, _≤_, _<_, min}
-use native.Mathlib.Nat.{one-mul, zero-mul, mul-assoc, mul-add-mod-self-right, div-eq-of-lt, div-eq-of-lt-le, mod-le, mod-lt}
+use native.Mathlib.Nat.{div-one, mod-eq-of-lt, one-mul, zero-mul, mul-assoc, mul-add-mod-self-right, div-eq-of-lt, div-eq-of-lt-le, mod-le, mod-lt}
 use native.Mathlib.Omega.{arith}
 use lib.Dec.{T, ltb, leb, ltb→lt}
 use lib.IntN.{ℤ, pos, negsuc, _-ℤ_}
@@ -240,7 +240,8 @@ module _ (s : List ℕ) (st : Bits) (a b : ℕ) (fit : a + b ≤ 32) where
       go false e true f = rest-across (leb-true a (held st) f) (leb-false (a + b) (held st) e)
       go false e false f = rest-next (leb-false a (held st) f)
 
-  pub read-split-first : fetched s (st .pos) .value < 2 ^ 32 → read s st (a + b) .value / 2 ^ b ≡ read s st a .value
+  -- Where a word is fetched, it must be one of 32 bits.
+  pub read-split-first : (held st < a + b → fetched s (st .pos) .value < 2 ^ 32) → read s st (a + b) .value / 2 ^ b ≡ read s st a .value
   read-split-first w = go (leb (a + b) (held st)) refl (leb a (held st)) refl
     where
       go : (t : Bool) → leb (a + b) (held st) ≡ t → (u : Bool) → leb a (held st) ≡ u → read s st (a + b) .value / 2 ^ b ≡ read s st a .value
@@ -257,7 +258,7 @@ module _ (s : List ℕ) (st : Bits) (a b : ℕ) (fit : a + b ≤ 32) where
             held-of s st a (omega arith) l,
             split-first (st .word * 2 ^ 32 + fetched s (st .pos) .value) (held st + 32 - (a + b)) a b,
             c,
-            in-first (st .word) (fetched s (st .pos) .value) (held st - a) w,
+            in-first (st .word) (fetched s (st .pos) .value) (held st - a) (w h),
           )
       go false e false f =
           let h = leb-false a (held st) f in
@@ -294,6 +295,72 @@ fields-prefix s p [] b l e = refl
 fields-prefix s p (n ∷ ns) b l e =
     let g = read-prefix s p b n l (fields-kept (take p s) ns (read (take p s) b n .bits) e) in
     rw (fields-prefix s p ns (read (take p s) b n .bits) l e, g)
+
+-- ── Fields read at once ──
+
+-- How many bits fields of some widths have together, and what a number of so many bits is cut into.
+pub total : List ℕ → ℕ
+total [] = 0
+total (n ∷ ns) = n + total ns
+
+pub cut : List ℕ → ℕ → List ℕ
+cut [] v = []
+cut (n ∷ ns) v = v / 2 ^ total ns % 2 ^ n ∷ cut ns v
+
+cut-field : (v a l k : ℕ) → v % 2 ^ (a + (k + l)) / 2 ^ l % 2 ^ k ≡ v / 2 ^ l % 2 ^ k
+cut-field v a l k =
+    sym (field (v % 2 ^ (a + (k + l))) k l) ∙ ap (λ (x : ℕ). x / 2 ^ l) (mod-mod-pow v a (k + l)) ∙ field v k l
+
+-- What stands above the fields does not matter to them.
+cut-low : (a : ℕ) (ns : List ℕ) (v : ℕ) → cut ns (v % 2 ^ (a + total ns)) ≡ cut ns v
+unfolding cut total
+cut-low a [] v = refl
+cut-low a (n ∷ ns) v =
+    let e : a + (n + total ns) ≡ a + n + total ns = omega arith in
+    rw (cut-field v a (total ns) n) (ap (λ x. v / 2 ^ total ns % 2 ^ n ∷ cut ns (v % 2 ^ x)) e ∙ ap (λ xs. v / 2 ^ total ns % 2 ^ n ∷ xs) (cut-low (a + n) ns v))
+
+-- A read that ends within the word that the first part fetched, or that was held, fetches no other.
+whole-rest : (s : List ℕ) (b : Bits) (n m : ℕ) → n + m ≤ 32 → (held b < n + m → fetched s (b .pos) .value < 2 ^ 32)
+    → held (read s b n .bits) < m → fetched s (read s b n .bits .pos) .value < 2 ^ 32
+whole-rest s b n m fit w = go (leb n (held b)) refl
+  where
+    Goal : Type 0
+    Goal = held (read s b n .bits) < m → fetched s (read s b n .bits .pos) .value < 2 ^ 32
+
+    go : (t : Bool) → leb n (held b) ≡ t → Goal
+    go true e =
+        let l = leb-true n (held b) e in
+        let mid : Bits = from-held b n .bits in
+        let c : held mid ≡ held b - n = held-is mid (omega (arith, held-small b)) in
+        rw (held-of s b n (omega arith) l) (λ h. w (omega (arith, c)))
+    go false e =
+        let l = leb-false n (held b) e in
+        let mid : Bits = from-next b (fetched s (b .pos)) n .bits in
+        let c : held mid ≡ held b + 32 - n = held-is mid (omega arith) in
+        rw (next-of s b n (omega arith) l) (λ h. absurd (omega (arith, c)))
+
+-- Fields of at most 32 bits together are one read, cut.
+pub fields-at-once : (s : List ℕ) (n : ℕ) (ns : List ℕ) (b : Bits) → n + total ns ≤ 32 → (held b < n + total ns → fetched s (b .pos) .value < 2 ^ 32)
+    → fields s (n ∷ ns) b ≡ record { values = cut (n ∷ ns) (read s b (n + total ns) .value); bits = read s b (n + total ns) .bits }
+unfolding cut total
+fields-at-once s n [] b fit w =
+    let e : n + 0 ≡ n = omega arith in
+    let m : min n 32 ≡ n = omega arith in
+    let l : read s b n .value < 2 ^ n = rw m at (read-below s b n) in
+    rw (fields-more s n [] b, fields-none s (read s b n .bits), e, div-one (read s b n .value), mod-eq-of-lt l)
+fields-at-once s n (m ∷ ms) b fit w =
+    let S = m + total ms in
+    let z : 0 + S ≡ S = omega arith in
+    let k : min n 32 ≡ n = omega arith in
+    let l : read s b n .value < 2 ^ n = rw k at (read-below s b n) in
+    rw (
+      fields-more s n (m ∷ ms) b,
+      fields-at-once s m ms (read s b n .bits) (omega arith) (whole-rest s b n S fit w),
+      read-split-rest s b n S fit,
+      read-split-first s b n S fit w,
+      mod-eq-of-lt l,
+    )
+    (ap (λ xs. record { values = read s b n .value ∷ xs; bits = read s b (n + S) .bits }) (rw z at (cut-low 0 (m ∷ ms) (read s b (n + S) .value))))
 
 -- ── Two's complement ──
 

@@ -1,23 +1,13 @@
--- The cut of what `refill` leaves is the read; less than 32 bits are left, so the remainder is the count itself.
+-- What `get_whole` says of its value.
 use borrow.Author.Needs.{needs}
-use Rattle.bits.proofs.RefilledLaws.{read-cut}
 use Rattle.bits.proofs.get.Statement.{statement}
 use Rattle.bits.proofs.get.Tie as tie
 
-capped-requires : tie.Need-capped-requires
-capped-requires c κs = search needs
-
-refill-requires : tie.Need-refill-requires
-refill-requires c κs = search needs
-
-sub-left : tie.Need-sub-left
-sub-left c = search needs
-
-field-requires : tie.Need-field-requires
-field-requires c κs = search needs
+get-whole-requires : tie.Need-get-whole-requires
+get-whole-requires c κs = search needs
 
 returns : tie.Need-returns
-returns c = read-cut _ _ _ _ (c .before .before .before .refill .result) _ (c .before .before .before .before .capped .ensures) (c .before .before .before .refill .ensures) (c .field .ensures)
+returns c = c .get-whole .ensures .reads
 
 pub get-spec : {M : Type 1} → statement M
-get-spec = tie.close (tie.spec capped-requires refill-requires sub-left field-requires returns)
+get-spec = tie.close (tie.spec get-whole-requires returns)

@@ -40,7 +40,7 @@ either-requires c κs = search needs
 
 returns-2 : tie.Need-returns-2
 returns-2 c = let f = c .before .before .before .before in let h = f .before .before in let a = h .before .before in
-    enough-next _ (a .args .bits) _ _ (a .pre) (h .held-bits .ensures) _ _ _ (omega arith) (f .fetch .ensures) (c .before .wrapping-add-u64 .ensures) (c .either .ensures)
+    enough-next _ (a .args .bits) _ _ (a .pre) (h .held-bits .ensures) _ _ _ (omega arith) (f .fetch .ensures) (search needs) (c .before .wrapping-add-u64 .ensures) (c .either .ensures)
 
 pub refill-spec : {M : Type 1} → statement M
 refill-spec =

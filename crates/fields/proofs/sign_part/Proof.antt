@@ -3,8 +3,8 @@ use native.Mathlib.Omega.{arith}
 use lib.Pow.{pow-mono}
 use borrow.Author.Needs.{needs}
 use Rattle.rules.proofs.ReaderLaws.{sign-most}
-use Rattle.bits.proofs.sign_part.Statement.{statement}
-use Rattle.bits.proofs.sign_part.Tie as tie
+use Rattle.fields.proofs.sign_part.Statement.{statement}
+use Rattle.fields.proofs.sign_part.Tie as tie
 
 power-requires : tie.Need-power-requires
 power-requires c κs = search needs
