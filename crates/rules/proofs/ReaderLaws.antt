@@ -299,11 +299,11 @@ fields-prefix s p (n ∷ ns) b l e =
 -- ── Fields read at once ──
 
 -- How many bits fields of some widths have together, and what a number of so many bits is cut into.
-pub total : List ℕ → ℕ
+unfoldable pub total : List ℕ → ℕ
 total [] = 0
 total (n ∷ ns) = n + total ns
 
-pub cut : List ℕ → ℕ → List ℕ
+unfoldable pub cut : List ℕ → ℕ → List ℕ
 cut [] v = []
 cut (n ∷ ns) v = v / 2 ^ total ns % 2 ^ n ∷ cut ns v
 

@@ -80,7 +80,7 @@ pub fn decode_inner(
     ensures { λ _. ⌜ now (out .exit) ≡ V0.apply V0.sample-kind (block-ops (now (src .entry)) size row col state .ops) (now (out .entry)) ⌝ }
     ensures { λ _. ⌜ now (map .exit) ≡ V0.apply v0-marks (block-ops (now (src .entry)) size row col state .ops) (now (map .entry)) ⌝ }
 {
-    let x = read_block(src, state);
+    let x = read_block(src, state, true);
     let residuals = x.residuals;
     let w = size.width;
     put_inner(out, w, row * w + col, x.up, residuals);

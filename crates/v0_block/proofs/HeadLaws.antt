@@ -150,12 +150,6 @@ module _ (s ops : List ℕ) (ls : List ℤ) (bits : Bits) (lo : length ops ≡ 4
       rw (back 0 bits a ea, back 1 (a .bits) b eb, back 2 (b .bits) c ec, back 3 (c .bits) d ed)
       (lengths-are s ops ls bits a b c d lo ll (given 0 bits a ea) (given 1 (a .bits) b eb) (given 2 (b .bits) c ec) (given 3 (c .bits) d ed))
 
-pub four-are : (s : List ℕ) (n : ℕ) (bits : Bits) (a b c d : Got)
-    → a ≡ read s bits n → b ≡ read s (a .bits) n → c ≡ read s (b .bits) n → d ≡ read s (c .bits) n
-    → record { values = a .value ∷ b .value ∷ c .value ∷ d .value ∷ []; bits = d .bits } ≡ four s n bits
-unfolding four fields
-four-are s n bits a b c d ea eb ec ed = rw (← ea, ← eb, ← ec, ← ed)
-
 below-four : (n a b c d : ℕ) → a < n → b < n → c < n → d < n → (j : ℕ) → getD (a ∷ b ∷ c ∷ d ∷ []) j 0 < n
 below-four n a b c d p q r t zero = p
 below-four n a b c d p q r t (suc zero) = q
@@ -164,20 +158,9 @@ below-four n a b c d p q r t (suc (suc (suc zero))) = t
 below-four n a b c d p q r t (suc (suc (suc (suc j)))) = omega arith
 
 -- An operation is a 2-bit number.
-pub operations-below : (s : List ℕ) (bits : Bits) → Below 4 (four s 2 bits .values)
-unfolding four fields
-operations-below s bits =
-    let a = read s bits 2 in
-    let b = read s (a .bits) 2 in
-    let c = read s (b .bits) 2 in
-    let d = read s (c .bits) 2 in
-    record { each = below-four 4 (a .value) (b .value) (c .value) (d .value) (read-below s bits 2) (read-below s (a .bits) 2) (read-below s (b .bits) 2) (read-below s (c .bits) 2) }
-
-pub head-is : (s : List ℕ) (st next : V0Row) (d : Got) (o : Four) (up : Bool)
-    → d ≡ read s (st .bits) 1 → o ≡ four s 2 (d .bits) → next ≡ operate s (o .values) (st .lengths) (o .bits) → up ≡ eqb (d .value) 1
-    → record { up = up; row = next } ≡ head s st
-unfolding head
-head-is s st next d o up ed eo en eu = rw (eu, en, eo, ed)
+pub operations-below : (v : ℕ) → Below 4 (v / 64 % 4 ∷ v / 16 % 4 ∷ v / 4 % 4 ∷ v % 4 ∷ [])
+operations-below v =
+    record { each = below-four 4 (v / 64 % 4) (v / 16 % 4) (v / 4 % 4) (v % 4) (omega arith) (omega arith) (omega arith) (omega arith) }
 
 -- ── How far from 0 they get ──
 

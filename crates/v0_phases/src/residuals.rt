@@ -54,7 +54,7 @@ pub fn parse_v0_residuals(src: &[u8], offset: u32, width: usize, out: &mut [u16]
     let mut row = V0Row::fresh(2, offset);
     let mut k: usize = 0;
     while k < blocks {
-        let block = read_block(src, row);
+        let block = read_block(src, row, true);
         dirs[k] = direction_byte(block.up);
         let residuals = block.residuals;
         store_residuals(out, width, k * V0Row::BLOCK, residuals);

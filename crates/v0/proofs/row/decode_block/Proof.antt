@@ -21,8 +21,8 @@ same-length-2 c = search needs
 returns : tie.Need-returns
 returns c = search needs
 
-read-head-requires : tie.Need-read-head-requires
-read-head-requires c κs = search needs
+read-block-head-requires : tie.Need-read-block-head-requires
+read-block-head-requires c κs = search needs
 
 decode-samples-requires : tie.Need-decode-samples-requires
 decode-samples-requires c κs = search needs
@@ -34,7 +34,7 @@ same-length-4 : tie.Need-same-length-4
 same-length-4 c = search needs
 
 returns-2 : tie.Need-returns-2
-returns-2 c = let a = c .before .before .before .before .before .before .before .before .before .before .before .before .before .before .before .args in let h = c .before .before .before .before .before .before .before .before .before .read-head in let d = c .before .before .before .before .before .before .decode-samples .ensures in (
+returns-2 c = let a = c .before .before .before .before .before .before .before .before .before .before .before .before .before .before .before .args in let h = c .before .before .before .before .before .before .before .before .before .read-block-head in let d = c .before .before .before .before .before .before .decode-samples .ensures in (
   block-state _ (a .size) (a .row) (a .col) (a .state) (h .result) (h .ensures) _ (d .0),
   (
     block-cells _ (a .size) (a .row) (a .col) (a .state) (h .result) (h .ensures) sample-kind _ _ (d .1 .0),
@@ -51,7 +51,7 @@ decode-block-spec =
     same-length
     same-length-2
     returns
-    read-head-requires
+    read-block-head-requires
     decode-samples-requires
     same-length-3
     same-length-4
