@@ -20,7 +20,7 @@ use Rattle.rules.specs.Frame.{tabulate}
 use Rattle.rules.specs.V2.{read-scale, read-motion, Base, given, copied, averaged, base, any-strays, base-refusal, Moded, read-lengths, Differences, differences-from, read-differences, tail, based-tail, read-block, top, base-cell, block-cells, sample, sample-kind}
 use Rattle.rules.proofs.Cells.{All}
 use Rattle.rules.proofs.V2Bounds.{Between, between-abs, mag-abs, scale-read, scale-within, motion-most, Small, lengths-small, differences-small}
-use Rattle.v2.specs.declared.Place.{Place}
+use Rattle.v2_cells.specs.declared.Place.{Place}
 use Rattle.v2.specs.Blocks.{Ready, written}
 
 -- A scale within the limits fits 32 signed bits.
