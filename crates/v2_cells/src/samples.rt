@@ -8,6 +8,7 @@ ghost use Rattle.rules.specs.Frame.{tabulate};
 ghost use Rattle.rules.specs.V2.{value, hold, sample};
 ghost use Rattle.rules.proofs.Cells.{All};
 ghost use Rattle.rules.proofs.V2Bounds.{Between, Small, Fits};
+use rules::V2Row;
 
 fn wide(x: u16) -> i32
     ensures { λ r. ⌜ r ≡ pos x ⌝ }
@@ -59,7 +60,7 @@ pub fn store(out: &mut [u16], at: usize, samples: &[u16; 16])
     ensures { λ _. ⌜ now (out .exit) ≡ sets (now (out .entry)) at (now (samples .entry)) ⌝ }
 {
     let mut i: usize = 0;
-    while i < 16 {
+    while i < V2Row::BLOCK {
         out[at + i] = samples[i];
         i += 1;
     }

@@ -2,14 +2,14 @@
 use mathlib.Core.Bool.{true, false}
 use mathlib.Core.List.{List, [], _∷_}
 use mathlib.Core.Path.{_≡_, ap, _∙_}
-use Prim.Native.Nat.{ℕ, zero, suc, _+_, _-_, _/_, _%_, _^_, _≤_, _<_, min}
+use Prim.Native.Nat.{ℕ, zero, suc, _+_, _*_, _-_, _/_, _%_, _^_, _≤_, _<_, min}
 use native.Mathlib.Numerals.{add-one}
 use native.Mathlib.Omega.{arith}
 use lib.Dec.{eqb, lit≤}
 use lib.IntN.{ℤ}
 use lib.ListN.{getD, set}
 use lib.Pow.{pow-mono}
-use borrow.Author.Tests.{lt-ltb, le-ltb}
+use borrow.Author.Tests.{lt-ltb, le-ltb, ne-eqb}
 use Rattle.rules.specs.declared.reader.Bits.{Bits}
 use Rattle.rules.specs.declared.reader.Four.{Four}
 use Rattle.rules.specs.declared.reader.Got.{Got}
@@ -39,6 +39,14 @@ pub four-is : (s : List ℕ) (n : ℕ) (b : Bits) (f0 f1 f2 f3 : Got) → f0 ≡
     → f3 ≡ read s (f2 .bits) n → record { values = f0 .value ∷ f1 .value ∷ f2 .value ∷ f3 .value ∷ []; bits = f3 .bits } ≡ four s n b
 unfolding four fields
 four-is s n b f0 f1 f2 f3 e0 e1 e2 e3 = rw (← e0, ← e1, ← e2, ← e3)
+
+pub colour-odd : (row j : ℕ) → row % 2 ≡ 1 → j / 2 ≡ colour row j
+unfolding colour
+colour-odd row j e = rw e
+
+pub colour-even : (row j : ℕ) → (row % 2 ≡ 1 → ⊥) → (j / 2 + 2) % 3 ≡ colour row j
+unfolding colour
+colour-even row j n = rw (ne-eqb (row % 2) 1 n)
 
 module _ (s : List ℕ) (flag first : ℕ) (b : Bits) where
   pub length-read : flag ≡ 3 → read-length s flag first b ≡ read s b 4
@@ -94,6 +102,14 @@ module _ (s : List ℕ) (h : V2Hdr) (row : ℕ) (mode : List (List ℕ)) (b : Bi
   pub lengths-zero : eqb (g .value) 0 ≡ false → read-lengths s h row mode b ≡ no-lengths mode (g .bits)
   unfolding read-lengths
   lengths-zero t = rw (← e, t)
+
+pub position-even : (row k : ℕ) → row % 2 ≡ 0 → 2 * (k % 8) + k / 8 ≡ position row k
+unfolding position
+position-even row k e = rw e
+
+pub position-odd : (row k : ℕ) → (row % 2 ≡ 0 → ⊥) → 2 * (k % 8) + 1 - k / 8 ≡ position row k
+unfolding position
+position-odd row k n = rw (ne-eqb (row % 2) 0 n)
 
 -- One difference, after those before it.
 module _ (s : List ℕ) (row : ℕ) (ls : List ℕ) (k : ℕ) where

@@ -1,6 +1,6 @@
 -- The loop's invariant: the stores from i on come to what all sixteen come to.
 use mathlib.Core.Path.{_≡_, refl, sym, _∙_}
-use Prim.Native.Nat.{_+_, _-_, _≤_}
+use Prim.Native.Nat.{_+_, _-_, _≤_, _<_}
 use native.Mathlib.Nat.{add-zero}
 use native.Mathlib.Omega.{arith}
 use lib.ListN.{length, drop, length-set}
@@ -41,7 +41,10 @@ loop-less : tie.Need-loop-less Inv-loop μ-loop
 loop-less c = search needs
 
 loop-again : tie.Need-loop-again Inv-loop μ-loop
-loop-again c = let l = c .before .before .loop in let t = c .before .loop-test .taken in (omega (arith, t), (simp length-set (l .inv .1 .0), l .inv .1 .1 ∙ sets-more _ _ _ _ (c .before .before .before .pre .1) t))
+loop-again c =
+    let l = c .before .before .loop in
+    let t : l .i < 16 = omega (arith, c .before .loop-test .taken) in
+    (omega arith, (simp length-set (l .inv .1 .0), l .inv .1 .1 ∙ sets-more _ _ _ _ (c .before .before .before .pre .1) t))
 
 same-length : tie.Need-same-length Inv-loop μ-loop
 same-length c = search needs

@@ -1,8 +1,7 @@
 -- The formula is the rule's, and its positions are below 16.
 use native.Mathlib.Omega.{arith}
 use borrow.Author.Needs.{needs}
-use borrow.Author.Tests.{eq-eqb, ne-eqb}
-use Rattle.rules.specs.V2.{position}
+use Rattle.v2_stream.proofs.LengthLaws.{position-even, position-odd}
 use Rattle.v2_stream.proofs.differences.position_of.Statement.{statement}
 use Rattle.v2_stream.proofs.differences.position_of.Tie as tie
 
@@ -22,12 +21,10 @@ sub-result : tie.Need-sub-result
 sub-result c = search needs
 
 returns : tie.Need-returns
-unfolding position
-returns c = (simp (eq-eqb _ _ (c .if1 .taken)), omega arith)
+returns c = (position-even _ _ (c .if1 .taken), omega arith)
 
 returns-2 : tie.Need-returns-2
-unfolding position
-returns-2 c = (simp (ne-eqb _ _ (c .if1 .left)), omega arith)
+returns-2 c = (position-odd _ _ (c .if1 .left), omega arith)
 
 pub position-of-spec : {M : Type 1} → statement M
 position-of-spec =

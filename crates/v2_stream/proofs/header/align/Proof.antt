@@ -1,5 +1,7 @@
 -- The wrapping sum is the rule's sum modulo 2^64.
+use mathlib.Core.Path.{ap, _∙_}
 use borrow.Author.Needs.{needs}
+use Rattle.rules.specs.Reader.{reset-at}
 use Rattle.rules.specs.V2.{aligned}
 use Rattle.v2_stream.proofs.header.align.Statement.{statement}
 use Rattle.v2_stream.proofs.header.align.Tie as tie
@@ -15,7 +17,7 @@ reset-at-requires c κs = search needs
 
 returns : tie.Need-returns
 unfolding aligned
-returns c = cc
+returns c = c .reset-at .ensures ∙ ap (reset-at (c .before .before .before .args .bits)) (c .before .wrapping-add-u64 .ensures)
 
 pub align-spec : {M : Type 1} → statement M
 align-spec =
