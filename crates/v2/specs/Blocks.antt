@@ -10,7 +10,7 @@ use Rattle.rules.specs.declared.v2.V2Row.{V2Row}
 use Rattle.rules.specs.declared.v2.V2Block.{V2Block}
 use Rattle.rules.specs.declared.v2.V2Block.the-variants.{Next, EarlyMotion, Outside, LongDifference}
 use Rattle.rules.specs.Frame.{cells}
-use Rattle.rules.proofs.V2Bounds.{ScaleAt}
+use Rattle.rules.specs.Ranges.{ScaleAt}
 use Rattle.v2_cells.specs.declared.Place.{Place}
 use Rattle.v2_cells.specs.Places.{Inside}
 

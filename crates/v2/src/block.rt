@@ -5,7 +5,7 @@ ghost use lib.IntN.{pos};
 ghost use lib.ListN.{length, getD};
 ghost use Rattle.rules.specs.Frame.{tabulate};
 ghost use Rattle.rules.specs.V2.{tail, read-block, top, sample, block-cells, sample-kind};
-ghost use Rattle.rules.proofs.V2Bounds.{Between};
+ghost use Rattle.rules.specs.Ranges.{Between};
 ghost use Rattle.v2.specs.Blocks.{Ready, written};
 use rules::Bits;
 use rules::V2Block;

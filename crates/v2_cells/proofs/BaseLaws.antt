@@ -17,8 +17,9 @@ use borrow.Author.Tests.{lt-ltb, le-ltb, lt-leb, le-leb, ltb-true, ltb-false, le
 use Rattle.rules.specs.declared.v2.V2Hdr.{V2Hdr}
 use Rattle.rules.specs.Frame.{tabulate}
 use Rattle.rules.specs.V2.{motion-offsets, motion-averages, outside, strays, any-strays, base-refusal, averaged, copied, repeated, referred, base, Kind, base-cell}
+use Rattle.rules.specs.Ranges.{offset-4, reference-5}
 use Rattle.rules.proofs.Cells.{All, nil, more, all-get}
-use Rattle.rules.proofs.V2Places.{further, offset-4, offset-is, offset-most, reference-5, reference-is, inside}
+use Rattle.rules.proofs.V2Places.{further, offset-is, offset-most, reference-is, inside}
 use Rattle.v2_cells.specs.Places.{along, Runs, run-outside, cell-from}
 use Rattle.v2_cells.proofs.Fill.{tabulate-same}
 

@@ -5,7 +5,7 @@ ghost use Prim.Native.Nat.{_+_, _^_, _≤_, _<_};
 ghost use lib.ListN.{length, getD};
 ghost use Rattle.rules.specs.Frame.{tabulate};
 ghost use Rattle.rules.specs.V2.{motion-averages, average, any-strays, base-refusal, base-cell, sample-kind, repeated, base};
-ghost use Rattle.rules.proofs.V2Places.{offset-4, reference-5};
+ghost use Rattle.rules.specs.Ranges.{offset-4, reference-5};
 ghost use Rattle.v2_cells.specs.Places.{Placed, Inside, along, Runs, run-outside, cell-from};
 use super::Place;
 use rules::V2Hdr;

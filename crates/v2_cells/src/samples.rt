@@ -1,13 +1,12 @@
 // Step 6 of a block: its samples.
 ghost use mathlib.Core.Path.{_≡_};
-ghost use Prim.Native.Nat.{_+_, _≤_, _<_};
+ghost use Prim.Native.Nat.{ℕ, _+_, _≤_, _<_};
 ghost use lib.IntN.{pos};
 ghost use lib.ListN.{length, getD};
 ghost use lib.Seq.{sets};
 ghost use Rattle.rules.specs.Frame.{tabulate};
 ghost use Rattle.rules.specs.V2.{value, hold, sample};
-ghost use Rattle.rules.proofs.Cells.{All};
-ghost use Rattle.rules.proofs.V2Bounds.{Between, Small, Fits};
+ghost use Rattle.rules.specs.Ranges.{Between, Small, Fits};
 use rules::V2Row;
 
 fn wide(x: u16) -> i32
@@ -44,7 +43,7 @@ fn sample_of(base: u16, d: i32, scale: i32, top: u32) -> u16
 
 // The sixteen samples from their bases and differences.
 pub fn build(base: &[u16; 16], d: &[i32; 16], scale: i32, top: u32, samples: &mut [u16; 16])
-    requires { ⌜ All Small (now d) × (Between 512 4_605 scale × ((top < 65_536) × (length (now samples) ≡ 16))) ⌝ }
+    requires { ⌜ ((k : ℕ) → Small (getD (now d) k (pos 0))) × (Between 512 4_605 scale × ((top < 65_536) × (length (now samples) ≡ 16))) ⌝ }
     ensures { λ _. ⌜ now (samples .exit) ≡ tabulate 16 0 (λ i. sample top scale (getD (now (d .entry)) i (pos 0)) (getD (now (base .entry)) i 0)) ⌝ }
 {
     let mut i: usize = 0;

@@ -15,8 +15,9 @@ use Rattle.rules.specs.declared.reader.Got.{Got}
 use Rattle.rules.specs.declared.v2.V2Hdr.{V2Hdr}
 use Rattle.rules.specs.Reader.{fresh, read, fields}
 use Rattle.rules.specs.V2.{header, option-2, option-4, scale-steps, rescaled, read-scale, read-motion}
+use Rattle.rules.specs.Ranges.{Between}
 use Rattle.rules.proofs.ReaderLaws.{read-below}
-use Rattle.rules.proofs.V2Bounds.{Between, between-abs, between-add, step-between, mag-abs}
+use Rattle.rules.proofs.V2Bounds.{between-abs, between-add, step-between, mag-abs}
 
 -- A value of n bits, as a call gave it.
 pub got-below : (s : List ℕ) (b : Bits) (n : ℕ) (g : Got) → g ≡ read s b n → g .value < 2 ^ min n 32

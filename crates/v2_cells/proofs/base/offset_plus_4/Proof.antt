@@ -6,7 +6,8 @@ use mir.Syntax.{w64}
 use mir.Val.{SFits}
 use mir.ValLaws.{toZ-ofZ}
 use borrow.Author.Needs.{needs}
-use Rattle.rules.proofs.V2Places.{offset-4, offset-most}
+use Rattle.rules.specs.Ranges.{offset-4}
+use Rattle.rules.proofs.V2Places.{offset-most}
 use Rattle.v2_cells.proofs.BaseLaws.{offset-code}
 use Rattle.v2_cells.proofs.base.offset_plus_4.Statement.{statement}
 use Rattle.v2_cells.proofs.base.offset_plus_4.Tie as tie

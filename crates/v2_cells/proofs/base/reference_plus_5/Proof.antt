@@ -2,7 +2,8 @@
 use native.Mathlib.Omega.{arith}
 use borrow.Author.Needs.{needs}
 use borrow.Author.Tests.{eq-eqb, ne-eqb}
-use Rattle.rules.proofs.V2Places.{offset-most, reference-5}
+use Rattle.rules.specs.Ranges.{reference-5}
+use Rattle.rules.proofs.V2Places.{offset-most}
 use Rattle.v2_cells.proofs.BaseLaws.{rows-room}
 use Rattle.v2_cells.proofs.base.reference_plus_5.Statement.{statement}
 use Rattle.v2_cells.proofs.base.reference_plus_5.Tie as tie

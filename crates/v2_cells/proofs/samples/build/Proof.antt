@@ -1,7 +1,6 @@
 use mathlib.Core.Path.{_≡_, refl}
 use Prim.Native.Nat.{_-_, _≤_}
 use native.Mathlib.Omega.{arith}
-use lib.Dec.{lit<}
 use lib.IntN.{pos}
 use lib.ListN.{length, take, getD, length-set}
 use mir.Syntax.{w32}
@@ -11,8 +10,7 @@ use denote.Ref.{now}
 use borrow.Author.Needs.{needs}
 use Rattle.rules.specs.Frame.{tabulate}
 use Rattle.rules.specs.V2.{sample}
-use Rattle.rules.proofs.Cells.{all-get}
-use Rattle.rules.proofs.V2Bounds.{Small}
+use Rattle.rules.specs.Ranges.{Small}
 use Rattle.v2_cells.proofs.Fill.{fill-more, fill-all}
 use Rattle.v2_cells.proofs.samples.build.Statement.{statement}
 use Rattle.v2_cells.proofs.samples.build.Tie as tie
@@ -44,7 +42,7 @@ sample-of-requires c κs =
     let a = c .before .before .before .before in
     let k = c .before .before .before .loop .i in
     let z = getD (now (a .args .d)) k (pos 0) in
-    let s : Small z = all-get Small (a .pre .0) k (pos 0) (lit< tt) in
+    let s : Small z = a .pre .0 k in
     let f : SFits w32 z = record { sfits = omega arith } in
     rw (toZ-ofZ w32 z f, toZ-ofZ w32 (a .args .scale) (a .fits .scale)) (s, (a .pre .1 .0, a .pre .1 .1 .0))
 
@@ -66,7 +64,7 @@ loop-again c =
     let l = c .before .before .before .before .loop in
     let t = c .before .before .before .loop-test .taken in
     let z = getD (now (a .args .d)) (l .i) (pos 0) in
-    let s : Small z = all-get Small (a .pre .0) (l .i) (pos 0) (lit< tt) in
+    let s : Small z = a .pre .0 (l .i) in
     let f : SFits w32 z = record { sfits = omega arith } in
     (omega (arith, t), (simp length-set (l .inv .1 .0), fill-more _ _ _ _ (omega (arith, l .inv .1 .0, t)) (l .inv .1 .1) (rw (toZ-ofZ w32 z f) at (c .sample-of .ensures))))
 
