@@ -21,6 +21,7 @@ use Rattle.rules.specs.declared.v2.V2Block.{V2Block}
 use Rattle.rules.specs.declared.v2.V2Block.the-variants.{Next, EarlyMotion, Outside, LongDifference}
 use Rattle.rules.specs.Frame.{cells}
 use Rattle.rules.specs.Reader.{fresh, read, fields, four}
+use Rattle.rules.specs.Ranges.{Between, not-above, not-below, ScaleAt, Small, Fits}
 use Rattle.rules.specs.V2.{field-widths, header, top, option-2, option-4, scale-steps, rescaled, read-scale, read-motion, Base, given, copied, averaged, repeated, referred, base, motion-averages, any-strays, base-refusal, lengths-bit, Moded, length-step, lengths-from, no-lengths, flagged-lengths, read-lengths, position, Differences, difference-step, differences-from, read-differences, Tail, tail, based-tail, Block, Parsed, read-block, Row, then, blocks, fresh-row, fresh-mode, aligned, read-row, rows, read-frame, base-cell, average, value, sample-kind}
 use Rattle.rules.proofs.Cells.{All, nil, more, all-append, all-get, all-map, each-of, all-of, each-set}
 use Rattle.rules.proofs.ReaderLaws.{read-below, fields-none, fields-more, read-signed-mag}
@@ -55,11 +56,6 @@ top-below h l = omega (arith, pow-mono l, pow-pos (h .depth))
 
 -- ── 1. scale ──
 
--- −lo ≤ z ≤ hi.
-pub data Between (lo hi : ℕ) : ℤ → Type 0 where
-  not-above : (n : ℕ) → n ≤ hi → Between lo hi (pos n)
-  not-below : (n : ℕ) → n < lo → Between lo hi (negsuc n)
-
 pub between-abs : {lo hi : ℕ} {z : ℤ} → Between lo hi z → lo ≤ hi → natAbs z ≤ hi
 between-abs (not-above n p) l = p
 between-abs (not-below n p) l = omega arith
@@ -80,10 +76,6 @@ between-add (not-above m p) (not-above n q) = not-above (m + n) (omega arith)
 between-add (not-above m p) (not-below n q) = between-sub m n (omega arith) (omega arith)
 between-add (not-below m p) (not-above n q) = between-sub n m (omega arith) (omega arith)
 between-add (not-below m p) (not-below n q) = not-below (suc (m + n)) (omega arith)
-
--- What a scale can be before a column: 12 bits, and 2 less or more for each code read before it.
-pub record ScaleAt (col : ℕ) (scale : ℤ) : Type 0 where
-  pub range : Between (2 * ((col + 63) / 64)) (4_093 + 2 * ((col + 63) / 64)) scale
 
 -- A row starts with scale 0.
 pub scale-starts : ScaleAt 0 (pos 0)
@@ -183,10 +175,6 @@ pub lengths-small : (s : List ℕ) (h : V2Hdr) (row : ℕ) (mode : List (List �
 lengths-small s h row mode b deep e = all-map (Most (h .depth + 1)) (Most 17) (λ n l. omega arith) (lengths-most s h row mode b e)
 
 -- ── 5. differences ──
-
--- A difference of at most 17 bits lies in −65,536..65,535.
-abbrev pub Small : ℤ → Type 0
-Small d = mag d < 65_536
 
 differences-from-small : (s : List ℕ) (row : ℕ) (ls : List ℕ) → All (Most 17) ls → (n k : ℕ) (x : Differences) → All Small (x .values)
     → All Small (differences-from s row ls n k x .values)
@@ -367,14 +355,6 @@ abs-mul (negsuc m) (negsuc n) = refl
 pub mag-abs : (z : ℤ) → mag z ≤ natAbs z
 mag-abs (pos n) = omega arith
 mag-abs (negsuc n) = omega arith
-
--- Every step of a sample's value, before the hold, fits 32 signed bits.
-pub record Fits (b : ℕ) (d scale : ℤ) : Type 0 where
-  pub twice : mag (pos 2 *ℤ scale) < 2 ^ 31
-  pub factor : mag (pos 2 *ℤ scale +ℤ pos 1) < 2 ^ 31
-  pub product : mag (d *ℤ (pos 2 *ℤ scale +ℤ pos 1)) < 2 ^ 31
-  pub sum : mag (pos b +ℤ d *ℤ (pos 2 *ℤ scale +ℤ pos 1)) < 2 ^ 31
-  pub whole : mag (value b d scale) < 2 ^ 31
 
 pub value-fits : (b : ℕ) (d scale : ℤ) → b < 65_536 → Small d → Between 512 4_605 scale → Fits b d scale
 unfolding value

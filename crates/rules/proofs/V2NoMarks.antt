@@ -22,10 +22,11 @@ use Rattle.rules.specs.Frame.{cells, tabulate}
 use Rattle.rules.specs.V2.{Base, given, copied, averaged, motion-averages, repeated, referred, base, strays, any-strays, base-refusal, Block, Parsed, read-block, Row, then, blocks, fresh-row, fresh-mode, aligned, read-row, rows, read-frame, header, base-cell, block-cells, apply, frame}
 use Rattle.rules.specs.Map.{v2-marks, v2-map, all-old}
 use Rattle.rules.specs.Answer.{v2, Ask, Lent, stream-answer, answer, frame-marks, marks}
+use Rattle.rules.specs.Ranges.{reference-5}
 use Rattle.rules.proofs.Refusals.{passed, answer-passed, v2-size-least}
 use Rattle.rules.proofs.Tests.{neither}
 use Rattle.rules.proofs.V2Rows.{then-rows-cases}
-use Rattle.rules.proofs.V2Places.{further, reference-5, reference-is, reference-before, inside}
+use Rattle.rules.proofs.V2Places.{further, reference-is, reference-before, inside}
 use Rattle.rules.proofs.V2Bounds.{next-state, next-unrefused}
 
 -- ── Blocks one after another ──

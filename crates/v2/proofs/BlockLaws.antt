@@ -4,7 +4,7 @@ use mathlib.Core.List.{List}
 use mathlib.Core.Path.{_≡_, refl, ap₂, _∙_}
 use Prim.Native.Nat.{ℕ, _+_, _≤_}
 use native.Mathlib.Omega.{arith}
-use lib.Dec.{ltb, eqb, lit≤}
+use lib.Dec.{ltb, eqb, lit≤, lit<}
 use lib.IntN.{ℤ, pos}
 use lib.ListN.{getD, replicate}
 use mir.Syntax.{w32}
@@ -18,9 +18,10 @@ use Rattle.rules.specs.declared.v2.V2Row.{V2Row}
 use Rattle.rules.specs.declared.v2.V2Scale.{V2Scale}
 use Rattle.rules.specs.Frame.{tabulate}
 use Rattle.rules.specs.V2.{read-scale, read-motion, Base, given, copied, averaged, base, any-strays, base-refusal, Moded, read-lengths, Differences, differences-from, read-differences, tail, based-tail, read-block, top, base-cell, block-cells, sample, sample-kind}
-use Rattle.rules.proofs.Cells.{All}
-use Rattle.rules.proofs.V2Bounds.{Between, between-abs, mag-abs, scale-read, scale-within, motion-most, Small, lengths-small, differences-small}
-use Rattle.v2.specs.declared.Place.{Place}
+use Rattle.rules.specs.Ranges.{Between, Small}
+use Rattle.rules.proofs.Cells.{all-get}
+use Rattle.rules.proofs.V2Bounds.{between-abs, mag-abs, scale-read, scale-within, motion-most, lengths-small, differences-small}
+use Rattle.v2_cells.specs.declared.Place.{Place}
 use Rattle.v2.specs.Blocks.{Ready, written}
 
 -- A scale within the limits fits 32 signed bits.
@@ -68,10 +69,10 @@ module _ (s : List ℕ) (h : V2Hdr) (row : ℕ) (st : V2Row) (mode : List (List 
       unfolding tail
       differences-are = rw (← e, ← ed)
 
-      pub tail-small : h .depth ≤ 16 → l .long ≡ false → All Small ds
-      tail-small deep t =
+      pub tail-small : h .depth ≤ 16 → l .long ≡ false → (k : ℕ) → Small (getD ds k (pos 0))
+      tail-small deep t k =
           let q = differences-small s row (l .four) (l .bits) (rw (← e) at (lengths-small s h row mode b deep) (t)) in
-          rw (← ed) at q
+          all-get Small (rw (← ed) at q) k (pos 0) (lit< tt)
 
       pub tail-samples : (bases samples old : List ℕ) (t : ℕ) → t ≡ top h
           → samples ≡ tabulate 16 0 (λ i. sample t (st .scale) (getD ds i (pos 0)) (getD bases i 0))

@@ -21,11 +21,12 @@ use Rattle.rules.specs.declared.v2.V2Start.{V2Start}
 use Rattle.rules.specs.Frame.{cells, tabulate}
 use Rattle.rules.specs.Map.{v2-marks}
 use Rattle.rules.specs.V2.{header, aligned, fresh-row, fresh-mode, number, base, Block, read-block, Row, then, blocks, read-row, Frame, then-rows, rows, read-frame, Kind, base-cell, block-cells, apply, frame, top, sample-kind, decoded}
-use Rattle.rules.proofs.V2Bounds.{depth-most, ScaleAt, scale-starts, next-state, next-unrefused, next-motion, next-scale}
-use Rattle.v2.specs.declared.Place.{Place}
-use Rattle.v2.specs.Blocks.{Markable, written}
-use Rattle.v2.specs.Places.{Placed}
-use Rattle.v2.proofs.Fill.{left-suc, left-none}
+use Rattle.rules.specs.Ranges.{ScaleAt}
+use Rattle.rules.proofs.V2Bounds.{depth-most, scale-starts, next-state, next-unrefused, next-motion, next-scale}
+use Rattle.v2_cells.specs.declared.Place.{Place}
+use Rattle.v2_cells.specs.Places.{Placed, Markable}
+use Rattle.v2.specs.Blocks.{written}
+use Rattle.v2_stream.proofs.LengthLaws.{left-suc, left-none}
 
 -- ── Blocks applied to samples and marks ──
 

@@ -1,8 +1,3 @@
--- What the proofs of the stages share.
-pub mod BaseLaws
+-- What the proofs of a block and a frame rest on.
 pub mod BlockLaws
-pub mod Fill
 pub mod FrameLaws
-pub mod HeaderLaws
-pub mod LengthLaws
-pub mod SampleLaws

@@ -1,3 +1,2 @@
--- What the contracts of the stages say beside the rules.
+-- What the contracts of a block and a frame say beside the rules.
 pub mod Blocks
-pub mod Places

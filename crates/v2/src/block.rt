@@ -5,21 +5,21 @@ ghost use lib.IntN.{pos};
 ghost use lib.ListN.{length, getD};
 ghost use Rattle.rules.specs.Frame.{tabulate};
 ghost use Rattle.rules.specs.V2.{tail, read-block, top, sample, block-cells, sample-kind};
-ghost use Rattle.rules.proofs.V2Bounds.{Between};
+ghost use Rattle.rules.specs.Ranges.{Between};
 ghost use Rattle.v2.specs.Blocks.{Ready, written};
-use super::Place;
-use super::base::bases;
-use super::base::refusal_of;
-use super::differences::block_differences;
-use super::header::top_of;
-use super::lengths::block_lengths;
-use super::motion::next_motion;
-use super::samples::build;
-use super::scale::next_scale;
 use rules::Bits;
 use rules::V2Block;
 use rules::V2Hdr;
 use rules::V2Row;
+use v2_cells::Place;
+use v2_cells::base::bases;
+use v2_cells::base::refusal_of;
+use v2_cells::samples::build;
+use v2_stream::differences::block_differences;
+use v2_stream::header::top_of;
+use v2_stream::lengths::block_lengths;
+use v2_stream::motion::next_motion;
+use v2_stream::scale::next_scale;
 
 // The lengths, the differences and the samples from them.
 fn read_tail(

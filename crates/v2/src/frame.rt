@@ -3,16 +3,16 @@ ghost use mathlib.Core.Path.{_≡_};
 ghost use Rattle.rules.specs.V2.{read-frame, decoded, frame};
 ghost use Rattle.rules.specs.Map.{v2-marks};
 ghost use Rattle.v2.specs.Blocks.{Lends};
-use super::Place;
 use super::block::read_block;
-use super::header::align;
-use super::header::read_header;
-use super::marks::mark_block;
-use super::samples::store;
 use rules::Answer;
 use rules::Size;
 use rules::V2Block;
 use rules::V2Row;
+use v2_cells::Place;
+use v2_cells::marks::mark_block;
+use v2_cells::samples::store;
+use v2_stream::header::align;
+use v2_stream::header::read_header;
 
 // Decodes a frame over the samples of `out`, and its marks over those of `map`, which is as long as `out` or empty.
 pub fn decode_frame(src: &[u8], size: Size, out: &mut [u16], map: &mut [u8]) -> Answer

@@ -8,17 +8,18 @@ use std::{env, io};
 
 const USAGE: &str = "usage: compare quick [SEED]
        compare long [SEED]
-       compare reader|v0|v2|refusals|lists COUNT [SEED]
+       compare reader|v0|v2|v2-full|refusals|lists COUNT [SEED]
        compare record FILE           writes recorded calls of the Rust
        compare record-check FILE     finds them equal
        compare jobs FOLDER           writes the job program's cases
        compare jobs-check FOLDER     finds them equal";
 
-/// How much is compared in the quick part, which the gate runs, and in the long one.
-const COMPARISONS: [(&str, u64, u64); 5] = [
+/// How much is compared in the quick part, which the gate runs, and in the long one; 0 leaves it out.
+const COMPARISONS: [(&str, u64, u64); 6] = [
     ("reader", 20_000_000, 1_000_000_000),
     ("v0", 60_000, 1_000_000),
     ("v2", 300, 20_000),
+    ("v2-full", 0, 50),
     ("refusals", 5_000, 50_000),
     ("lists", 1_000, 10_000),
 ];
@@ -80,7 +81,8 @@ fn all_compared(runs: &[(&str, u64, u64)]) -> bool {
 fn runs<'a>(words: &[&'a str]) -> Option<Vec<(&'a str, u64, u64)>> {
     let number = |word: &str| word.replace('_', "").parse().ok();
     let all = |pick: fn(u64, u64) -> u64, seed| {
-        COMPARISONS.iter().map(|&(what, quick, long)| (what, pick(quick, long), seed)).collect()
+        let counts = COMPARISONS.iter().map(|&(what, quick, long)| (what, pick(quick, long), seed));
+        counts.filter(|&(_, count, _)| count > 0).collect()
     };
     Some(match *words {
         ["quick"] => all(|quick, _| quick, 1),
@@ -101,12 +103,13 @@ fn compared(what: &str, count: u64, seed: u64) -> Result<String, Difference> {
     }
     let entries = match what {
         "v0" => call::razvolk_of(false),
-        "v2" => call::razvolk_of(true),
+        "v2" | "v2-full" => call::razvolk_of(true),
         _ => call::razvolk(),
     };
     let text = match what {
         "v0" => v0::compare(&entries, seed, count)?.to_string(),
         "v2" => v2::compare(&entries, seed, count)?.to_string(),
+        "v2-full" => v2::full::compare(&entries, seed, count)?.to_string(),
         "lists" => lists::compare(&entries, seed, count)?.to_string(),
         _ => refusals::compare(&entries, seed, count)?.to_string(),
     };

@@ -19,6 +19,15 @@ fn razvolk_decodes_v2_as_the_rust_does() {
 }
 
 #[test]
+fn frames_of_full_size_are_the_largest_and_a_camera_s() {
+    let mut random = compare::random::Random::new(1);
+    let sizes: Vec<(usize, usize)> = (0..50).map(|i| v2::full::size(&mut random, i)).collect();
+    let count = |size: (usize, usize)| sizes.iter().filter(|&&one| one == size).count();
+    assert!(count((16_384, 16_384)) == 2 && count((6_496, 4_336)) == 20, "{sizes:?}");
+    assert!(sizes.iter().all(|&(width, height)| (646..=16_384).contains(&width) && (436..=16_384).contains(&height)));
+}
+
+#[test]
 fn razvolk_refuses_v2_by_the_rules() {
     let entries = razvolk_of(true);
     let seen = refusals::compare(&entries, 0x5eed, 1_000).unwrap_or_else(|difference| panic!("{difference}"));

@@ -10,6 +10,7 @@ use std::fmt;
 /// What was compared.
 #[derive(Debug, Default)]
 pub struct Seen {
+    pub name: &'static str,
     pub seed: u64,
     pub streams: u64,
     pub calls: u64,
@@ -26,14 +27,17 @@ pub struct Seen {
 
 impl fmt::Display for Seen {
     fn fmt(&self, f: &mut fmt::Formatter<'_>) -> fmt::Result {
-        let Seen { seed, streams, calls, samples, numbers, deep, marked, ends, used } = self;
-        writeln!(f, "V2, seed {seed}: {streams} streams, {calls} calls, {samples} samples, {marked} of them marked 1")?;
+        let Seen { name, seed, streams, calls, samples, numbers, deep, marked, ends, used } = self;
+        writeln!(
+            f,
+            "{name}, seed {seed}: {streams} streams, {calls} calls, {samples} samples, {marked} of them marked 1"
+        )?;
         let rows = ends.iter().filter(|&&n| n > 0).count();
-        writeln!(f, "V2: answers 0 to 8: {numbers:?}; done or refused after row 2: {deep}; ends in {rows} rows")?;
+        writeln!(f, "{name}: answers 0 to 8: {numbers:?}; done or refused after row 2: {deep}; ends in {rows} rows")?;
         let Used { motions, flags, none, scales, held } = used;
-        writeln!(f, "V2: motions 0 to 7: {motions:?}, flags 0 to 3: {flags:?}, blocks without lengths: {none}")?;
-        writeln!(f, "V2: scales from {} to {}, samples held to 0 and to the top: {held:?}", scales[0], scales[1])?;
-        write!(f, "V2: {calls} calls compared with the Rust, no difference")
+        writeln!(f, "{name}: motions 0 to 7: {motions:?}, flags 0 to 3: {flags:?}, blocks without lengths: {none}")?;
+        writeln!(f, "{name}: scales from {} to {}, samples held to 0 and to the top: {held:?}", scales[0], scales[1])?;
+        write!(f, "{name}: {calls} calls compared with the Rust, no difference")
     }
 }
 
@@ -82,6 +86,8 @@ fn expected(stream: &Stream, old: &[u16], other: &[u16]) -> Result<Expected, Str
     if let Some(what) = first_difference(&own, &samples) {
         return Err(format!("the decoder of its own, samples: {what}"));
     }
+    // A frame of the largest size has half a gigabyte of samples.
+    drop(own);
     let (_, over_other) = rust(stream, other);
     let n = marks.len();
     if let Some(i) = (0..n).find(|&i| marks[i] == 0 && over_other[i] != samples[i]) {
@@ -172,7 +178,7 @@ fn planted(random: &mut Random, i: u64, width: usize, height: usize) -> Option<P
 /// damaged; of every hundredth, one broken off in each row.
 pub fn compare(entries: &[Entry], seed: u64, calls: u64) -> Result<Seen, Difference> {
     let mut random = Random::new(seed);
-    let mut seen = Seen { seed, ..Seen::default() };
+    let mut seen = Seen { name: "V2", seed, ..Seen::default() };
     while seen.calls < calls {
         let i = seen.streams;
         seen.streams += 1;

@@ -15,10 +15,10 @@ decode-frame-requires : tie.Need-decode-frame-requires
 decode-frame-requires c κs =
     let p = c .before .before .before .before .before .before .before .before .before .pre in
     record {
-      wide = p .0 .wide;
-      high = p .0 .high;
-      whole = p .0 .whole;
-      marked = inl (ap length (c .before .before .before .before .mark-old .ensures) ∙ length-replicate _ 1 ∙ p .1);
+      width = p .0 .width;
+      height = p .0 .height;
+      samples-lent = p .0 .samples-lent;
+      map-lent = inl (ap length (c .before .before .before .before .mark-old .ensures) ∙ length-replicate _ 1 ∙ p .1);
     }
 
 same-length : tie.Need-same-length

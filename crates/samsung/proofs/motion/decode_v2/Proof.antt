@@ -43,7 +43,7 @@ slice-aggregate-decode-frame-2 c = search needs
 decode-frame-requires : tie.Need-decode-frame-requires
 decode-frame-requires c κs =
     let p = room _ _ _ _ _ _ _ (c .before .before .before .refuse .ensures) (c .before .before .if1 .left) in
-    record { wide = p .wide; high = p .high; whole = length-take-le _ _ (p .samples-enough); marked = inr refl }
+    record { width = p .wide; height = p .high; samples-lent = length-take-le _ _ (p .samples-enough); map-lent = inr refl }
 
 same-length : tie.Need-same-length
 same-length c = search needs

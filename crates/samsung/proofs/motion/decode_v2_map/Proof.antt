@@ -47,7 +47,7 @@ decode-marked-requires : tie.Need-decode-marked-requires
 decode-marked-requires c κs =
     let p = room _ _ _ _ _ _ _ (c .before .before .before .refuse .ensures) (c .before .before .if1 .left) in
     let m = length-take-le _ _ (bytes-enough _ _ (p .map-enough)) in
-    (record { wide = p .wide; high = p .high; whole = length-take-le _ _ (p .samples-enough); marked = inl m }, m)
+    (record { width = p .wide; height = p .high; samples-lent = length-take-le _ _ (p .samples-enough); map-lent = inl m }, m)
 
 same-length : tie.Need-same-length
 same-length c = search needs

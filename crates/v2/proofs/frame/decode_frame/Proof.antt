@@ -11,7 +11,7 @@ use Rattle.rules.specs.declared.v2.V2Row.{V2Row}
 use Rattle.rules.specs.Frame.{cells}
 use Rattle.rules.specs.V2.{top, blocks, rows}
 use Rattle.rules.proofs.V2Places.{block-inside}
-use Rattle.v2.specs.Places.{Placed}
+use Rattle.v2_cells.specs.Places.{Placed}
 use Rattle.v2.proofs.FrameLaws.{RowGoing, row-starts, row-ends, row-stops, row-goes, whole-row, refusal-number, FrameGoing, frame-starts, frame-ends, frame-refuses, frame-overruns, frame-goes, depth-is, markable, frame-is, samples-length}
 use Rattle.v2.proofs.frame.decode_frame.Statement.{statement}
 use Rattle.v2.proofs.frame.decode_frame.Tie as tie
@@ -39,7 +39,7 @@ done-requires : tie.Need-done-requires Inv-row μ-row Inv-frame μ-frame
 done-requires c κs = search needs
 
 frame-holds : tie.Need-frame-holds Inv-row μ-row Inv-frame μ-frame
-frame-holds c = (omega arith, (c .before .before .before .before .before .before .before .pre .whole, (refl, (c .before .done .ensures, frame-starts _ _ _ _ _ _ _ _ _))))
+frame-holds c = (omega arith, (c .before .before .before .before .before .before .before .pre .samples-lent, (refl, (c .before .done .ensures, frame-starts _ _ _ _ _ _ _ _ _))))
 
 align-requires : tie.Need-align-requires Inv-row μ-row Inv-frame μ-frame
 align-requires c κs = search needs
@@ -62,7 +62,7 @@ In = tie.In-row Inv-row μ-row Inv-frame μ-frame
 placed : (c : In) → Placed (record { width = c .before .before .before .before .before .before .before .before .before .before .before .before .before .before .args .size .width; row = c .before .before .before .before .before .before .frame .row; col = c .before .row .col })
 placed c =
     let q : c .before .before .before .before .before .before .frame .row < c .before .before .before .before .before .before .before .before .before .before .before .before .before .before .args .size .height = c .before .before .before .before .before .frame-test .taken in
-    record { wide = c .before .before .before .before .before .before .before .before .before .before .before .before .before .before .pre .wide; high = omega (arith, c .before .before .before .before .before .before .before .before .before .before .before .before .before .before .pre .high); column = c .row-test .taken; whole = c .before .row .inv .1 .1 .1 .whole-blocks }
+    record { wide = c .before .before .before .before .before .before .before .before .before .before .before .before .before .before .pre .width; high = omega (arith, c .before .before .before .before .before .before .before .before .before .before .before .before .before .before .pre .height); column = c .row-test .taken; whole = c .before .row .inv .1 .1 .1 .whole-blocks }
 
 room : (c : In) → c .before .before .before .before .before .before .frame .row * c .before .before .before .before .before .before .before .before .before .before .before .before .before .before .args .size .width + c .before .row .col + 16 ≤ cells (c .before .before .before .before .before .before .before .before .before .before .before .before .before .before .args .size)
 room c = block-inside (c .before .before .before .before .before .before .before .before .before .before .before .before .before .before .args .size) (c .before .before .before .before .before .before .frame .row) (c .before .row .col) (c .before .before .before .before .before .frame-test .taken) (c .row-test .taken)
@@ -86,7 +86,7 @@ number-requires : tie.Need-number-requires Inv-row μ-row Inv-frame μ-frame
 number-requires c κs = search needs
 
 cast-t29 : tie.Need-cast-t29 Inv-row μ-row Inv-frame μ-frame
-cast-t29 c = omega (arith, c .before .before .before .before .before .before .before .before .before .before .before .frame-test .taken, c .before .before .before .before .before .before .before .before .before .before .before .before .before .before .before .before .before .before .before .before .pre .high)
+cast-t29 c = omega (arith, c .before .before .before .before .before .before .before .before .before .before .before .frame-test .taken, c .before .before .before .before .before .before .before .before .before .before .before .before .before .before .before .before .before .before .before .before .pre .height)
 
 first-requires : tie.Need-first-requires Inv-row μ-row Inv-frame μ-frame
 first-requires c κs = placed (c .before .before .before .before .before .before .before .before)
@@ -98,10 +98,10 @@ mark-block-requires : tie.Need-mark-block-requires Inv-row μ-row Inv-frame μ-f
 mark-block-requires c κs =
     let l = c .before .before .before .before .before .before .before .before .before .before .before .before .before .before .before .row in
     let y = rw (l .inv .0) at (c .before .before .before .before .before .before .before .before .before .before .read-block .ensures) in
-    markable _ _ _ _ _ _ _ _ _ _ _ (sym (y .0) ∙ c .before .before .before .before .before .before .before .before .outcome .given .1) (l .inv .1 .1 .1 .motion) (placed (c .before .before .before .before .before .before .before .before .before .before .before .before .before .before)) (room (c .before .before .before .before .before .before .before .before .before .before .before .before .before .before)) (l .inv .1 .0 ∙ c .before .before .before .before .before .before .before .before .before .before .before .before .before .before .before .before .before .before .before .before .frame .inv .1 .1 .0) (c .before .before .before .before .before .before .before .before .before .before .before .before .before .before .before .before .before .before .before .before .before .before .before .before .before .before .before .before .pre .marked)
+    markable _ _ _ _ _ _ _ _ _ _ _ (sym (y .0) ∙ c .before .before .before .before .before .before .before .before .outcome .given .1) (l .inv .1 .1 .1 .motion) (placed (c .before .before .before .before .before .before .before .before .before .before .before .before .before .before)) (room (c .before .before .before .before .before .before .before .before .before .before .before .before .before .before)) (l .inv .1 .0 ∙ c .before .before .before .before .before .before .before .before .before .before .before .before .before .before .before .before .before .before .before .before .frame .inv .1 .1 .0) (c .before .before .before .before .before .before .before .before .before .before .before .before .before .before .before .before .before .before .before .before .before .before .before .before .before .before .before .before .pre .map-lent)
 
 add-col : tie.Need-add-col Inv-row μ-row Inv-frame μ-frame
-add-col c = omega (arith, c .before .before .before .before .before .before .before .before .before .before .before .before .before .before .before .before .before .row-test .taken, c .before .before .before .before .before .before .before .before .before .before .before .before .before .before .before .before .before .before .before .before .before .before .before .before .before .before .before .before .before .before .before .pre .wide)
+add-col c = omega (arith, c .before .before .before .before .before .before .before .before .before .before .before .before .before .before .before .before .before .row-test .taken, c .before .before .before .before .before .before .before .before .before .before .before .before .before .before .before .before .before .before .before .before .before .before .before .before .before .before .before .before .before .before .before .pre .width)
 
 row-less : tie.Need-row-less Inv-row μ-row Inv-frame μ-frame
 row-less c = search needs
@@ -149,7 +149,7 @@ frame-again c =
     )
 
 same-length : tie.Need-same-length Inv-row μ-row Inv-frame μ-frame
-same-length c = c .before .frame .inv .1 .0 ∙ sym (c .before .before .before .before .before .before .before .before .before .pre .whole)
+same-length c = c .before .frame .inv .1 .0 ∙ sym (c .before .before .before .before .before .before .before .before .before .pre .samples-lent)
 
 same-length-2 : tie.Need-same-length-2 Inv-row μ-row Inv-frame μ-frame
 same-length-2 c = c .before .frame .inv .1 .1 .0
@@ -161,7 +161,7 @@ returns c =
     frame-is _ _ _ _ _ _ _ _ (c .before .before .before .before .before .read-header .ensures) (e .0 ∙ sym (i .1 .1 .1 .0), e .1)
 
 same-length-3 : tie.Need-same-length-3 Inv-row μ-row Inv-frame μ-frame
-same-length-3 c = c .before .before .before .before .before .before .before .row .inv .0 ∙ sym (c .before .before .before .before .before .before .before .before .before .before .before .before .before .before .before .before .before .before .before .before .pre .whole)
+same-length-3 c = c .before .before .before .before .before .before .before .row .inv .0 ∙ sym (c .before .before .before .before .before .before .before .before .before .before .before .before .before .before .before .before .before .before .before .before .pre .samples-lent)
 
 same-length-4 : tie.Need-same-length-4 Inv-row μ-row Inv-frame μ-frame
 same-length-4 c = c .before .before .before .before .before .before .before .row .inv .1 .0 ∙ c .before .before .before .before .before .before .before .before .before .before .before .before .frame .inv .1 .1 .0
@@ -176,7 +176,7 @@ returns-2 c =
     (frame-refuses _ _ _ _ _ _ _ _ _ _ _ _ _ (c .before .before .before .before .before .before .before .before .before .before .before .before .frame .inv .1 .1 .1 .1) (c .before .before .before .before .before .before .before .before .before .before .before .frame-test .taken) _ (whole-row _ _ _ _ _ _ _ _ _ (c .before .before .before .before .before .before .before .before .before .before .align .ensures) (c .before .before .before .before .before .before .before .before .before .fresh .ensures) (c .before .before .before .before .before .before .before .before .mode .ensures)) _ _ (x .1) _ (x .0 ∙ sym (c .number .ensures)) (rw (c .number .ensures) (refusal-number _ no-next)))
 
 same-length-5 : tie.Need-same-length-5 Inv-row μ-row Inv-frame μ-frame
-same-length-5 c = c .before .before .row .inv .0 ∙ sym (c .before .before .before .before .before .before .before .before .before .before .before .before .before .before .before .pre .whole)
+same-length-5 c = c .before .before .row .inv .0 ∙ sym (c .before .before .before .before .before .before .before .before .before .before .before .before .before .before .before .pre .samples-lent)
 
 same-length-6 : tie.Need-same-length-6 Inv-row μ-row Inv-frame μ-frame
 same-length-6 c = c .before .before .row .inv .1 .0 ∙ c .before .before .before .before .before .before .before .frame .inv .1 .1 .0

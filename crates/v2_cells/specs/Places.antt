@@ -1,0 +1,46 @@
+-- Places in a frame within the limits, and references as the code has them: 5 more than they are, so that none is below 0.
+use Prim.Native.Nat.{ℕ, _+_, _-_, _*_, _%_, _≤_, _<_}
+use mathlib.Core.Path.{_≡_}
+use mathlib.Core.Bool.{Bool, _||_, cond}
+use mathlib.Core.List.{List}
+use lib.Dec.{ltb, leb, eqb}
+use lib.ListN.{getD}
+use Rattle.rules.specs.V2.{base-refusal, Kind}
+use Rattle.v2_cells.specs.declared.Place.{Place}
+
+-- A block's place in a row of a frame within the limits.
+pub record Placed (at : Place) : Type 0 where
+  pub wide : at .width ≤ 16_384
+  pub high : at .row < 16_384
+  pub column : at .col + 16 ≤ at .width
+  pub whole : at .col % 16 ≡ 0
+
+-- The same, with all sixteen samples among the n of the frame.
+pub record Inside (n : ℕ) (at : Place) : Type 0 where
+  pub placed : Placed at
+  pub room : at .row * at .width + at .col + 16 ≤ n
+
+-- A block of a map of n bytes, which is empty or has all sixteen and met no refusal.
+pub record Markable (n : ℕ) (at : Place) (motion : ℕ) : Type 0 where
+  pub placed : Placed at
+  pub small : motion ≤ 7
+  pub inside : (n ≡ 0 → ⊥) → Inside n at
+  pub unrefused : (n ≡ 0 → ⊥) → base-refusal n (at .width) (at .row) (at .col) motion ≡ 0
+
+-- Sample i refers as far on from sample 0 or 1, whichever has its parity, as it stands on from that one.
+abbrev pub along : ℕ → ℕ → ℕ → ℕ
+along even odd i = cond (eqb (i % 2) 0) (even + i) (odd + i - 1)
+
+-- Both runs of eight places, two apart, end among the n of the frame, with averaging too.
+pub record Runs (n even odd : ℕ) (averaging : Bool) : Type 0 where
+  pub even-end : even + 14 + cond averaging 2 0 < n
+  pub odd-end : odd + 14 + cond averaging 2 0 < n
+
+-- Whether one of eight references, two apart, is outside a frame of n samples, where the first is r less 5.
+abbrev pub run-outside : ℕ → ℕ → ℕ → Bool
+run-outside n more r = ltb r 5 || leb n (r - 5 + 14 + more)
+
+-- The cell at p, or its average with the one two places on.
+abbrev pub cell-from : Kind ℕ → List ℕ → Bool → ℕ → ℕ
+cell-from K f averaging p =
+    cond averaging (K .average (getD f p (K .constant 0)) (getD f (p + 2) (K .constant 0))) (getD f p (K .constant 0))

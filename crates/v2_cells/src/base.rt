@@ -1,0 +1,162 @@
+// Step 3 of a block: the refusal that its base meets, and the sixteen samples that its differences are added to.
+ghost use mathlib.Core.Path.{_≡_};
+ghost use mathlib.Core.Bool.{false, cond};
+ghost use Prim.Native.Nat.{_+_, _^_, _≤_, _<_};
+ghost use lib.ListN.{length, getD};
+ghost use Rattle.rules.specs.Frame.{tabulate};
+ghost use Rattle.rules.specs.V2.{motion-averages, average, any-strays, base-refusal, base-cell, sample-kind, repeated, base};
+ghost use Rattle.rules.specs.Ranges.{offset-4, reference-5};
+ghost use Rattle.v2_cells.specs.Places.{Placed, Inside, along, Runs, run-outside, cell-from};
+use super::Place;
+use rules::V2Hdr;
+use rules::V2Row;
+
+const OFFSETS: [i64; 7] = [-4, -2, -2, 0, 0, 2, 4];
+
+const AVERAGES: [bool; 7] = [false, false, true, false, true, false, false];
+
+// 4 more than a motion's offset, so that none is below 0.
+fn offset_plus_4(motion: u32) -> usize
+    requires { ⌜ motion < 7 ⌝ }
+    ensures { λ r. ⌜ r ≡ offset-4 motion ⌝ }
+{
+    (OFFSETS[motion as usize] + 4) as usize
+}
+
+pub fn averages(motion: u32) -> bool
+    requires { ⌜ motion < 7 ⌝ }
+    ensures { λ r. ⌜ r ≡ getD motion-averages motion false ⌝ }
+{
+    AVERAGES[motion as usize]
+}
+
+// Where sample 0 or 1 refers to, 5 places on, so that none is below 0.
+pub fn reference_plus_5(at: Place, motion: u32, i: usize) -> usize
+    requires { ⌜ Placed at × ((motion < 7) × ((2 ≤ at .row) × (i < 2))) ⌝ }
+    ensures { λ r. ⌜ r ≡ reference-5 (at .width) (at .row) (at .col) motion i ⌝ }
+{
+    let col = at.col + i + offset_plus_4(motion);
+    if (at.row + i) % 2 == 1 {
+        (at.row - 2) * at.width + col + 1
+    } else {
+        (at.row - 1) * at.width + col + (2 - i % 2 * 2)
+    }
+}
+
+// Where sample i refers to, from where samples 0 and 1 do.
+pub fn along_from(even: usize, odd: usize, i: usize) -> usize
+    requires { ⌜ (even + 15 < 2 ^ 64) × ((odd + 15 < 2 ^ 64) × (i < 16)) ⌝ }
+    ensures { λ r. ⌜ r ≡ along even odd i ⌝ }
+{
+    if i % 2 == 0 { even + i } else { odd + i - 1 }
+}
+
+// How many places on averaging reads.
+fn two_on(averaging: bool) -> usize
+    ensures { λ r. ⌜ r ≡ cond averaging 2 0 ⌝ }
+{
+    if averaging { 2 } else { 0 }
+}
+
+// Whether the first of eight references, two apart, is below 0, or the last, or the place `more` on, is at n or above.
+fn leaves(plus_5: usize, more: usize, n: usize) -> bool
+    requires { ⌜ (plus_5 < 536_870_912) × (more ≤ 2) ⌝ }
+    ensures { λ r. ⌜ r ≡ run-outside n more plus_5 ⌝ }
+{
+    plus_5 < 5 || n <= plus_5 - 5 + 14 + more
+}
+
+// Whether one of the sixteen references is outside the frame.
+fn any_outside(n: usize, at: Place, motion: u32) -> bool
+    requires { ⌜ Placed at × ((motion < 7) × (2 ≤ at .row)) ⌝ }
+    ensures { λ r. ⌜ r ≡ any-strays n (at .width) (at .row) (at .col) motion 16 0 ⌝ }
+{
+    let more = two_on(averages(motion));
+    if leaves(reference_plus_5(at, motion, 0), more, n) {
+        return true;
+    }
+    leaves(reference_plus_5(at, motion, 1), more, n)
+}
+
+// The refusal that the base meets, or 0.
+pub fn refusal_of(n: usize, at: Place, motion: u32) -> u32
+    requires { ⌜ Placed at × (motion ≤ 7) ⌝ }
+    ensures { λ r. ⌜ r ≡ base-refusal n (at .width) (at .row) (at .col) motion ⌝ }
+{
+    if motion == V2Row::MOTION {
+        return 0;
+    }
+    if at.row < 2 {
+        return 5;
+    }
+    if any_outside(n, at, motion) {
+        return 6;
+    }
+    0
+}
+
+fn average_of(a: u16, b: u16) -> u16
+    ensures { λ r. ⌜ r ≡ average a b ⌝ }
+{
+    ((a as u32 + b as u32 + 1) / 2) as u16
+}
+
+// The sample at p, or its average with the one two places on.
+fn base_from(out: &[u16], p: usize, averaging: bool) -> u16
+    requires { ⌜ p + cond averaging 2 0 < length (now out) ⌝ }
+    ensures { λ r. ⌜ r ≡ cell-from (sample-kind 0) (now (out .entry)) averaging p ⌝ }
+{
+    if averaging {
+        average_of(out[p], out[p + 2])
+    } else {
+        out[p]
+    }
+}
+
+// The bases of motions 0 to 6, from where samples 0 and 1 refer to.
+fn refer(out: &[u16], even: usize, odd: usize, averaging: bool, values: &mut [u16; 16])
+    requires { ⌜ Runs (length (now out)) even odd averaging × (length (now values) ≡ 16) ⌝ }
+    ensures { λ _. ⌜ now (values .exit) ≡ tabulate 16 0 (λ i. cell-from (sample-kind 0) (now (out .entry)) averaging (along even odd i)) ⌝ }
+{
+    let mut i: usize = 0;
+    while i < 16 {
+        values[i] = base_from(out, along_from(even, odd, i), averaging);
+        i += 1;
+    }
+}
+
+// One of the two samples that motion 7 repeats.
+fn before(out: &[u16], hdr: V2Hdr, at: Place, i: usize) -> u16
+    requires { ⌜ Inside (length (now out)) at × (i < 2) ⌝ }
+    ensures { λ r. ⌜ r ≡ base-cell (sample-kind 0) (now (out .entry)) (repeated hdr (at .width) (at .row) (at .col) i) ⌝ }
+{
+    if at.col == 0 {
+        return hdr.initial;
+    }
+    let first = at.first();
+    out[first - 2 + i % 2]
+}
+
+// The bases of motion 7.
+fn repeat(out: &[u16], hdr: V2Hdr, at: Place, values: &mut [u16; 16])
+    requires { ⌜ Inside (length (now out)) at ⌝ }
+    ensures { λ _. ⌜ now (values .exit) ≡ tabulate 16 0 (λ i. base-cell (sample-kind 0) (now (out .entry)) (repeated hdr (at .width) (at .row) (at .col) i)) ⌝ }
+{
+    let a = before(out, hdr, at, 0);
+    let b = before(out, hdr, at, 1);
+    *values = [a, b, a, b, a, b, a, b, a, b, a, b, a, b, a, b];
+}
+
+// The bases of a block that meets no refusal.
+pub fn bases(out: &[u16], hdr: V2Hdr, at: Place, motion: u32, values: &mut [u16; 16])
+    requires { ⌜ Inside (length (now out)) at × ((motion ≤ 7) × ((length (now values) ≡ 16) × (base-refusal (length (now out)) (at .width) (at .row) (at .col) motion ≡ 0))) ⌝ }
+    ensures { λ _. ⌜ now (values .exit) ≡ tabulate 16 0 (λ i. base-cell (sample-kind 0) (now (out .entry)) (base hdr (at .width) (at .row) (at .col) motion i)) ⌝ }
+{
+    if motion == V2Row::MOTION {
+        repeat(out, hdr, at, values);
+    } else {
+        let even = reference_plus_5(at, motion, 0) - 5;
+        let odd = reference_plus_5(at, motion, 1) - 5;
+        refer(out, even, odd, averages(motion), values);
+    }
+}

@@ -1,0 +1,107 @@
+// The marks of a block: a sample's mark is that of the samples that its base was read from.
+ghost use mathlib.Core.Path.{_≡_};
+ghost use mathlib.Core.Bool.{cond};
+ghost use Prim.Native.Nat.{_+_, _*_, _≤_, _<_, max};
+ghost use lib.ListN.{length};
+ghost use lib.Seq.{sets};
+ghost use Rattle.rules.specs.declared.v2.V2Hdr.{V2Hdr};
+ghost use Rattle.rules.specs.Frame.{tabulate};
+ghost use Rattle.rules.specs.V2.{base-refusal, base-cell, repeated, base};
+ghost use Rattle.rules.specs.Map.{v2-marks};
+ghost use Rattle.v2_cells.specs.Places.{Inside, Markable, along, Runs, cell-from};
+use super::Place;
+use super::base::along_from;
+use super::base::averages;
+use super::base::reference_plus_5;
+use rules::V2Row;
+
+fn greater(a: u8, b: u8) -> u8
+    ensures { λ r. ⌜ r ≡ max a b ⌝ }
+{
+    if a < b { b } else { a }
+}
+
+// The mark at p, or the greater of it and the one two places on.
+fn mark_from(map: &[u8], p: usize, averaging: bool) -> u8
+    requires { ⌜ p + cond averaging 2 0 < length (now map) ⌝ }
+    ensures { λ r. ⌜ r ≡ cell-from v2-marks (now (map .entry)) averaging p ⌝ }
+{
+    if averaging {
+        greater(map[p], map[p + 2])
+    } else {
+        map[p]
+    }
+}
+
+// The marks of motions 0 to 6, from where samples 0 and 1 refer to.
+fn refer_marks(map: &[u8], even: usize, odd: usize, averaging: bool, marks: &mut [u8; 16])
+    requires { ⌜ Runs (length (now map)) even odd averaging × (length (now marks) ≡ 16) ⌝ }
+    ensures { λ _. ⌜ now (marks .exit) ≡ tabulate 16 0 (λ i. cell-from v2-marks (now (map .entry)) averaging (along even odd i)) ⌝ }
+{
+    let mut i: usize = 0;
+    while i < 16 {
+        marks[i] = mark_from(map, along_from(even, odd, i), averaging);
+        i += 1;
+    }
+}
+
+// One of the two marks that motion 7 repeats: the initial sample is the stream's.
+fn mark_before(map: &[u8], at: Place, i: usize) -> u8
+    requires { ⌜ Inside (length (now map)) at × (i < 2) ⌝ }
+    ensures { λ r. ⌜ ((h : V2Hdr) → r ≡ base-cell v2-marks (now (map .entry)) (repeated h (at .width) (at .row) (at .col) i)) ⌝ }
+{
+    if at.col == 0 {
+        return 0;
+    }
+    let first = at.first();
+    map[first - 2 + i % 2]
+}
+
+// The marks of motion 7.
+fn repeat_marks(map: &[u8], at: Place, marks: &mut [u8; 16])
+    requires { ⌜ Inside (length (now map)) at ⌝ }
+    ensures { λ _. ⌜ ((h : V2Hdr) → now (marks .exit) ≡ tabulate 16 0 (λ i. base-cell v2-marks (now (map .entry)) (repeated h (at .width) (at .row) (at .col) i))) ⌝ }
+{
+    let a = mark_before(map, at, 0);
+    let b = mark_before(map, at, 1);
+    *marks = [a, b, a, b, a, b, a, b, a, b, a, b, a, b, a, b];
+}
+
+// The marks of a block that meets no refusal.
+fn block_marks(map: &[u8], at: Place, motion: u32, marks: &mut [u8; 16])
+    requires { ⌜ Inside (length (now map)) at × ((motion ≤ 7) × ((length (now marks) ≡ 16) × (base-refusal (length (now map)) (at .width) (at .row) (at .col) motion ≡ 0))) ⌝ }
+    ensures { λ _. ⌜ ((h : V2Hdr) → now (marks .exit) ≡ tabulate 16 0 (λ i. base-cell v2-marks (now (map .entry)) (base h (at .width) (at .row) (at .col) motion i))) ⌝ }
+{
+    if motion == V2Row::MOTION {
+        repeat_marks(map, at, marks);
+    } else {
+        let even = reference_plus_5(at, motion, 0) - 5;
+        let odd = reference_plus_5(at, motion, 1) - 5;
+        refer_marks(map, even, odd, averages(motion), marks);
+    }
+}
+
+// Sixteen marks to their place.
+fn store_marks(map: &mut [u8], at: usize, marks: &[u8; 16])
+    requires { ⌜ (at + 16 ≤ length (now map)) × (length (now marks) ≡ 16) ⌝ }
+    ensures { λ _. ⌜ now (map .exit) ≡ sets (now (map .entry)) at (now (marks .entry)) ⌝ }
+{
+    let mut i: usize = 0;
+    while i < 16 {
+        map[at + i] = marks[i];
+        i += 1;
+    }
+}
+
+// Marks a block in a map of the whole frame; an empty map has nothing to mark.
+pub fn mark_block(map: &mut [u8], at: Place, motion: u32)
+    requires { ⌜ Markable (length (now map)) at motion ⌝ }
+    ensures { λ _. ⌜ ((h : V2Hdr) → now (map .exit) ≡ sets (now (map .entry)) (at .row * at .width + at .col) (tabulate 16 0 (λ i. base-cell v2-marks (now (map .entry)) (base h (at .width) (at .row) (at .col) motion i)))) ⌝ }
+{
+    if map.len() == 0 {
+        return;
+    }
+    let mut marks = [0u8; 16];
+    block_marks(&map[..], at, motion, &mut marks);
+    store_marks(&mut map[..], at.first(), &marks);
+}

@@ -1,0 +1,3 @@
+-- What the proofs of the stages share.
+pub mod HeaderLaws
+pub mod LengthLaws

@@ -1,0 +1,120 @@
+use mathlib.Core.Bool.{false}
+use mathlib.Core.Path.{_≡_, refl, sym, _∙_}
+use Prim.Native.Nat.{_-_, _≤_}
+use native.Mathlib.Omega.{arith}
+use borrow.Author.Needs.{needs}
+use Rattle.rules.specs.V2.{lengths-from}
+use Rattle.v2_stream.proofs.LengthLaws.{length-goes-on, length-too-long, lengths-end, flagged-are, flag-below}
+use Rattle.v2_stream.proofs.lengths.four_lengths.Statement.{statement}
+use Rattle.v2_stream.proofs.lengths.four_lengths.Tie as tie
+
+abbrev Inv-loop : tie.InvT-loop
+Inv-loop src depth row mode₀ flags four₀ at₀ j₀ mode four at j =
+    (j ≤ 4)
+    × (lengths-from src depth row flags 4 0 (record { lengths = record { four = four₀; long = false; bits = at₀ }; mode = mode₀ })
+    ≡ lengths-from src depth row flags (4 - j) j (record { lengths = record { four = four; long = false; bits = at }; mode = mode }))
+
+abbrev μ-loop : tie.MeasureT-loop
+μ-loop src depth row mode₀ flags four₀ at₀ j₀ mode four at j = 4 - j
+
+read-flags-requires : tie.Need-read-flags-requires Inv-loop μ-loop
+read-flags-requires c κs = search needs
+
+loop-holds : tie.Need-loop-holds Inv-loop μ-loop
+loop-holds c = (omega arith, refl)
+
+colour-of-requires : tie.Need-colour-of-requires Inv-loop μ-loop
+colour-of-requires c κs = search needs
+
+mul-next-length : tie.Need-mul-next-length Inv-loop μ-loop
+mul-next-length c = search needs
+
+array-read-next-length : tie.Need-array-read-next-length Inv-loop μ-loop
+array-read-next-length c = search needs
+
+mul-next-length-2 : tie.Need-mul-next-length-2 Inv-loop μ-loop
+mul-next-length-2 c = search needs
+
+index-1-next-length : tie.Need-index-1-next-length Inv-loop μ-loop
+index-1-next-length c = search needs
+
+index-2-next-length : tie.Need-index-2-next-length Inv-loop μ-loop
+index-2-next-length c = search needs
+
+next-length-requires : tie.Need-next-length-requires Inv-loop μ-loop
+next-length-requires c κs = flag-below _ _ _ _ (c .before .before .before .before .before .before .read-flags .ensures)
+
+mul-if1 : tie.Need-mul-if1 Inv-loop μ-loop
+mul-if1 c = search needs
+
+index-1-if1 : tie.Need-index-1-if1 Inv-loop μ-loop
+index-1-if1 c = search needs
+
+index-2-if1 : tie.Need-index-2-if1 Inv-loop μ-loop
+index-2-if1 c = search needs
+
+mul-pair : tie.Need-mul-pair Inv-loop μ-loop
+mul-pair c = search needs
+
+element-set-from-pair : tie.Need-element-set-from-pair Inv-loop μ-loop
+element-set-from-pair c = search needs
+
+mul-four : tie.Need-mul-four Inv-loop μ-loop
+mul-four c = search needs
+
+array-write-four : tie.Need-array-write-four Inv-loop μ-loop
+array-write-four c = search needs
+
+add-if1 : tie.Need-add-if1 Inv-loop μ-loop
+add-if1 c = search needs
+
+returns : tie.Need-returns Inv-loop μ-loop
+returns c =
+    let m = c .before .before .before .before .before .before .before .before .loop in
+    sym (flagged-are _ _ _ _ _ _ (c .before .before .before .before .before .before .before .before .before .before .before .read-flags .ensures) ∙ m .inv .1
+    ∙ length-too-long _ _ _ _ _ (c .before .before .before .before .before .before .before .loop-test .taken) _ _ _ _ (c .before .before .before .before .before .before .colour-of .ensures .0) _ (c .before .before .before .before .next-length .ensures) (c .if1 .taken))
+
+add-j : tie.Need-add-j Inv-loop μ-loop
+add-j c = search needs
+
+loop-less : tie.Need-loop-less Inv-loop μ-loop
+loop-less c = search needs
+
+loop-again : tie.Need-loop-again Inv-loop μ-loop
+loop-again c =
+    let m = c .before .before .before .before .before .before .before .before .loop in (
+      omega (arith, c .before .before .before .before .before .before .before .loop-test .taken),
+      m .inv .1 ∙ length-goes-on _ _ _ _ _ (c .before .before .before .before .before .before .before .loop-test .taken) _ _ _ _ (c .before .before .before .before .before .before .colour-of .ensures .0) _ (c .before .before .before .before .next-length .ensures) (c .if1 .left),
+    )
+
+returns-2 : tie.Need-returns-2 Inv-loop μ-loop
+returns-2 c = sym (flagged-are _ _ _ _ _ _ (c .before .before .before .before .read-flags .ensures) ∙ c .before .loop .inv .1 ∙ lengths-end _ _ _ _ _ _ (c .loop-test .left))
+
+pub four-lengths-spec : {M : Type 1} → statement M
+four-lengths-spec =
+    tie.close
+    (tie.spec
+    Inv-loop
+    μ-loop
+    read-flags-requires
+    loop-holds
+    colour-of-requires
+    mul-next-length
+    array-read-next-length
+    mul-next-length-2
+    index-1-next-length
+    index-2-next-length
+    next-length-requires
+    mul-if1
+    index-1-if1
+    index-2-if1
+    mul-pair
+    element-set-from-pair
+    mul-four
+    array-write-four
+    add-if1
+    returns
+    add-j
+    loop-less
+    loop-again
+    returns-2)

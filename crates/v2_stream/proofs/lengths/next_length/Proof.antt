@@ -1,0 +1,26 @@
+use mathlib.Core.Path.{sym, _∙_}
+use native.Mathlib.Omega.{arith}
+use borrow.Author.Needs.{needs}
+use Rattle.v2_stream.proofs.LengthLaws.{length-read, length-stepped}
+use Rattle.v2_stream.proofs.lengths.next_length.Statement.{statement}
+use Rattle.v2_stream.proofs.lengths.next_length.Tie as tie
+
+get-requires : tie.Need-get-requires
+get-requires c κs = search needs
+
+returns : tie.Need-returns
+returns c = c .get .ensures ∙ sym (length-read _ _ _ _ (c .before .if1 .taken))
+
+wrapping-add-u32-requires : tie.Need-wrapping-add-u32-requires
+wrapping-add-u32-requires c κs = search needs
+
+wrapping-sub-u32-requires : tie.Need-wrapping-sub-u32-requires
+wrapping-sub-u32-requires c κs = search needs
+
+returns-2 : tie.Need-returns-2
+returns-2 c = length-stepped _ _ _ _ (c .before .before .if1 .left) (c .before .before .before .before .pre) (omega arith) (c .before .wrapping-add-u32 .result) _ (search needs) (search needs)
+
+pub next-length-spec : {M : Type 1} → statement M
+next-length-spec =
+    tie.close
+    (tie.spec get-requires returns wrapping-add-u32-requires wrapping-sub-u32-requires returns-2)
