@@ -1,1 +1,2 @@
 pub mod RefilledLaws
+pub mod WholeLaws
