@@ -1,3 +1,4 @@
 -- What the proofs of the stages share.
 pub mod HeaderLaws
 pub mod LengthLaws
+pub mod PairLaws

@@ -2,6 +2,11 @@
 ghost use mathlib.Core.Path.{_≡_};
 ghost use Prim.Native.Nat.{_<_};
 ghost use Rattle.rules.specs.V2.{position, differences-from};
+ghost use Rattle.v2_stream.specs.Pairs.{signed-pair};
+use bits::get_whole;
+use bits::read_signed;
+use fields::field;
+use fields::signed_of;
 use rules::Bits;
 
 // The position of difference k.
@@ -14,6 +19,37 @@ fn position_of(row: usize, k: usize) -> usize
         2 * (k % 8) + k / 8
     } else {
         2 * (k % 8) + 1 - k / 8
+    }
+}
+
+// Two differences, and the reader's state after them.
+struct Pair {
+    first: i32,
+    second: i32,
+    bits: Bits,
+}
+
+// Two differences of n bits, by one read where 32 bits hold both: a read costs more than a cut of its value.
+fn read_pair(src: &[u8], bits: Bits, n: u32) -> Pair
+    ensures { λ r. ⌜ r ≡ signed-pair (now (src .entry)) n bits ⌝ }
+{
+    if n <= 16 {
+        let g = get_whole(src, bits, 2 * n);
+        let v = g.value as u64;
+        let next = g.bits;
+        return Pair {
+            first: signed_of(field(v, n, n), n),
+            second: signed_of(field(v, 0, n), n),
+            bits: next,
+        };
+    }
+    let a = read_signed(src, bits, n);
+    let b = read_signed(src, a.bits, n);
+    let next = b.bits;
+    Pair {
+        first: a.value,
+        second: b.value,
+        bits: next,
     }
 }
 
@@ -30,12 +66,15 @@ pub fn block_differences(
     let mut at = bits;
     let mut k: usize = 0;
     while k < 16 {
-        let g = bits::read_signed(src, at, lengths[k / 4]);
+        let pair = read_pair(src, at, lengths[k / 4]);
         let p = position_of(row, k);
-        let v = g.value;
-        values[p] = v;
-        at = g.bits;
-        k += 1;
+        let q = position_of(row, k + 1);
+        let a = pair.first;
+        let b = pair.second;
+        values[p] = a;
+        values[q] = b;
+        at = pair.bits;
+        k += 2;
     }
     at
 }

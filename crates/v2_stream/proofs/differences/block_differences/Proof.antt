@@ -1,42 +1,55 @@
--- The loop's invariant: the differences from number k on come to what all sixteen come to.
+-- The loop's invariant: the differences from number k on, two at a time, come to what all sixteen come to.
 use mathlib.Core.Path.{_≡_, refl, sym, _∙_}
-use Prim.Native.Nat.{_-_, _≤_}
+use Prim.Native.Nat.{_-_, _%_, _≤_}
 use native.Mathlib.Omega.{arith}
 use mir.Syntax.{w32}
 use mir.ValLaws.{toZ-ofZ}
 use borrow.Author.Needs.{needs}
 use Rattle.rules.specs.V2.{differences-from}
-use Rattle.v2_stream.proofs.LengthLaws.{difference-more, difference-end}
+use Rattle.v2_stream.proofs.LengthLaws.{difference-end}
+use Rattle.v2_stream.proofs.PairLaws.{pair-more}
 use Rattle.v2_stream.proofs.differences.block_differences.Statement.{statement}
 use Rattle.v2_stream.proofs.differences.block_differences.Tie as tie
 
 abbrev Inv-loop : tie.InvT-loop
 Inv-loop src row values₀ lengths at₀ k₀ values at k =
-    (k ≤ 16) × (differences-from src row lengths 16 0 (record { values = values₀; bits = at₀ }) ≡ differences-from src row lengths (16 - k) k (record { values = values; bits = at }))
+    ((k ≤ 16) × (k % 2 ≡ 0)) × (differences-from src row lengths 16 0 (record { values = values₀; bits = at₀ }) ≡ differences-from src row lengths (16 - k) k (record { values = values; bits = at }))
 
 abbrev μ-loop : tie.MeasureT-loop
 μ-loop src row values₀ lengths at₀ k₀ values at k = 16 - k
 
 loop-holds : tie.Need-loop-holds Inv-loop μ-loop
-loop-holds c = (omega arith, refl)
+loop-holds c = ((omega arith, refl), refl)
 
-mul-read-signed : tie.Need-mul-read-signed Inv-loop μ-loop
-mul-read-signed c = search needs
+mul-read-pair : tie.Need-mul-read-pair Inv-loop μ-loop
+mul-read-pair c = search needs
 
-array-read-read-signed : tie.Need-array-read-read-signed Inv-loop μ-loop
-array-read-read-signed c = search needs
+array-read-read-pair : tie.Need-array-read-read-pair Inv-loop μ-loop
+array-read-read-pair c = search needs
 
-read-signed-requires : tie.Need-read-signed-requires Inv-loop μ-loop
-read-signed-requires c κs = search needs
+read-pair-requires : tie.Need-read-pair-requires Inv-loop μ-loop
+read-pair-requires c κs = search needs
 
 position-of-requires : tie.Need-position-of-requires Inv-loop μ-loop
 position-of-requires c κs = search needs
 
-mul-v : tie.Need-mul-v Inv-loop μ-loop
-mul-v c = search needs
+add-position-of : tie.Need-add-position-of Inv-loop μ-loop
+add-position-of c = search needs
 
-element-set-from-v : tie.Need-element-set-from-v Inv-loop μ-loop
-element-set-from-v c = search needs
+position-of-requires-2 : tie.Need-position-of-requires-2 Inv-loop μ-loop
+position-of-requires-2 c κs = search needs
+
+mul-a : tie.Need-mul-a Inv-loop μ-loop
+mul-a c = search needs
+
+element-set-from-a : tie.Need-element-set-from-a Inv-loop μ-loop
+element-set-from-a c = search needs
+
+mul-b : tie.Need-mul-b Inv-loop μ-loop
+mul-b c = search needs
+
+element-set-from-b : tie.Need-element-set-from-b Inv-loop μ-loop
+element-set-from-b c = search needs
 
 add-k : tie.Need-add-k Inv-loop μ-loop
 add-k c = search needs
@@ -46,10 +59,13 @@ loop-less c = search needs
 
 loop-again : tie.Need-loop-again Inv-loop μ-loop
 loop-again c =
-    let l = c .before .before .before .before .before .loop in (
-      omega (arith, c .before .before .before .before .loop-test .taken),
-      simp (toZ-ofZ w32 (c .before .before .before .read-signed .result .value) (search needs))
-          (l .inv .1 ∙ difference-more _ _ _ _ _ _ _ _ (c .before .before .before .before .loop-test .taken) (c .before .before .before .read-signed .ensures) (c .before .before .position-of .ensures .0)),
+    let r = c .before .before .before .before .before in
+    let l = r .before .before .loop in
+    let h = r .before .loop-test .taken in
+    let x = r .read-pair .result in (
+      (omega (arith, h, l .inv .0 .1), omega (arith, l .inv .0 .1)),
+      simp (toZ-ofZ w32 (x .first) (search needs), toZ-ofZ w32 (x .second) (search needs))
+          (l .inv .1 ∙ pair-more _ _ _ _ _ _ x _ _ h (l .inv .0 .1) (r .read-pair .ensures) (c .before .before .before .before .position-of .ensures .0) (c .before .before .before .position-of2 .ensures .0)),
     )
 
 returns : tie.Need-returns Inv-loop μ-loop
@@ -62,12 +78,16 @@ block-differences-spec =
     Inv-loop
     μ-loop
     loop-holds
-    mul-read-signed
-    array-read-read-signed
-    read-signed-requires
+    mul-read-pair
+    array-read-read-pair
+    read-pair-requires
     position-of-requires
-    mul-v
-    element-set-from-v
+    add-position-of
+    position-of-requires-2
+    mul-a
+    element-set-from-a
+    mul-b
+    element-set-from-b
     add-k
     loop-less
     loop-again
