@@ -105,8 +105,8 @@ module _ (z : Size) (row col : ℕ) (i : Inner z row col) where
   pub inner-inside : (f : List ℕ) → length f ≡ cells z → Inside (z .width) (row * z .width + col) f
   inner-inside f e =
       record {
+        wide = omega (arith, i .inside);
         rows = omega (arith, two-rows);
-        columns = omega (arith, i .after, i .frame .block);
         room = omega (arith, end, i .inside);
       }
 
