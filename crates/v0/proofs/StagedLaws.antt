@@ -9,7 +9,7 @@ use native.Mathlib.Omega.{arith}
 use native.Mathlib.Nat.{mul-le-mul-right, zero-add}
 use native.Mathlib.Decide.{ℕ-discrete, decLt}
 use lib.Dec.{eqb}
-use lib.ListN.{length, getD, set, length-set}
+use lib.ListN.{length, getD, set, replicate, length-set}
 use lib.Seq.{getD-set-same, getD-set-other, ext-getD}
 use borrow.Author.Tests.{eqb-true, eqb-false}
 use Rattle.rules.specs.V0.{Kind, put, apply, order, rows-up}
@@ -89,7 +89,7 @@ module _ (k : Kind ℕ) (w base : ℕ) (up : Bool) (d : ℕ → ℕ) (f₀ : Lis
     before : (i : ℕ) → i < base → getD f i (k .constant 0) ≡ getD f₀ i (k .constant 0)
     written : All (λ b. b ≢ c) bs → getD f (base + c) (k .constant 0) ≡ predicted c
 
-  module _ (wide : 16 ≤ w) (rows : 2 * w ≤ base) (c : ℕ) (l : c < 16) where
+  module _ (wide : 16 ≤ w) (rows : 2 * w ≤ base) (c : ℕ) where
     ready-on : (b : ℕ) (bs : List ℕ) (f : List ℕ) → b < 16 → Ready c (b ∷ bs) f
         → Ready c bs (set f (base + b) (k .plus (getD f (source-of w base up b) (k .constant 0)) (d b)))
     ready-on b bs f h r =
@@ -120,19 +120,31 @@ module _ (k : Kind ℕ) (w base : ℕ) (up : Bool) (d : ℕ → ℕ) (f₀ : Lis
   ops-replace i =
       record {
         same-length = apply-length k (ops order) f₀;
-        inside = λ c l. ops-inside (i .wide) (i .rows) c l (all-order (λ b. b < 16) (λ b h. h)) f₀
+        inside = λ c l. ops-inside (i .wide) (i .rows) c (all-order (λ b. b < 16) (λ b h. h)) f₀
             (record { room = i .room; before = λ j h. refl; written = λ none. absurd (order-whole c l none) });
         outside = λ j h. ops-outside j (all-order (λ c. j ≢ base + c) h) f₀;
       }
 
+  -- The first n of sixteen values are made.
+  pub record Made (vs : List ℕ) (n : ℕ) : Type 0 where
+    pub below : n ≤ 16
+    pub values-are : Replaced k 0 n predicted (replicate 16 0) vs
+
+  pub made-none : Made (replicate 16 0) 0
+  made-none = record { below = omega arith; values-are = replaced-none k 0 predicted (replicate 16 0) }
+
+  pub made-on : (vs : List ℕ) (n v : ℕ) → n < 16 → v ≡ predicted n → Made vs n → Made (set vs n v) (n + 1)
+  made-on vs n v l ev m =
+      record { below = omega arith; values-are = replaced-on k 0 predicted (replicate 16 0) n n v vs (omega arith) (omega arith) ev (m .values-are) }
+
   -- Values made from the frame as it was and then stored are what the operations leave.
-  pub staged : Inside w base f₀ → (zs vs f : List ℕ) → Replaced k 0 16 predicted zs vs
-      → Replaced k base 16 (λ c. getD vs c (k .constant 0)) f₀ f → f ≡ apply k (inner-ops w base up order (map d order)) f₀
-  staged i zs vs f v r =
+  pub staged : (vs f : List ℕ) (n : ℕ) → Inside w base f₀ → 16 ≤ n → Made vs n → Replaced k base 16 (λ c. getD vs c (k .constant 0)) f₀ f
+      → f ≡ apply k (inner-ops w base up order (map d order)) f₀
+  staged vs f n i l m r =
       replaced-same k base predicted f₀ 16 f _
       (record {
         same-length = r .same-length;
-        inside = λ c l. r .inside c l ∙ ap (λ j. getD vs j (k .constant 0)) (sym (zero-add c)) ∙ v .inside c l;
+        inside = λ c h. r .inside c h ∙ ap (λ j. getD vs j (k .constant 0)) (sym (zero-add c)) ∙ m .values-are .inside c (omega arith);
         outside = r .outside;
       })
       (ops-replace i)
