@@ -43,7 +43,7 @@ sub-p-3 c =
     let l : 2 * 1 ≤ a .row * a .w = mul-le-mul r o in omega arith
 
 returns-2 : tie.Need-returns-2
-returns-2 c = search late-left
+returns-2 c = let a = c .before .before .args in late-left (a .w) (a .row) (a .col) (a .up) (a .c) (search needs) (omega arith)
 
 returns-3 : tie.Need-returns-3
 returns-3 c = search late-constant
