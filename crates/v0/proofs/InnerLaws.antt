@@ -10,11 +10,11 @@ use native.Mathlib.Nat.{mul-le-mul-right, add-mul, mul-comm, mul-add}
 use lib.IntN.{ℤ}
 use lib.ListN.{length, getD, set, drop, replicate}
 use lib.Seq.{drop-cons}
-use borrow.Author.Tests.{le-ltb, ne-eqb}
+use borrow.Author.Tests.{ne-eqb}
 use Rattle.rules.specs.Reader.{read-residual}
 use Rattle.rules.specs.Frame.{cells}
-use Rattle.rules.specs.Phases.{residuals}
-use Rattle.rules.specs.V0.{Kind, put, apply, sample-kind, sample, samples, head, predictor, limit, order, rows-up, columns-back, length-of, length-bits, residual-bits}
+use Rattle.rules.specs.Phases.{residuals, late-predictor}
+use Rattle.rules.specs.V0.{Kind, put, apply, sample-kind, sample, samples, head, predictor, limit, order, rows-up, length-of, length-bits, residual-bits}
 use Rattle.rules.specs.Map.{v0-marks}
 use Rattle.rules.specs.declared.answer.Size.{Size}
 use Rattle.rules.specs.declared.reader.Bits.{Bits}
@@ -22,12 +22,13 @@ use Rattle.rules.specs.declared.v0.Predictor.{Predictor}
 use Rattle.rules.specs.declared.v0.Predictor.the-variants.{Sample}
 use Rattle.rules.specs.declared.v0.V0Op.{V0Op}
 use Rattle.rules.specs.declared.v0.V0Row.{V0Row}
+use Rattle.rules.proofs.Predictors.{predictor-late}
 use Rattle.v0.specs.Limits.{Inner, Inside, Whole}
 use Rattle.v0_block.specs.Block.{with-residuals, whole-block}
 use Rattle.v0_block.specs.declared.block.ReadBlock.{ReadBlock}
 use Rattle.v0_block.proofs.BlockLaws.{order-below}
 use Rattle.v0.specs.Block.{block-ops, after-block, source-of, inner-ops}
-use Rattle.v0.proofs.CellLaws.{product, apply-empty, bounded-both, Left, left-begun, left-on, left-none}
+use Rattle.v0.proofs.CellLaws.{product, apply-empty, Left, left-begun, left-on, left-none}
 
 -- ── The source of a sample ──
 
@@ -48,6 +49,16 @@ source-up w base up c e = rw e
 pub source-left : (w base : ℕ) (up : Bool) (c : ℕ) → up ≡ false → base - (2 - c % 2) ≡ source-of w base up c
 unfolding source-of
 source-left w base up c e = rw e
+
+row-split : (w row n : ℕ) → n ≤ row → (row - n) * w + n * w ≡ row * w
+row-split w row n l = let e : row - n + n ≡ row = omega arith in sym (add-mul (row - n) n w) ∙ ap (λ m. m * w) e
+
+-- From row 2 on and after column 0 that is its predictor.
+pub late-source : (w row col : ℕ) (up : Bool) (c : ℕ) → 2 ≤ row → 0 < col → late-predictor w row col up c ≡ Sample (source-of w (row * w + col) up c)
+unfolding late-predictor source-of
+late-source w row col true c two after =
+    let e : (row - rows-up c) * w + col + c ≡ row * w + col + c - rows-up c * w = omega (arith, row-split w row (rows-up c) (omega arith)) in ap Sample e
+late-source w row col false c two after = rw (ne-eqb col 0 (λ e. omega arith))
 
 -- ── The loop over the sixteen, for any kind of cell ──
 
@@ -105,8 +116,8 @@ module _ (z : Size) (row col : ℕ) (i : Inner z row col) where
   pub inner-inside : (f : List ℕ) → length f ≡ cells z → Inside (z .width) (row * z .width + col) f
   inner-inside f e =
       record {
+        wide = omega (arith, i .inside);
         rows = omega (arith, two-rows);
-        columns = omega (arith, i .after, i .frame .block);
         room = omega (arith, end, i .inside);
       }
 
@@ -116,19 +127,9 @@ module _ (z : Size) (row col : ℕ) (i : Inner z row col) where
   limit-far : row * z .width + col + 16 ≤ limit z
   limit-far = omega (arith, end, i .inside, mul-add (z .width) (z .height) 7)
 
-  row-split : (n : ℕ) → n ≤ row → (row - n) * z .width + n * z .width ≡ row * z .width
-  row-split n l = let e : row - n + n ≡ row = omega arith in sym (add-mul (row - n) n (z .width)) ∙ ap (λ m. m * z .width) e
-
   inner-predictor : (up : Bool) (c : ℕ) → c < 16 → predictor z row col up c ≡ Sample (source-of (z .width) (row * z .width + col) up c)
-  unfolding predictor source-of
-  inner-predictor true c l =
-      let split = row-split (rows-up c) (omega (arith, i .late)) in
-      let e : (row - rows-up c) * z .width + col + c ≡ row * z .width + col + c - rows-up c * z .width = omega (arith, split) in
-      rw (le-ltb row (rows-up c) (omega (arith, i .late)))
-      (sym (bounded-both z (row * z .width + col + c) ((row - rows-up c) * z .width + col + c) (omega (arith, limit-far)) (omega (arith, limit-far, split))) ∙ ap Sample e)
-  inner-predictor false c l =
-      rw (ne-eqb col 0 (λ e. omega (arith, i .after)))
-      (sym (bounded-both z (row * z .width + col + c) (row * z .width + col - columns-back c) (omega (arith, limit-far)) (omega (arith, limit-far))))
+  inner-predictor up c l =
+      predictor-late z row col up c (λ e. i .late) (omega (arith, limit-far)) ∙ late-source (z .width) row col up c (i .late) (i .after)
 
 -- Where every sample predicts from a sample, each one's bits are read, and its operation has what was read.
 module _ (s : List ℕ) (w base : ℕ) (up : Bool) (ls : List ℤ) (predict : ℕ → Predictor) where

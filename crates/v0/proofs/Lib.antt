@@ -1,5 +1,6 @@
 pub mod CellLaws
 pub mod SampleLaws
+pub mod StagedLaws
 pub mod InnerLaws
 pub mod RowLaws
 pub mod ExchangeLaws

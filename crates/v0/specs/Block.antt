@@ -1,8 +1,11 @@
 -- One block, by the definitions of its samples: what it does to the frame, and what it leaves of the row's state.
-use Prim.Native.Nat.{ℕ, _+_, _-_, _*_}
+use Prim.Native.Nat.{ℕ, _+_, _-_, _*_, _<_}
 use mathlib.Core.Bool.{Bool, cond}
 use mathlib.Core.List.{List, [], _∷_}
-use Rattle.rules.specs.V0.{Ops, head, samples, predictor, order, rows-up, columns-back}
+use mathlib.Core.Logic.{_≢_}
+use mathlib.Core.Path.{_≡_}
+use lib.ListN.{length, getD}
+use Rattle.rules.specs.V0.{Kind, Ops, head, samples, predictor, order, rows-up, columns-back}
 use Rattle.rules.specs.declared.answer.Size.{Size}
 use Rattle.rules.specs.declared.reader.Bits.{Bits}
 use Rattle.rules.specs.declared.v0.Predictor.the-variants.{Sample}
@@ -34,3 +37,9 @@ inner-ops w base up [] vs = []
 inner-ops w base up (c ∷ cs) [] = []
 inner-ops w base up (c ∷ cs) (v ∷ vs) =
     record { place = base + c; predictor = Sample (source-of w base up c); residual = v } ∷ inner-ops w base up cs vs
+
+-- A frame whose n cells from a place on are new, and whose others are as they were.
+pub record Replaced (k : Kind ℕ) (base n : ℕ) (new : ℕ → ℕ) (f₀ f : List ℕ) : Type 0 where
+  pub same-length : length f ≡ length f₀
+  pub inside : (c : ℕ) → c < n → getD f (base + c) (k .constant 0) ≡ new c
+  pub outside : (i : ℕ) → ((c : ℕ) → c < n → i ≢ base + c) → getD f i (k .constant 0) ≡ getD f₀ i (k .constant 0)

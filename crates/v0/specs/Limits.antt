@@ -34,10 +34,10 @@ pub record Inner (z : Size) (row col : ℕ) : Type 0 where
   pub after : 0 < col
   pub inside : col + 16 ≤ z .width
 
--- A block at `base` in cells of a row length w: it lies inside them, with two rows and two columns before it.
+-- A block at `base` in cells of a row length w: it is no wider than a row and lies inside them, with two rows before it.
 pub record Inside (w base : ℕ) (f : List ℕ) : Type 0 where
+  pub wide : 16 ≤ w
   pub rows : 2 * w ≤ base
-  pub columns : 2 ≤ base
   pub room : base + 16 ≤ length f
 
 -- A row of a frame that is lent, with its map or without.

@@ -1,59 +1,45 @@
 -- Phase two of any kind of cell: row by row, block by block and sample by sample, what is left from here comes to the whole from
 -- the start.
 use mathlib.Core.Path.{_≡_, refl, sym, _∙_}
-use mathlib.Core.Bool.{Bool, true, false, cond}
-use mathlib.Core.List.{List, [], _∷_, _++_}
-use mathlib.Core.Logic.{⊎-elim}
-use Prim.Native.Nat.{ℕ, zero, suc, _+_, _-_, _*_, _%_, _≤_, _<_}
+use mathlib.Core.Bool.{Bool, true, false}
+use mathlib.Core.List.{List, [], _∷_, _++_, map}
+use mathlib.Core.Logic.{_≢_, ⊎-elim}
+use Prim.Native.Nat.{ℕ, zero, suc, _+_, _-_, _*_, _≤_, _<_}
 use native.Mathlib.Omega.{arith}
 use native.Mathlib.Nat.{mul-le-mul-right}
 use native.Mathlib.Numerals.{add-one}
-use lib.ListN.{length, getD, set, take, drop, length-drop, drop-of-length-le}
+use lib.ListN.{length, getD, take, drop, length-drop, drop-of-length-le}
 use lib.Seq.{drop-cons, drop-drop, getD-take, getD-drop, length-take-le, take-append-le, drop-append-le}
 use borrow.Author.Tests.{lt-ltb, le-ltb, ne-eqb}
-use Rattle.rules.specs.V0.{put, order, blocks-in, rows-up, columns-back}
+use Rattle.rules.specs.V0.{put, apply, order, blocks-in, rows-up, columns-back}
 use Rattle.rules.specs.Phases.{Stage, upward, late-predictor, predict-samples, predict-blocks, phase-two}
 use Rattle.rules.specs.declared.v0.Predictor.{Predictor}
 use Rattle.rules.specs.declared.v0.Predictor.the-variants.{Constant, Sample}
 use Rattle.rules.specs.declared.answer.Size.{Size}
+use Rattle.rules.proofs.Cells.{All, nil, more}
+use Rattle.rules.proofs.Order.{Apart, end, next, all-order, order-apart}
+use Rattle.rules.proofs.Spill.{put-other}
 use Rattle.rules.proofs.V0Cells.{phase-two-length}
+use Rattle.v0.specs.Limits.{Inside}
+use Rattle.v0.specs.Block.{inner-ops}
+use Rattle.v0.proofs.CellLaws.{product}
+use Rattle.v0.proofs.InnerLaws.{late-source}
 use Rattle.v0_phases.specs.Lent.{LateRow, PhaseLent, MapLent}
 
 -- ── The predictor ──
-
--- The place that sample c predicts from, unless it takes 128.
-abbrev pub source-of : ℕ → ℕ → ℕ → Bool → ℕ → ℕ
-source-of w row col up c = cond up ((row - (1 + c % 2)) * w + col + c) (row * w + col - (2 - c % 2))
-
-pub when-true : (t : Bool) (x a b : ℕ) → t ≡ true → x ≡ a → x ≡ cond t a b
-when-true t x a b e q = rw e q
-
-pub when-false : (t : Bool) (a b : ℕ) → t ≡ false → b ≡ cond t a b
-when-false t a b e = rw e
 
 module _ (w row col : ℕ) (up : Bool) (c : ℕ) where
   pub late-constant : up ≡ false → col ≤ 0 → Constant ≡ late-predictor w row col up c
   unfolding late-predictor
   late-constant e q = let first : col ≡ 0 = omega arith in rw (e, first)
 
-  pub late-up : (p : ℕ) → up ≡ true → p ≡ source-of w row col up c → Sample p ≡ late-predictor w row col up c
+  pub late-up : (n : ℕ) → up ≡ true → n ≡ rows-up c → Sample ((row - n) * w + col + c) ≡ late-predictor w row col up c
   unfolding late-predictor
-  late-up p e q = rw (q, e)
+  late-up n e q = rw (q, e)
 
-  pub late-after : (p : ℕ) → 0 < col → p ≡ source-of w row col up c → Sample p ≡ late-predictor w row col up c
+  pub late-left : up ≡ false → 0 < col → Sample (row * w + col - columns-back c) ≡ late-predictor w row col up c
   unfolding late-predictor
-  late-after p after q = rw (q, ne-eqb col 0 (λ e. omega arith)) (go up)
-    where
-      go : (t : Bool) → Sample (source-of w row col t c)
-          ≡ cond t (Sample ((row - rows-up c) * w + col + c)) (Sample (row * w + col - columns-back c))
-      go true = refl
-      go false = refl
-
--- It lies before the block, where that is within the row and not its first.
-pub source-before : (w row col : ℕ) (up : Bool) (c p : ℕ) → 2 ≤ row → 0 < col → col + 16 ≤ w → c < 16 → p ≡ source-of w row col up c → p < row * w + col
-source-before w row col true c p above after within h e =
-    let q : suc (row - (1 + c % 2)) * w ≤ row * w = mul-le-mul-right w (omega arith) in omega arith
-source-before w row col false c p above after within h e = omega arith
+  late-left e after = rw (e, ne-eqb col 0 (λ q. omega arith))
 
 -- Stores keep a row within its frame.
 pub row-kept : {w row : ℕ} {f₀ : List ℕ} (f : List ℕ) → LateRow w row f₀ → length f ≡ length f₀ → LateRow w row f
@@ -71,13 +57,6 @@ module _ (g : Stage ℕ) (w row col : ℕ) (up : Bool) where
   pub one-past : (c : ℕ) (f : List ℕ) → w ≤ col + c → f ≡ predict-samples g w row col up (c ∷ []) f
   unfolding predict-samples
   one-past c f h = rw (le-ltb (col + c) w h)
-
-  -- A sample with a predictor, within the row.
-  pub one-inner : (c p v : ℕ) (f : List ℕ) → col + c < w → Sample p ≡ late-predictor w row col up c
-      → v ≡ g .kind .plus (getD f p (g .kind .constant 0)) (g .residual (getD f (row * w + col + c) (g .kind .constant 0)))
-      → set f (row * w + col + c) v ≡ predict-samples g w row col up (c ∷ []) f
-  unfolding predict-samples put
-  one-inner c p v f h ep ev = rw (lt-ltb (col + c) w h, ← ep, ev)
 
   pub record Predicting (f₀ f : List ℕ) (k : ℕ) : Type 0 where
     pub below : k ≤ 16
@@ -101,6 +80,40 @@ module _ (g : Stage ℕ) (w row col : ℕ) (up : Bool) where
   predicting-done f₀ f k l p =
       let e : k ≡ 16 = omega (arith, p .below) in
       let p′ : Predicting f₀ f 16 = rw e at p in p′ .cells-are
+
+-- ── An inner block ──
+
+-- A block after column 0 that lies within its row has two rows before it.
+pub late-inside : {w row : ℕ} {f : List ℕ} (col : ℕ) → LateRow w row f → 0 < col → col + 16 ≤ w
+    → Inside w (row * w + col) f × (row * w + col < 1_000_000_000)
+late-inside {w} {row} col l after within =
+    let two : 2 * w ≤ row * w = mul-le-mul-right w (l .rows-above) in
+    let most = product row w (omega (arith, l .row-below)) (omega (arith, l .width)) in
+    (record { wide = omega arith; rows = omega arith; room = omega (arith, l .row-lent) }, omega (arith, l .width))
+
+-- In it phase two does the direct decoder's operations, with the residuals that stand in its places: those are places of their
+-- own, so that each residual still stands there when its turn comes.
+module _ (g : Stage ℕ) (w row col : ℕ) (up : Bool) (two : 2 ≤ row) (after : 0 < col) (within : col + 16 ≤ w) (f₀ : List ℕ) where
+  abbrev at : List ℕ → ℕ → ℕ
+  at f c = getD f (row * w + col + c) (g .kind .constant 0)
+
+  others-stand : (c : ℕ) (p : Predictor) (d : ℕ) (f : List ℕ) {cs : List ℕ} → All (λ b. b ≢ c) cs → All (λ b. at f b ≡ at f₀ b) cs
+      → All (λ b. at (put (g .kind) (row * w + col + c) p d f) b ≡ at f₀ b) cs
+  others-stand c p d f nil nil = nil
+  others-stand c p d f (more {a = b} q qs) (more h hs) =
+      more (put-other (g .kind) (row * w + col + c) p d f (row * w + col + b) (λ e. q (omega arith)) ∙ h) (others-stand c p d f qs hs)
+
+  inner-steps : {cs : List ℕ} → Apart (λ c. c) cs → All (λ c. c < 16) cs → (f : List ℕ) → All (λ c. at f c ≡ at f₀ c) cs
+      → predict-samples g w row col up cs f ≡ apply (g .kind) (inner-ops w (row * w + col) up cs (map (λ c. g .residual (at f₀ c)) cs)) f
+  unfolding predict-samples inner-ops apply
+  inner-steps end nil f nil = refl
+  inner-steps (next {a = c} away rest) (more l ls) f (more h hs) =
+      rw (lt-ltb (col + c) w (omega arith), late-source w row col up c two after, h)
+      (inner-steps rest ls _ (others-stand c _ _ f away hs))
+
+  pub inner-block : predict-samples g w row col up order f₀
+      ≡ apply (g .kind) (inner-ops w (row * w + col) up order (map (λ c. g .residual (at f₀ c)) order)) f₀
+  inner-block = inner-steps order-apart (all-order (λ c. c < 16) (λ c l. l)) f₀ (all-order (λ c. at f₀ c ≡ at f₀ c) (λ c l. refl))
 
 -- ── A row's blocks ──
 

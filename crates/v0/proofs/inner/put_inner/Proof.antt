@@ -20,7 +20,7 @@ stream-column-requires : tie.Need-stream-column-requires Inv-loop μ-loop
 stream-column-requires c κs = search needs
 
 source-requires : tie.Need-source-requires Inv-loop μ-loop
-source-requires c κs = let a = c .before .before .before .before .pre in (a .0 .rows, (a .0 .columns, (a .1, c .stream-column .ensures .1)))
+source-requires c κs = let a = c .before .before .before .before .pre in (a .0 .rows, (omega (arith, a .0 .rows, a .0 .wide), (a .1, c .stream-column .ensures .1)))
 
 mul-wrapping-add-u16 : tie.Need-mul-wrapping-add-u16 Inv-loop μ-loop
 mul-wrapping-add-u16 c = omega arith
