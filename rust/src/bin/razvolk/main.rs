@@ -15,6 +15,8 @@ mod make;
 #[path = "../../../examples/frames/scenes.rs"]
 mod scenes;
 #[cfg(test)]
+mod seen;
+#[cfg(test)]
 #[allow(dead_code)]
 #[path = "../../../compare/src/stream.rs"]
 mod stream;

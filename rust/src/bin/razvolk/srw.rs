@@ -93,7 +93,7 @@ struct Tiff<'a> {
     lowest_first: bool,
 }
 
-/// Where a directory's entries begin, and how many there are.
+/// Where a directory's entries begin, and how many of them the file has.
 #[derive(Clone, Copy)]
 struct Directory {
     at: usize,
@@ -129,14 +129,16 @@ impl<'a> Tiff<'a> {
         let mut coming: VecDeque<u32> = self.at(4, 4).into_iter().collect();
         let mut found = Vec::new();
         while let Some(at) = coming.pop_front().filter(|_| found.len() < MOST_DIRECTORIES) {
-            let Some(entries) = self.at(at as usize, 2) else { continue };
-            let directory = Directory { at: at as usize + 2, entries: entries as usize };
+            let Some(told) = self.at(at as usize, 2) else { continue };
+            let at = at as usize + 2;
+            let within = self.bytes.len().saturating_sub(at) / 12;
+            let directory = Directory { at, entries: within.min(told as usize) };
             found.push(directory);
             if let Some(below) = self.entry(directory, SUB_DIRECTORIES) {
                 let numbers = (0..below.count.min(MOST_DIRECTORIES as u32)).map_while(|i| self.nth(&below, i));
                 coming.extend(numbers);
             }
-            coming.extend(self.at(directory.at + 12 * directory.entries, 4).filter(|&next| next != 0));
+            coming.extend(self.at(at + 12 * told as usize, 4).filter(|&next| next != 0));
         }
         found
     }

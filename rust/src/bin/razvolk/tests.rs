@@ -1,37 +1,18 @@
 //! Files that are made, damaged, and made to do harm.
 
 use crate::make::{LONG, Made, SHORT, directory, srw, v0, v2};
+use crate::report;
 use crate::scenes::{christening, sitting};
+use crate::seen::seen;
 use crate::srw::{Coding, Fault, Frame, frame};
 use crate::worker::Worker;
-use crate::{pgm, png, report};
-use razvolk::{MAX_SIDE, Refusal};
+use razvolk::Refusal;
 
 /// A V0 frame of 20 by 5 in its file; the table stands right before the strip.
 fn small() -> (Made, Vec<u8>) {
     let made = v0(&christening(20, 5), 20, 5, 1);
     let file = srw(&made);
     (made, file)
-}
-
-/// Does with a file all that the tool does, but for reading and writing it; large frames are not decoded.
-fn seen(file: &[u8]) -> Result<String, Fault> {
-    let frame = frame(file)?;
-    let mut text = report::heading("file", &frame);
-    let sides = frame.width <= MAX_SIDE && frame.height <= MAX_SIDE;
-    if sides && frame.width * frame.height > 10_000 {
-        return Ok(text);
-    }
-    let mut worker = Worker::of(&[&frame]).expect("few samples");
-    text += &report::answer(worker.decode(&frame));
-    if let Some((samples, marks)) = worker.frame() {
-        text += &report::marks(Some(marks), frame.width);
-        if !samples.is_empty() {
-            assert!(pgm::file(samples, frame.width).len() > 2 * samples.len());
-            assert!(png::file(samples, marks.bytes(), frame.width, 0).len() > 800);
-        }
-    }
-    Ok(text)
 }
 
 #[test]
