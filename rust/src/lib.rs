@@ -35,3 +35,8 @@ pub use marks::Marks;
 pub use ph1bits::Ph1Bits;
 pub use v0::{decode_v0, decode_v0_map, decode_v0_reference, decode_v0_reference_map, scratch_len};
 pub use v2::{decode_v2, decode_v2_map};
+
+/// The examples of the migration page are run with the others.
+#[cfg(doctest)]
+#[doc = include_str!("../../docs/MIGRATION.md")]
+struct Migration;
