@@ -68,6 +68,20 @@ fn a_frame_over_another() {
     assert!(place.get("next.png").expect("a picture").starts_with(b"\x89PNG\r\n\x1a\n"));
 }
 
+/// The README shows the picture and the text that `make picture` makes.
+#[test]
+fn the_readme_shows_what_the_tool_does() {
+    let place = Place::new("readme");
+    place.put("sitting.srw", srw(&v0(&scenes::sitting(320, 200), 320, 200, 0)));
+    place.put("christening.srw", srw(&v0(&scenes::christening(320, 200), 320, 200, 24)));
+    let (status, text, _) = place.run("--over sitting.srw christening.srw --png marked.png");
+    let top = PathBuf::from(env!("CARGO_MANIFEST_DIR")).join("..");
+    assert!(status == 0 && place.get("marked.png") == fs::read(top.join("docs/marked.png")).ok());
+    let readme = fs::read_to_string(top.join("README.md")).expect("README.md");
+    let shown: String = text.lines().map(|line| format!("    {line}\n")).collect();
+    assert!(readme.contains(&shown), "the README has\n{shown}");
+}
+
 #[test]
 fn bare_streams() {
     let place = Place::new("bare");

@@ -56,8 +56,11 @@ fn told(text: &str) -> Result<(), String> {
 fn look(options: &Options) -> Result<ExitCode, String> {
     let file = read(&options.file)?;
     let frame = frame(options, &file)?;
-    let over = options.over.as_deref().map(|path| Ok::<_, String>((path, read(path)?))).transpose()?;
-    let over = over.as_ref().map(|(path, file)| Ok::<_, String>((*path, camera(path, file)?))).transpose()?;
+    let before = options.over.as_deref().map(|path| Ok::<_, String>((path, read(path)?))).transpose()?;
+    let over = match &before {
+        Some((path, file)) => Some((path, camera(path, file)?)),
+        None => None,
+    };
     let frames: Vec<&Frame> = over.iter().map(|(_, over)| over).chain([&frame]).collect();
     let mut worker = Worker::of(&frames).map_err(|(width, height)| {
         format!("a frame of {width} by {height} is too large to look at: the limit is {} samples", worker::MOST_SAMPLES)
