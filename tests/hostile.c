@@ -2,11 +2,11 @@
  * can be told without a second decoder: the refusal among 1 to 4, what each answer leaves, that the entries of one decoder and
  * both V0 decoders agree, and that a sample marked 0 is the same over any old samples.
  *
- *     hostile [pages|heap [COUNT[s] [SEED]]]      COUNT rounds, or COUNT seconds
+ *     hostile [pages|heap [COUNT[s] [SEED]]]      COUNT rounds, or COUNT seconds; by itself: pages, 300 rounds
  *
- * With pages (else: 300 rounds) each lent slice touches a page that can't be read or written, at its end or at its start, and
- * what is only read can't be written: a decoder that leaves its slices ends the program. With heap each comes from malloc, and
- * what map and scratch hold at entry is not set, for valgrind. */
+ * With pages each lent slice touches a page that can't be read or written, at its end or at its start, and what is only read
+ * can't be written: a decoder that leaves its slices ends the program. With heap each comes from malloc, and what map and
+ * scratch hold at entry is not set, for valgrind. */
 #define _DEFAULT_SOURCE
 #include "razvolk.h"
 
