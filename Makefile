@@ -1,4 +1,4 @@
-.PHONY: run test refuse compare compare-long bench memcheck fuzz soak picture fmt
+.PHONY: run test refuse compare compare-long bench memcheck fuzz frames picture soak fmt
 
 archive = target/staticlib/librazvolk.a
 cargo_run = cd rust && cargo run --release --offline --locked
@@ -68,7 +68,6 @@ fuzz: $(made)/tests/hostile frames
 	$(made)/tests/hostile pages $(FOR)s $(SEED)
 
 # Frames in a camera's container, to look at and to damage.
-.PHONY: frames
 frames:
 	$(cargo_run) --quiet --example frames -- target/made/frames
 

@@ -232,6 +232,14 @@ mod tests {
     }
 
     #[test]
+    fn a_decoder_can_be_handed_to_a_worker() {
+        let mut decoder = Decoder::with_capacity(3, 1);
+        let worker =
+            std::thread::spawn(move || decoder.decode_v0(&[], &[0], 3, 1, &mut [7; 3]).map(|marks| marks.count()));
+        assert_eq!(worker.join().expect("the worker ends"), Ok(3));
+    }
+
+    #[test]
     fn capacity_stops_at_the_largest_side() {
         assert_eq!(held(&Decoder::with_capacity(usize::MAX, 0)), (0, 0));
         assert_eq!(held(&Decoder::with_capacity(1, usize::MAX)), (16_384, 16_382));
