@@ -1,4 +1,8 @@
-.PHONY: run test refuse compare bench fmt
+.PHONY: run test refuse compare compare-long bench memcheck fuzz frames picture soak fmt
+
+archive = target/staticlib/librazvolk.a
+cargo_run = cd rust && cargo run --release --offline --locked
+made = rust/target/made
 
 # The main job: proves and builds the program, and decodes the example with it.
 run:
@@ -18,11 +22,63 @@ refuse:
 
 # The long comparison with the Rust, ten to twenty minutes.
 compare:
-	cd rust && cargo run --release --offline --locked -p compare -- long
+	$(cargo_run) -p compare -- long
+
+# As many calls as docs/TESTING.md tells: ten million of V0, a hundred thousand streams of V2, pairs of lists. SEED picks others.
+SEED = 1
+compare-long:
+	$(cargo_run) -p compare -- v0 1_250_000 $(SEED)
+	$(cargo_run) -p compare -- lists 20_000 $(SEED)
+	$(cargo_run) -p compare -- v2 100_000 $(SEED)
 
 # Razvolk and the Rust timed in turn on the same frames, two or three minutes.
 bench:
-	cd rust && cargo run --release --offline --locked -p bench
+	$(cargo_run) -p bench
+
+$(archive): crates.txt $(shell find crates -type f)
+	rt staticlib razvolk
+
+$(made)/%: %.c include/razvolk.h $(archive)
+	mkdir -p $(dir $@)
+	$(CC) -O1 -g -std=c99 -Wall -Wextra -pedantic -Werror -Iinclude $< -x none $(archive) -o $@
+
+# The C example and hostile calls under valgrind, which must have nothing to report.
+memcheck: $(made)/examples/decode $(made)/tests/header $(made)/tests/hostile
+	valgrind -q --error-exitcode=9 $(made)/examples/decode > $(made)/decode.txt
+	diff examples/decode.txt $(made)/decode.txt
+	valgrind -q --error-exitcode=9 $(made)/tests/header
+	valgrind -q --error-exitcode=9 $(made)/tests/hostile heap 400 $(SEED)
+
+# FOR seconds of each: the tool's work on a file, led by coverage (clang's libFuzzer), and the C entries on streams that are made
+# and damaged, each slice beside a page that can't be touched.
+FOR = 60
+fuzz_target = x86_64-unknown-linux-gnu
+counters = -Cpasses=sancov-module $(addprefix -Cllvm-args=-sanitizer-coverage-, level=4 inline-8bit-counters pc-table \
+	trace-compares) -Coverflow-checks=yes -Cdebug-assertions=yes
+fuzz: $(made)/tests/hostile frames
+	cd rust && RUSTFLAGS='$(counters)' cargo build --release --offline --locked -p fuzz --target $(fuzz_target) \
+		--target-dir target/fuzz
+	clang -fsanitize=fuzzer rust/target/fuzz/$(fuzz_target)/release/libfuzz.a -lgcc_s -lpthread -ldl -lm -o $(made)/look
+	mkdir -p $(made)/corpus
+	cp $(made)/frames/small*.srw $(made)/corpus/
+	cd $(made) && ./look -max_total_time=$(FOR) -max_len=4096 -rss_limit_mb=1024 -print_final_stats=1 corpus > look.log 2>&1 || \
+		{ tail -40 look.log; exit 1; }
+	grep 'cov:' $(made)/look.log | tail -1
+	grep '^Done\|^stat' $(made)/look.log
+	$(made)/tests/hostile pages $(FOR)s $(SEED)
+
+# Frames in a camera's container, to look at and to damage.
+frames:
+	$(cargo_run) --quiet --example frames -- target/made/frames
+
+# The picture in the README: a frame with upward blocks from row 0 on, decoded over another.
+picture: frames
+	$(cargo_run) --quiet --bin razvolk -- --over target/made/frames/sitting.srw target/made/frames/christening.srw \
+		--png ../docs/marked.png
+
+# Some thousand frames in one process, through one decoder: memory must stay flat.
+soak:
+	$(cargo_run) --quiet --example soak -- 5000
 
 fmt:
 	rt fmt

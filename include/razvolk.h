@@ -37,40 +37,51 @@ typedef struct {
 /* The bytes of scratch that a two-phase frame within the limits needs: one for each block of 16 columns of rows 2 on. */
 #define RAZVOLK_SCRATCH(width, height) ((height) > 2 ? ((size_t)(width) + 15) / 16 * ((size_t)(height) - 2) : (size_t)0)
 
-/* V0, decoded directly. Row r is read from byte offsets[r] of src on; missing bits are ones. A sample that the stream skips
- * keeps what the buffer held, and later samples build on it.
- * Answers: 0, 1, 3. */
+/* V0, decoded directly. Row r is read from byte offsets[r] of src on, wherever that lies; missing bits are ones. A sample that
+ * the stream skips keeps what the buffer held, and later samples build on it.
+ * 0     the first N samples are the frame's
+ * 1, 3  nothing is written */
 razvolk_answer razvolk_decode_v0_reference(const uint8_t *src, size_t src_len, const uint32_t *offsets, size_t offsets_len,
                                            size_t width, size_t height, uint16_t *samples, size_t samples_len);
 
 /* The same samples, and in the first N bytes of the map what each rests on: 1, on what the buffer held; 0, on the stream
  * alone. What the map holds before does not matter.
- * Answers: 0, 1, 3, 4. */
+ * 0        the first N samples and map bytes are the frame's
+ * 1, 3, 4  nothing is written, neither samples nor map */
 razvolk_answer razvolk_decode_v0_reference_map(const uint8_t *src, size_t src_len, const uint32_t *offsets,
                                                size_t offsets_len, size_t width, size_t height, uint16_t *samples,
                                                size_t samples_len, uint8_t *map, size_t map_len);
 
-/* V0 in two phases, residuals and then predictions: the same samples. What the scratch holds before does not matter; done, its
- * first RAZVOLK_SCRATCH(width, height) bytes are the directions of the blocks of rows 2 on, 0 or 1, and the rest is as before.
- * Answers: 0, 1, 3, 4. */
+/* V0 in two phases, residuals and then predictions: the same samples. What the scratch holds before does not matter.
+ * 0        the first N samples are the frame's; the first RAZVOLK_SCRATCH(width, height) bytes of scratch are the directions
+ *          of the blocks of rows 2 on, 0 or 1, and its further bytes are as before
+ * 1, 3, 4  nothing is written, neither samples nor scratch */
 razvolk_answer razvolk_decode_v0(const uint8_t *src, size_t src_len, const uint32_t *offsets, size_t offsets_len,
                                  size_t width, size_t height, uint16_t *samples, size_t samples_len, uint8_t *scratch,
                                  size_t scratch_len);
 
 /* The same with a map.
- * Answers: 0, 1, 3, 4. */
+ * 0        samples and map as of razvolk_decode_v0_reference_map, scratch as of razvolk_decode_v0
+ * 1, 3, 4  nothing is written, neither samples nor map nor scratch */
 razvolk_answer razvolk_decode_v0_map(const uint8_t *src, size_t src_len, const uint32_t *offsets, size_t offsets_len,
                                      size_t width, size_t height, uint16_t *samples, size_t samples_len, uint8_t *map,
                                      size_t map_len, uint8_t *scratch, size_t scratch_len);
 
 /* V2. The last (width modulo 16) samples of a row are not written: they keep what the buffer held, and later rows may build on
  * them.
- * Answers: 0, 1, 2, 3, 5, 6, 7, 8. */
+ * 0        the first N samples are the frame's
+ * 1, 2, 3  nothing is written
+ * 5, 6, 7  the rows before `row` are written, and the blocks of that row that come before the one at fault; the rest of the
+ *          samples are as they were
+ * 8        `row` and the rows before it are written, with ones in place of the missing bits; the rest are as they were */
 razvolk_answer razvolk_decode_v2(const uint8_t *src, size_t src_len, size_t width, size_t height, uint16_t *samples,
                                  size_t samples_len);
 
-/* The same samples, and a map. After 5 to 8 the map tells of the samples as they are left.
- * Answers: 0 to 8. */
+/* The same samples, and a map.
+ * 0           the first N samples and map bytes are the frame's
+ * 1, 2, 3, 4  nothing is written, neither samples nor map
+ * 5, 6, 7, 8  samples as of razvolk_decode_v2; the first N map bytes tell of them as they are left: 1 wherever a sample is as
+ *             it was, or rests on one */
 razvolk_answer razvolk_decode_v2_map(const uint8_t *src, size_t src_len, size_t width, size_t height, uint16_t *samples,
                                      size_t samples_len, uint8_t *map, size_t map_len);
 
@@ -91,10 +102,10 @@ typedef struct {
 
 /* Reads n bits; n above 32 counts as 32. One word is fetched if fewer than n bits are unread, so n = 0 fetches none. Where
  * fewer than 4 bytes remain, the word is FFFFFFFF (hexadecimal) and overrun is set. The position grows by 4 for each word,
- * modulo 2^64, also for a missing one. */
+ * modulo 2^64, also for a missing one. Nothing is refused, and nothing is written: the state comes back by value. */
 razvolk_got razvolk_get(const uint8_t *src, size_t src_len, razvolk_bits state, uint32_t n);
 
-/* Drops the unread bits and goes on at byte position pos. An overrun stays set. */
+/* Drops the unread bits and goes on at byte position pos. An overrun stays set. Nothing is refused. */
 razvolk_bits razvolk_reset_at(razvolk_bits state, uint64_t pos);
 
 #ifdef __cplusplus

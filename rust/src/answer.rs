@@ -21,6 +21,12 @@ impl Answer {
 ///
 /// 1 to 4 are tested in this order and leave every buffer as it was. 5 to 8 are V2's alone: what was decoded before the
 /// refusal stands in the samples, and the map describes them as they are left.
+///
+/// ```
+/// let refused = razvolk::decode_v2(&[], 646, 436, &mut vec![0; 646 * 436]).unwrap_err();
+/// assert_eq!((refused.number, refused.row), (5, 0));
+/// assert_eq!(refused.to_string(), "row 0 predicts from rows that do not exist");
+/// ```
 #[derive(Clone, Copy, Debug, PartialEq, Eq, Hash)]
 pub struct Refusal {
     /// 1 to 8:
@@ -36,6 +42,19 @@ pub struct Refusal {
     pub number: u32,
     /// The row at fault of refusals 5 to 8, else 0.
     pub row: u32,
+}
+
+impl Refusal {
+    /// Whether the stream was begun, so that samples and map may have changed: 5 to 8.
+    ///
+    /// ```
+    /// use razvolk::Refusal;
+    /// assert!(!Refusal { number: 4, row: 0 }.has_begun());
+    /// assert!(Refusal { number: 5, row: 1 }.has_begun());
+    /// ```
+    pub const fn has_begun(self) -> bool {
+        self.number > 4
+    }
 }
 
 impl fmt::Display for Refusal {

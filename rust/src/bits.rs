@@ -59,6 +59,12 @@ unsafe extern "C" {
 ///
 /// One word is fetched if fewer than `n` bits are unread, so `n` = 0 fetches none. Where fewer than 4 bytes remain, the word
 /// is all ones and `overrun` is set. The position grows by 4 for each word, modulo 2^64, also for a missing one.
+///
+/// ```
+/// use razvolk::bits::{Bits, get};
+/// let got = get(&[0, 0, 0, 0xa0], Bits::new(0), 3);
+/// assert_eq!((got.value, got.bits.count), (0b101, 29));
+/// ```
 pub fn get(src: &[u8], state: Bits, n: u32) -> Got {
     // SAFETY: the pointer and the length are those of a slice that is borrowed for the call, which only reads it. It is
     // proved to return on every state, and the bool in what it returns is 0 or 1.
@@ -66,6 +72,12 @@ pub fn get(src: &[u8], state: Bits, n: u32) -> Got {
 }
 
 /// Drops the unread bits and goes on at byte position `pos`. An overrun stays set.
+///
+/// ```
+/// use razvolk::bits::{Bits, reset_at};
+/// let state = Bits { pos: 8, word: 5, count: 3, overrun: true };
+/// assert_eq!(reset_at(state, 16), Bits { pos: 16, word: 0, count: 0, overrun: true });
+/// ```
 pub fn reset_at(state: Bits, pos: u64) -> Bits {
     razvolk_reset_at(state, pos)
 }

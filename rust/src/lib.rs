@@ -1,24 +1,42 @@
-//! Samsung raw decoders, proved in Rattle. These are safe wrappers of the functions that `include/razvolk.h` declares.
+//! Samsung raw decoders, V0 and V2, proved in Rattle, that tell of every sample whether it rests on the stream or on what the
+//! buffer held before.
+//!
+//! A worker that decodes frame after frame into one buffer takes a [`Decoder`], which keeps map and scratch:
 //!
 //! ```
 //! // A frame of 2 by 2. The first block of row 0 predicts from a row that does not exist: its samples are skipped.
 //! let stream = [0x00, 0x00, 0x00, 0x80, 0x18, 0x20, 0xa0, 0x7f, 0x00, 0x00, 0x70, 0x00];
-//! let (mut samples, mut map) = ([7, 8, 9, 10], [0; 4]);
-//! razvolk::decode_v0_reference_map(&stream, &[0, 4], 2, 2, &mut samples, &mut map)?;
+//! let mut samples = [7, 8, 9, 10];
+//! let mut decoder = razvolk::Decoder::new();
+//! let marks = decoder.decode_v0(&stream, &[0, 4], 2, 2, &mut samples)?;
+//! assert_eq!(marks.bytes(), [1, 0, 1, 0], "the first sample of each row is what the buffer held");
 //! assert_eq!(samples, [7, 131, 8, 126]);
-//! assert_eq!(map, [1, 0, 1, 0], "the first sample of each row is what the buffer held");
 //!
-//! let refused = razvolk::decode_v0_reference(&stream, &[0, 4], 16_385, 0, &mut samples);
-//! assert_eq!(refused.unwrap_err().to_string(), "width or height is above 16,384");
+//! let refused = decoder.decode_v0(&stream, &[0, 4], 16_385, 0, &mut samples).unwrap_err();
+//! assert_eq!(refused.to_string(), "width or height is above 16,384");
 //! # Ok::<(), razvolk::Refusal>(())
 //! ```
+//!
+//! The functions lend every buffer by hand; they are what `include/razvolk.h` declares, made safe. [`Ph1Bits`] is the bit
+//! reader. Who comes from `samsung.rs` finds each call in `docs/MIGRATION.md`.
 #![warn(missing_docs)]
 
 mod answer;
 pub mod bits;
+mod decoder;
+mod marks;
+mod ph1bits;
 mod v0;
 mod v2;
 
 pub use answer::Refusal;
+pub use decoder::{Decoder, MAX_SIDE};
+pub use marks::Marks;
+pub use ph1bits::Ph1Bits;
 pub use v0::{decode_v0, decode_v0_map, decode_v0_reference, decode_v0_reference_map, scratch_len};
 pub use v2::{decode_v2, decode_v2_map};
+
+/// The examples of the migration page are run with the others.
+#[cfg(doctest)]
+#[doc = include_str!("../../docs/MIGRATION.md")]
+struct Migration;

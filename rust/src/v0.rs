@@ -65,6 +65,14 @@ unsafe extern "C" {
 /// # Errors
 ///
 /// Refusals 1 and 3, in this order; `out` is unchanged then.
+///
+/// ```
+/// let stream = [0x18, 0x20, 0xa0, 0x7f, 0, 0, 0x70, 0, 0x08, 0, 0xa0, 0xff, 0, 0, 0, 0];
+/// let mut samples = [0; 4];
+/// razvolk::decode_v0_reference(&stream, &[0, 8], 2, 2, &mut samples)?;
+/// assert_eq!(samples, [131, 132, 126, 128]);
+/// # Ok::<(), razvolk::Refusal>(())
+/// ```
 pub fn decode_v0_reference(
     src: &[u8],
     row_offsets: &[u32],
@@ -94,6 +102,15 @@ pub fn decode_v0_reference(
 /// # Errors
 ///
 /// Refusals 1, 3 and 4, in this order; `out` and `map` are unchanged then.
+///
+/// ```
+/// let stream = [0x00, 0x00, 0x00, 0x80, 0x18, 0x20, 0xa0, 0x7f, 0x00, 0x00, 0x70, 0x00];
+/// let (mut samples, mut map) = ([7, 8, 9, 10], [0; 4]);
+/// razvolk::decode_v0_reference_map(&stream, &[0, 4], 2, 2, &mut samples, &mut map)?;
+/// assert_eq!(samples, [7, 131, 8, 126]);
+/// assert_eq!(map, [1, 0, 1, 0]);
+/// # Ok::<(), razvolk::Refusal>(())
+/// ```
 pub fn decode_v0_reference_map(
     src: &[u8],
     row_offsets: &[u32],
@@ -127,6 +144,16 @@ pub fn decode_v0_reference_map(
 /// # Errors
 ///
 /// Refusals 1, 3 and 4, in this order; `out` and `scratch` are unchanged then.
+///
+/// ```
+/// let (width, height) = (3, 4);
+/// let mut samples = vec![7; width * height];
+/// let mut scratch = vec![0; razvolk::scratch_len(width, height)];
+/// // No bytes: every block is upward, and each residual is -1.
+/// razvolk::decode_v0(&[], &[0; 4], width, height, &mut samples, &mut scratch)?;
+/// assert_eq!(scratch, [1, 1]);
+/// # Ok::<(), razvolk::Refusal>(())
+/// ```
 pub fn decode_v0(
     src: &[u8],
     row_offsets: &[u32],
@@ -158,6 +185,15 @@ pub fn decode_v0(
 /// # Errors
 ///
 /// Refusals 1, 3 and 4, in this order; `out`, `map` and `scratch` are unchanged then.
+///
+/// ```
+/// let stream = [0x00, 0x00, 0x00, 0x80, 0x18, 0x20, 0xa0, 0x7f, 0x00, 0x00, 0x70, 0x00];
+/// let (mut samples, mut map) = ([7, 8, 9, 10], [0; 4]);
+/// razvolk::decode_v0_map(&stream, &[0, 4], 2, 2, &mut samples, &mut map, &mut [])?;
+/// assert_eq!(samples, [7, 131, 8, 126]);
+/// assert_eq!(map, [1, 0, 1, 0]);
+/// # Ok::<(), razvolk::Refusal>(())
+/// ```
 pub fn decode_v0_map(
     src: &[u8],
     row_offsets: &[u32],
@@ -189,6 +225,11 @@ pub fn decode_v0_map(
 
 /// How many bytes of scratch [`decode_v0`] needs: one for each block of 16 columns of rows 2 on. (`usize::MAX` where that is
 /// no `usize`; such a size is refused in any case.)
+///
+/// ```
+/// assert_eq!(razvolk::scratch_len(17, 5), 6);
+/// assert_eq!(razvolk::scratch_len(5_546, 2), 0);
+/// ```
 pub const fn scratch_len(width: usize, height: usize) -> usize {
     width.div_ceil(16).saturating_mul(height.saturating_sub(2))
 }

@@ -33,6 +33,13 @@ unsafe extern "C" {
 ///
 /// Refusals 1 to 3, in this order; `out` is unchanged then. Refusals 5 to 8, the first that the stream meets; the blocks
 /// before it are written then.
+///
+/// ```
+/// let mut samples = vec![7; 646 * 436];
+/// let refused = razvolk::decode_v2(&[0; 16], 646, 436, &mut samples).unwrap_err();
+/// assert_eq!(refused.to_string(), "the stream ends in row 0");
+/// assert_eq!([samples[639], samples[640]], [1, 7], "that row is written, but for its last 6 samples");
+/// ```
 pub fn decode_v2(src: &[u8], width: usize, height: usize, out: &mut [u16]) -> Result<(), Refusal> {
     // SAFETY: see above.
     let answer = unsafe { razvolk_decode_v2(src.as_ptr(), src.len(), width, height, out.as_mut_ptr(), out.len()) };
@@ -46,6 +53,13 @@ pub fn decode_v2(src: &[u8], width: usize, height: usize, out: &mut [u16]) -> Re
 /// # Errors
 ///
 /// Refusals 1 to 4, in this order; `out` and `map` are unchanged then. Refusals 5 to 8 as of [`decode_v2`].
+///
+/// ```
+/// let (mut samples, mut map) = (vec![7; 646 * 436], vec![0; 646 * 436]);
+/// let refused = razvolk::decode_v2_map(&[0; 16], 646, 436, &mut samples, &mut map).unwrap_err();
+/// assert!(refused.has_begun());
+/// assert_eq!([map[639], map[640]], [0, 1], "the last 6 samples of the row are what the buffer held");
+/// ```
 pub fn decode_v2_map(src: &[u8], width: usize, height: usize, out: &mut [u16], map: &mut [u8]) -> Result<(), Refusal> {
     // SAFETY: see above.
     let answer = unsafe {

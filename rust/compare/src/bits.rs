@@ -1,10 +1,8 @@
-//! The bit reader: `razvolk::bits` against `Ph1Bits`, step by step. Value, position and overrun are compared after each step;
-//! the unread bits, which `Ph1Bits` keeps to itself, show in the reads that follow. A state with more than 31 of them has no
-//! counterpart there.
+//! The bit reader: Razvolk's `Ph1Bits`, over `razvolk::bits`, against the Rust's, step by step. Value, position and overrun are
+//! compared after each step; the unread bits, which the Rust keeps to itself, show in the reads that follow. A state with more
+//! than 31 of them has no counterpart there.
 
 use crate::random::Random;
-use razvolk::bits::{self, Bits};
-use reference::Ph1Bits;
 use std::fmt;
 
 /// What both readers offer.
@@ -20,57 +18,39 @@ pub type Start = for<'a> fn(&'a [u8], u64) -> Box<dyn Reader + 'a>;
 
 /// Razvolk's reader.
 pub fn razvolk<'a>(src: &'a [u8], pos: u64) -> Box<dyn Reader + 'a> {
-    Box::new(Port { src, state: Bits::new(pos) })
+    Box::new(razvolk::Ph1Bits::new(src, pos as usize))
 }
 
 /// The Rust's reader.
 pub fn reference<'a>(src: &'a [u8], pos: u64) -> Box<dyn Reader + 'a> {
-    Box::new(Ph1Bits::new(src, pos as usize))
+    Box::new(reference::Ph1Bits::new(src, pos as usize))
 }
 
-/// The stream, and the state that goes in and comes back by value.
-struct Port<'a> {
-    src: &'a [u8],
-    state: Bits,
+/// Both have the same calls.
+macro_rules! reads {
+    ($reader:ty) => {
+        impl Reader for $reader {
+            fn get(&mut self, n: u32) -> u32 {
+                <$reader>::get(self, n)
+            }
+
+            fn reset_at(&mut self, pos: u64) {
+                <$reader>::reset_at(self, pos as usize)
+            }
+
+            fn pos(&self) -> u64 {
+                <$reader>::pos(self) as u64
+            }
+
+            fn overrun(&self) -> bool {
+                <$reader>::overrun(self)
+            }
+        }
+    };
 }
 
-impl Reader for Port<'_> {
-    fn get(&mut self, n: u32) -> u32 {
-        let got = bits::get(self.src, self.state, n);
-        self.state = got.bits;
-        got.value
-    }
-
-    fn reset_at(&mut self, pos: u64) {
-        self.state = bits::reset_at(self.state, pos);
-    }
-
-    fn pos(&self) -> u64 {
-        self.state.pos
-    }
-
-    fn overrun(&self) -> bool {
-        self.state.overrun
-    }
-}
-
-impl Reader for Ph1Bits<'_> {
-    fn get(&mut self, n: u32) -> u32 {
-        Ph1Bits::get(self, n)
-    }
-
-    fn reset_at(&mut self, pos: u64) {
-        Ph1Bits::reset_at(self, pos as usize)
-    }
-
-    fn pos(&self) -> u64 {
-        Ph1Bits::pos(self) as u64
-    }
-
-    fn overrun(&self) -> bool {
-        Ph1Bits::overrun(self)
-    }
-}
+reads!(razvolk::Ph1Bits<'_>);
+reads!(reference::Ph1Bits<'_>);
 
 /// A step of both readers.
 #[derive(Clone, Copy, Debug)]

@@ -1,0 +1,424 @@
+/* Calls every decoder with streams that are random, written or damaged, with right and with short buffers, and holds it to what
+ * can be told without a second decoder: the refusal among 1 to 4, what each answer leaves, that the entries of one decoder and
+ * both V0 decoders agree, and that a sample marked 0 is the same over any old samples.
+ *
+ *     hostile [pages|heap [COUNT[s] [SEED]]]      COUNT rounds, or COUNT seconds; by itself: pages, 300 rounds
+ *
+ * With pages each lent slice touches a page that can't be read or written, at its end or at its start, and what is only read
+ * can't be written: a decoder that leaves its slices ends the program. With heap each comes from malloc, and what map and
+ * scratch hold at entry is not set, for valgrind. */
+#define _DEFAULT_SOURCE
+#include "razvolk.h"
+
+#include <stdio.h>
+#include <stdlib.h>
+#include <string.h>
+#include <sys/mman.h>
+#include <time.h>
+#include <unistd.h>
+
+static bool heap = false;
+static unsigned long rounds = 0, calls = 0, numbers[9];
+
+static void fail(const char *what) {
+    printf("hostile: round %lu: %s\n", rounds, what);
+    exit(1);
+}
+
+static void expect(bool holds, const char *what) {
+    if (!holds)
+        fail(what);
+}
+
+/* ---- Random numbers. */
+
+static uint64_t state;
+
+static uint64_t number(void) {
+    state ^= state << 13;
+    state ^= state >> 7;
+    state ^= state << 17;
+    return state * 0x2545f4914f6cdd1dULL >> 16;
+}
+
+static size_t below(size_t n) { return (size_t)(number() % n); }
+
+static void scatter(uint8_t *bytes, size_t len) {
+    for (size_t i = 0; i < len; i++)
+        bytes[i] = (uint8_t)number();
+}
+
+/* ---- Lent slices. */
+
+typedef struct {
+    void *base; /* what is mapped or allocated */
+    size_t size;
+    uint8_t *data;
+    size_t bytes;
+} slice;
+
+static slice lend(size_t bytes) {
+    slice lent = {NULL, 0, NULL, bytes};
+    if (heap) {
+        lent.data = (uint8_t *)malloc(bytes > 0 ? bytes : 1);
+        lent.base = lent.data;
+        expect(lent.base != NULL, "there is memory");
+        return lent;
+    }
+    size_t page = (size_t)sysconf(_SC_PAGESIZE), inner = (bytes + page - 1) / page * page;
+    lent.size = inner + 2 * page;
+    lent.base = mmap(NULL, lent.size, PROT_NONE, MAP_PRIVATE | MAP_ANONYMOUS, -1, 0);
+    expect(lent.base != MAP_FAILED, "there is memory");
+    uint8_t *start = (uint8_t *)lent.base + page;
+    if (inner > 0)
+        expect(mprotect(start, inner, PROT_READ | PROT_WRITE) == 0, "pages can be opened");
+    lent.data = below(4) == 0 ? start : start + inner - bytes;
+    return lent;
+}
+
+/* From here on it is only read. */
+static void close_for_writing(slice lent) {
+    size_t page = (size_t)sysconf(_SC_PAGESIZE);
+    if (!heap && lent.size > 2 * page)
+        expect(mprotect((uint8_t *)lent.base + page, lent.size - 2 * page, PROT_READ) == 0, "pages can be closed");
+}
+
+static void give_back(slice lent) {
+    if (heap)
+        free(lent.base);
+    else
+        munmap(lent.base, lent.size);
+}
+
+static slice copy(const void *bytes, size_t len) {
+    slice lent = lend(len);
+    if (len > 0)
+        memcpy(lent.data, bytes, len);
+    return lent;
+}
+
+/* ---- What is asked for. */
+
+typedef struct {
+    bool v2;
+    slice src, offsets;
+    size_t width, height;
+    size_t samples, map, scratch; /* how many are lent */
+} ask;
+
+static size_t cells(const ask *a) { return a->width * a->height; }
+
+/* The refusal among 1 to 4, or 0. */
+static uint32_t refusal(const ask *a, bool with_map, bool with_scratch) {
+    if (a->width > 16384 || a->height > 16384)
+        return 1;
+    if (a->v2 && (a->height < 436 || a->width < 646))
+        return 2;
+    if (a->samples < cells(a) || (!a->v2 && a->offsets.bytes / 4 < a->height))
+        return 3;
+    if ((with_map && a->map < cells(a)) || (with_scratch && a->scratch < RAZVOLK_SCRATCH(a->width, a->height)))
+        return 4;
+    return 0;
+}
+
+/* Writes bits, the highest first, in words whose lowest byte comes first. */
+static uint8_t written[1 << 20];
+static size_t written_len;
+static uint64_t held;
+static unsigned held_count;
+
+static void put(uint32_t value, unsigned n) {
+    held = held << n | (value & ((1ULL << n) - 1));
+    held_count += n;
+    if (held_count >= 32) {
+        held_count -= 32;
+        uint32_t word = (uint32_t)(held >> held_count);
+        for (int i = 0; i < 4; i++)
+            written[written_len++] = (uint8_t)(word >> 8 * i);
+    }
+}
+
+static void align(void) {
+    while (held_count > 0 || written_len % 16 != 0)
+        put(0, 32 - held_count);
+}
+
+static void write_block(uint32_t options, uint32_t depth, size_t row, size_t col) {
+    if (!(options & 4) && col % 64 == 0) {
+        uint32_t code = (uint32_t)below(4);
+        put(code, 2);
+        if (code == 3)
+            put((uint32_t)below(16), 12);
+    }
+    /* At the start of row 2 a motion may refer to before the frame, which is refusal 6. */
+    bool up = row > 2 || (row == 2 && (col > 0 || below(2) == 0));
+    if (options & 2) {
+        put(up ? (uint32_t)below(2) : 0, 1);
+    } else {
+        put(0, 1);
+        put(up ? (uint32_t)below(8) : 7, 3);
+    }
+    if (!(options & 1)) {
+        bool none = below(2) == 0;
+        put(none, 1);
+        if (none)
+            return;
+    }
+    uint32_t lengths[4];
+    put(0xff, 8); /* flag 3, four times: each length is told */
+    for (int j = 0; j < 4; j++) {
+        lengths[j] = (uint32_t)below(depth + 2 < 16 ? depth + 2 : 16);
+        put(lengths[j], 4);
+    }
+    for (int k = 0; k < 16; k++)
+        put((uint32_t)number(), lengths[k / 4]);
+}
+
+/* A V2 stream that is accepted, or refused by 6. */
+static void write_v2(size_t width, size_t height) {
+    uint32_t options = (uint32_t)below(16), depth = 1 + (uint32_t)below(16);
+    written_len = 0, held = 0, held_count = 0;
+    put(0, 20), put(depth - 1, 4), put(0, 30), put(0, 30), put(options, 4), put(0, 26), put((uint32_t)number(), 14);
+    for (size_t row = 0; row < height; row++) {
+        for (size_t col = 0; col + 15 < width; col += 16)
+            write_block(options, depth, row, col);
+        align();
+    }
+}
+
+static void damage(void) {
+    for (size_t i = below(4); i > 0 && written_len > 0; i--) {
+        size_t at = below(4) == 0 ? below(written_len < 64 ? written_len : 64) : below(written_len);
+        if (below(8) == 0)
+            written_len = at;
+        else
+            written[at] ^= (uint8_t)(1 << below(8));
+    }
+}
+
+static void any_bytes(size_t len) {
+    written_len = len;
+    switch (below(4)) {
+    case 0:
+        memset(written, 0, len);
+        break;
+    case 1:
+        memset(written, 0xff, len);
+        break;
+    default:
+        scatter(written, len);
+    }
+}
+
+static ask any_v0(void) {
+    ask a = {false, {0}, {0}, below(70), below(12), 0, 0, 0};
+    switch (below(40)) {
+    case 0:
+        a.width = 16384, a.height = below(3);
+        break;
+    case 1:
+        a.width = below(3), a.height = 16384;
+        break;
+    case 2:
+        a.width = below(2) == 0 ? 16385 : SIZE_MAX - below(9);
+        break;
+    case 3:
+        a.height = SIZE_MAX - below(2);
+        break;
+    }
+    any_bytes(below(4) == 0 ? 0 : below(4096));
+    damage();
+    a.src = copy(written, written_len);
+    size_t rows = a.height > 16384 ? below(5) : a.height + (below(8) == 0 ? below(3) : 0);
+    if (rows > 0 && below(16) == 0)
+        rows--;
+    a.offsets = lend(4 * rows);
+    for (size_t i = 0; i < rows; i++) {
+        uint32_t at = (uint32_t)(below(8) == 0 ? number() : below(written_len + 9));
+        memcpy(a.offsets.data + 4 * i, &at, 4);
+    }
+    return a;
+}
+
+static ask any_v2(void) {
+    ask a = {true, {0}, {0}, 646 + below(40), 436 + below(4), 0, 0, 0};
+    if (below(8) == 0)
+        any_bytes(below(4096));
+    else
+        write_v2(a.width, a.height);
+    damage();
+    a.src = copy(written, written_len);
+    a.offsets = lend(0);
+    switch (below(24)) {
+    case 0:
+        a.width = 645;
+        break;
+    case 1:
+        a.height = 435;
+        break;
+    case 2:
+        a.width = 16385;
+        break;
+    }
+    return a;
+}
+
+/* How long the buffers are: mostly long enough. */
+static void any_lengths(ask *a) {
+    bool large = a->width > 16384 || a->height > 16384;
+    size_t n = large ? below(50) : cells(a), scratch = large ? below(50) : RAZVOLK_SCRATCH(a->width, a->height);
+    size_t *each[3] = {&a->samples, &a->map, &a->scratch};
+    a->samples = n, a->map = n, a->scratch = scratch;
+    for (int i = 0; i < 3; i++) {
+        if (below(3) == 0)
+            *each[i] += below(40);
+        else if (*each[i] > 0 && below(24) == 0)
+            *each[i] -= 1 + below(*each[i]);
+    }
+}
+
+/* ---- A call. */
+
+typedef struct {
+    razvolk_answer answer;
+    slice samples, map, scratch;
+} outcome;
+
+/* The entry by number: direct, direct with a map, two-phase, two-phase with a map; V2, V2 with a map. */
+static razvolk_answer call(const ask *a, int entry, outcome *out) {
+    const uint8_t *src = a->src.data;
+    const uint32_t *offsets = (const uint32_t *)(const void *)a->offsets.data;
+    uint16_t *samples = (uint16_t *)(void *)out->samples.data;
+    size_t n = a->src.bytes, rows = a->offsets.bytes / 4, w = a->width, h = a->height;
+    uint8_t *map = out->map.data, *scratch = out->scratch.data;
+    switch (a->v2 ? 4 + entry : entry) {
+    case 0:
+        return razvolk_decode_v0_reference(src, n, offsets, rows, w, h, samples, a->samples);
+    case 1:
+        return razvolk_decode_v0_reference_map(src, n, offsets, rows, w, h, samples, a->samples, map, a->map);
+    case 2:
+        return razvolk_decode_v0(src, n, offsets, rows, w, h, samples, a->samples, scratch, a->scratch);
+    case 3:
+        return razvolk_decode_v0_map(src, n, offsets, rows, w, h, samples, a->samples, map, a->map, scratch, a->scratch);
+    case 4:
+        return razvolk_decode_v2(src, n, w, h, samples, a->samples);
+    default:
+        return razvolk_decode_v2_map(src, n, w, h, samples, a->samples, map, a->map);
+    }
+}
+
+/* Bytes of which those from `from` on must stay 9, and those before it must have become 0 or 1. */
+static void filled(slice lent, size_t from) { memset(lent.data + from, 9, lent.bytes - from); }
+
+static void check_bytes(slice lent, size_t from, const char *what) {
+    for (size_t i = 0; i < lent.bytes; i++)
+        expect(i < from ? lent.data[i] <= 1 : lent.data[i] == 9, what);
+}
+
+/* Calls an entry over old samples, and checks what it answers and leaves. */
+static outcome run(const ask *a, int entry, const uint8_t *old) {
+    bool with_map = entry % 2 == 1, with_scratch = !a->v2 && entry >= 2;
+    uint32_t refused = refusal(a, with_map, with_scratch);
+    size_t n = refused == 0 ? cells(a) : 0, directions = RAZVOLK_SCRATCH(a->width, a->height);
+    size_t marks = refused == 0 && with_map ? n : 0, scratched = refused == 0 && with_scratch ? directions : 0;
+    outcome out = {{0, 0}, copy(old, 2 * a->samples), lend(a->map), lend(a->scratch)};
+    /* With valgrind, what a decoder must set is not set before; a refusal must not read it, either. */
+    filled(out.map, heap ? marks : 0);
+    filled(out.scratch, heap ? scratched : 0);
+    out.answer = call(a, entry, &out);
+    calls++;
+    expect(out.answer.number <= 8, "the answer is 0 to 8");
+    numbers[out.answer.number]++;
+    if (refused > 0 || !a->v2)
+        expect(out.answer.number == refused && out.answer.row == 0, "the refusal among 1 to 4");
+    else
+        expect(out.answer.number == 0 ? out.answer.row == 0 : out.answer.number > 4 && out.answer.row < a->height,
+               "V2 answers 0 or 5 to 8, with a row of the frame");
+    if (out.answer.number == 5)
+        expect(out.answer.row < 2, "5 comes in row 0 or 1");
+    expect(memcmp(out.samples.data + 2 * n, old + 2 * n, 2 * (a->samples - n)) == 0, "samples past the frame stay");
+    check_bytes(out.map, marks, "the map is 0 and 1 within the frame, and stays past it");
+    check_bytes(out.scratch, scratched, "the scratch is 0 and 1 where it is used, and stays past it");
+    return out;
+}
+
+static void end(outcome out) {
+    give_back(out.samples);
+    give_back(out.map);
+    give_back(out.scratch);
+}
+
+/* All entries over the same old samples, and one with a map over others. */
+static void play(const ask *a) {
+    int entries = a->v2 ? 2 : 4;
+    slice old = lend(2 * a->samples), other = lend(2 * a->samples);
+    scatter(old.data, old.bytes);
+    scatter(other.data, other.bytes);
+    outcome first = run(a, 1, old.data);
+    bool begun = first.answer.number == 0 || first.answer.number > 4;
+    for (int entry = 0; entry < entries; entry++) {
+        outcome next = run(a, entry, old.data);
+        if (begun && (next.answer.number == 0 || next.answer.number > 4)) {
+            expect(next.answer.number == first.answer.number && next.answer.row == first.answer.row, "answers agree");
+            expect(memcmp(next.samples.data, first.samples.data, first.samples.bytes) == 0, "samples agree");
+            if (entry % 2 == 1)
+                expect(memcmp(next.map.data, first.map.data, first.map.bytes) == 0, "maps agree");
+        }
+        end(next);
+    }
+    if (begun) {
+        outcome over = run(a, 1, other.data);
+        expect(over.answer.number == first.answer.number && over.answer.row == first.answer.row, "answers over others");
+        for (size_t i = 0; i < cells(a); i++) {
+            expect(over.map.data[i] == first.map.data[i], "maps over others");
+            expect(over.map.data[i] == 1 || memcmp(over.samples.data + 2 * i, first.samples.data + 2 * i, 2) == 0,
+                   "a sample marked 0 is the same over other old samples");
+        }
+        end(over);
+    }
+    end(first);
+    give_back(old);
+    give_back(other);
+}
+
+/* The reader, in any state. */
+static void play_reader(void) {
+    any_bytes(below(40));
+    slice src = copy(written, written_len);
+    close_for_writing(src);
+    razvolk_bits bits = {below(2) == 0 ? below(50) : number(), (uint32_t)number(), (uint32_t)below(70), below(2) == 0};
+    for (int i = 0; i < 20; i++) {
+        razvolk_got got = razvolk_get(src.data, src.bytes, bits, (uint32_t)below(40));
+        expect(got.bits.count < 32 && got.bits.overrun >= bits.overrun, "at most 31 bits are unread; an overrun stays");
+        expect(got.bits.pos == bits.pos || got.bits.pos == bits.pos + 4, "at most one word is fetched");
+        bits = below(6) == 0 ? razvolk_reset_at(got.bits, below(50)) : got.bits;
+        calls++;
+    }
+    give_back(src);
+}
+
+int main(int argc, char **argv) {
+    const char *count = argc > 2 ? argv[2] : "300";
+    heap = argc > 1 && strcmp(argv[1], "heap") == 0;
+    unsigned long most = strtoul(count, NULL, 10);
+    bool seconds = strchr(count, 's') != NULL;
+    state = argc > 3 ? strtoul(argv[3], NULL, 10) : 1;
+    state = state * 0x9e3779b97f4a7c15ULL + 0x5eed;
+    time_t began = time(NULL);
+    while (seconds ? (unsigned long)(time(NULL) - began) < most : rounds < most) {
+        ask a = rounds % 8 == 7 ? any_v2() : any_v0();
+        any_lengths(&a);
+        close_for_writing(a.src);
+        close_for_writing(a.offsets);
+        play(&a);
+        play_reader();
+        give_back(a.src);
+        give_back(a.offsets);
+        rounds++;
+    }
+    printf("hostile: %s, %lu rounds, %lu calls, answers 0 to 8:", heap ? "heap" : "pages", rounds, calls);
+    for (int i = 0; i < 9; i++)
+        printf(" %lu", numbers[i]);
+    printf("\nhostile: ok\n");
+    return 0;
+}
