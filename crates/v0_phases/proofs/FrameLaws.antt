@@ -1,16 +1,15 @@
 -- A whole frame: the steps one after another are the two-phase decoder.
 use mathlib.Core.Path.{_≡_, sym, ap, _∙_}
-use mathlib.Core.Logic.{_⊎_}
 use mathlib.Core.List.{List, _++_}
 use Prim.Native.Nat.{ℕ, _-_, min}
 use lib.ListN.{length, drop}
 use Rattle.rules.specs.Answer.{scratch-bytes}
-use Rattle.rules.specs.Frame.{cells}
 use Rattle.rules.specs.V0.{Kind, apply, rows, exchange, sample-kind}
 use Rattle.rules.specs.Phases.{Stage, sample-stage, phase-one, phase-two, scratch, first-rows, two-phase}
 use Rattle.rules.specs.Map.{v0-marks, mark-stage}
 use Rattle.rules.specs.declared.answer.Size.{Size}
 use Rattle.rules.proofs.TwoPhase.{scratch-length}
+use Rattle.v0.specs.Limits.{Lends, Framed, MapFramed}
 use Rattle.v0_phases.specs.Marks.{two-phase-marks}
 use Rattle.v0_phases.proofs.PredictionLaws.{directions-read}
 
@@ -53,6 +52,10 @@ module _ (s offsets : List ℕ) (z : Size) where
       → ds ≡ scratch s offsets z ++ drop (length (scratch s offsets z)) ds₀
   directions-done ds₀ ds e = e ∙ ap (λ n. scratch s offsets z ++ drop n ds₀) (sym (scratch-length s offsets z))
 
--- A map keeps its length, and so stays lent or not.
-pub whole-kept : (z : Size) {m n : ℕ} → n ≡ m → (m ≡ cells z) ⊎ (m ≡ 0) → (n ≡ cells z) ⊎ (n ≡ 0)
-whole-kept z e w = rw e w
+-- No step changes a length, so that each finds samples and map as the call lent them.
+module _ {z : Size} {offsets out map g : List ℕ} (l : Lends z offsets out map) where
+  pub samples-framed : length g ≡ length out → Framed z g
+  samples-framed e = record { width = l .width; height = l .height; lent = e ∙ l .samples-lent }
+
+  pub marks-framed : length g ≡ length map → MapFramed z g
+  marks-framed e = record { width = l .width; height = l .height; lent = rw e (l .map-lent) }

@@ -3,7 +3,6 @@
 use mathlib.Core.Path.{_≡_, refl, sym, _∙_}
 use mathlib.Core.Bool.{Bool, true, false, cond, not}
 use mathlib.Core.List.{List, [], _∷_, _++_}
-use mathlib.Core.Logic.{⊎-elim}
 use Prim.Native.Nat.{ℕ, zero, suc, _+_, _-_, _*_, _%_, _≤_, _<_}
 use native.Mathlib.Omega.{arith}
 use native.Mathlib.Nat.{mul-le-mul-right}
@@ -18,6 +17,7 @@ use Rattle.rules.specs.declared.v0.Predictor.{Predictor}
 use Rattle.rules.specs.declared.v0.Predictor.the-variants.{Constant, Sample}
 use Rattle.rules.specs.declared.answer.Size.{Size}
 use Rattle.rules.proofs.V0Cells.{phase-two-length}
+use Rattle.v0.proofs.ExchangeLaws.{map-framed}
 use Rattle.v0_phases.specs.Lent.{LateRow, PhaseLent, MapLent}
 
 -- ── The predictor ──
@@ -188,13 +188,7 @@ none-lent g w n row ds f e = no-cells f (phase-two g w n row ds f) e (phase-two-
 
 -- .. and one that is lent has a byte for each sample.
 pub map-whole : {z : Size} {map dirs : List ℕ} → MapLent z map dirs → (length map ≡ 0 → ⊥) → PhaseLent z map dirs
-map-whole m lent =
-    record {
-      width = m .width;
-      height = m .height;
-      cells-lent = ⊎-elim (λ e. e) (λ e. absurd (lent e)) (m .map-lent);
-      directions-lent = m .directions-lent;
-    }
+map-whole m lent = record { frame = map-framed _ _ (m .frame) lent; directions-lent = m .directions-lent }
 
 -- ── The directions that are read ──
 

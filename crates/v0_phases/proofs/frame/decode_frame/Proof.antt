@@ -2,7 +2,7 @@
 use mathlib.Core.Path.{_∙_}
 use native.Mathlib.Omega.{arith}
 use borrow.Author.Needs.{needs}
-use Rattle.v0_phases.proofs.FrameLaws.{whole-kept, samples-done, marks-done, directions-done}
+use Rattle.v0_phases.proofs.FrameLaws.{samples-framed, marks-framed, samples-done, marks-done, directions-done}
 use Rattle.v0_phases.proofs.frame.decode_frame.Statement.{statement}
 use Rattle.v0_phases.proofs.frame.decode_frame.Tie as tie
 
@@ -12,40 +12,20 @@ store-rows-requires c κs = search needs
 add-rows-requires : tie.Need-add-rows-requires
 add-rows-requires c κs =
     let p = c .before .before .before .before .before .before .before .before .before .before .before .before .before .before .before .before .before .pre in
-    record {
-      width = p .frame .width;
-      height = p .frame .height;
-      cells-lent = c .before .before .before .before .before .before .before .before .store-rows .kept .1 .1 .1 .0 ∙ p .frame .samples-lent;
-      directions-lent = omega (arith, c .before .before .before .before .before .before .before .before .store-rows .kept .1 .1 .1 .1 .1 .0, p .directions-lent);
-    }
+    let kept = c .before .before .before .before .before .before .before .before .store-rows .kept in
+    record { frame = samples-framed (p .frame) (kept .1 .1 .1 .0); directions-lent = omega (arith, kept .1 .1 .1 .1 .1 .0, p .directions-lent) }
 
 mark-lent-requires : tie.Need-mark-lent-requires
 mark-lent-requires c κs =
     let p = c .before .before .before .before .before .before .before .before .before .before .before .before .before .before .before .before .before .before .before .before .before .before .pre in
-    record {
-      width = p .frame .width;
-      height = p .frame .height;
-      map-lent = whole-kept (c .before .before .before .before .before .before .before .before .before .before .before .before .before .before .before .before .before .before .before .before .before .before .args .size) (c .before .before .before .before .before .before .before .before .before .before .before .before .before .store-rows .kept .1 .1 .1 .1 .0) (p .frame .map-lent);
-      directions-lent = omega (arith, c .before .before .before .before .before .before .before .before .before .before .before .before .before .store-rows .kept .1 .1 .1 .1 .1 .0, p .directions-lent);
-    }
+    let kept = c .before .before .before .before .before .before .before .before .before .before .before .before .before .store-rows .kept in
+    record { frame = marks-framed (p .frame) (kept .1 .1 .1 .1 .0); directions-lent = omega (arith, kept .1 .1 .1 .1 .1 .0, p .directions-lent) }
 
 exchange-requires : tie.Need-exchange-requires
-exchange-requires c κs =
-    let p = c .before .before .before .before .before .before .before .before .before .before .before .before .before .before .before .before .before .before .before .before .before .before .before .before .before .before .pre in
-    record {
-      width = p .frame .width;
-      height = p .frame .height;
-      lent = c .before .before .before .before .before .before .before .before .add-rows .kept .0 ∙ c .before .before .before .before .before .before .before .before .before .before .before .before .before .before .before .before .before .store-rows .kept .1 .1 .1 .0 ∙ p .frame .samples-lent;
-    }
+exchange-requires c κs = samples-framed (c .before .before .before .before .before .before .before .before .before .before .before .before .before .before .before .before .before .before .before .before .before .before .before .before .before .before .pre .frame) (c .before .before .before .before .before .before .before .before .add-rows .kept .0 ∙ c .before .before .before .before .before .before .before .before .before .before .before .before .before .before .before .before .before .store-rows .kept .1 .1 .1 .0)
 
 exchange-marks-requires : tie.Need-exchange-marks-requires
-exchange-marks-requires c κs =
-    let p = c .before .before .before .before .before .before .before .before .before .before .before .before .before .before .before .before .before .before .before .before .before .before .before .before .before .before .before .before .before .before .pre in
-    record {
-      width = p .frame .width;
-      height = p .frame .height;
-      lent = whole-kept (c .before .before .before .before .before .before .before .before .before .before .before .before .before .before .before .before .before .before .before .before .before .before .before .before .before .before .before .before .before .before .args .size) (c .before .before .before .before .before .before .before .mark-lent .kept .0 ∙ c .before .before .before .before .before .before .before .before .before .before .before .before .before .before .before .before .before .before .before .before .before .store-rows .kept .1 .1 .1 .1 .0) (p .frame .map-lent);
-    }
+exchange-marks-requires c κs = marks-framed (c .before .before .before .before .before .before .before .before .before .before .before .before .before .before .before .before .before .before .before .before .before .before .before .before .before .before .before .before .before .before .pre .frame) (c .before .before .before .before .before .before .before .mark-lent .kept .0 ∙ c .before .before .before .before .before .before .before .before .before .before .before .before .before .before .before .before .before .before .before .before .before .store-rows .kept .1 .1 .1 .1 .0)
 
 same-length : tie.Need-same-length
 same-length c = search needs

@@ -5,7 +5,7 @@ use borrow.Author.Needs.{needs}
 use Rattle.rules.specs.V0.{sample-kind}
 use Rattle.rules.specs.Map.{v0-marks}
 use Rattle.rules.specs.Phases.{phase-one}
-use Rattle.v0_phases.proofs.FrameLaws.{rows-first}
+use Rattle.v0_phases.proofs.FrameLaws.{samples-framed, rows-first}
 use Rattle.v0_phases.proofs.frame.store_rows.Statement.{statement}
 use Rattle.v0_phases.proofs.frame.store_rows.Tie as tie
 
@@ -17,15 +17,8 @@ decode-rows-requires c κs = (c .before .before .before .before .before .before 
 
 parse-rows-requires : tie.Need-parse-rows-requires
 parse-rows-requires c κs =
-    let p = c .before .before .before .before .before .before .before .before .before .before .before .before .before .before .before .pre in (
-      record {
-        width = p .frame .width;
-        height = p .frame .height;
-        cells-lent = c .before .before .before .before .before .before .decode-rows .kept .1 .1 .1 .1 .0 ∙ p .frame .samples-lent;
-        directions-lent = p .directions-lent;
-      },
-      p .frame .offsets-enough,
-    )
+    let p = c .before .before .before .before .before .before .before .before .before .before .before .before .before .before .before .pre in
+    (record { frame = samples-framed (p .frame) (c .before .before .before .before .before .before .decode-rows .kept .1 .1 .1 .1 .0); directions-lent = p .directions-lent }, p .frame .offsets-enough)
 
 same-length : tie.Need-same-length
 same-length c = search needs
