@@ -110,7 +110,7 @@ unfolding block-records
 block-records-length s zero st = refl
 block-records-length s (suc n) st = ap suc (block-records-length s n _)
 
-row-directions-length : (s : List ℕ) (w row offset : ℕ) → length (map direction (row-records s w row offset)) ≡ blocks-in w
+pub row-directions-length : (s : List ℕ) (w row offset : ℕ) → length (map direction (row-records s w row offset)) ≡ blocks-in w
 unfolding row-records
 row-directions-length s w row offset = length-map (block-records s (blocks-in w) (fresh-row row offset)) direction ∙ block-records-length s (blocks-in w) _
 

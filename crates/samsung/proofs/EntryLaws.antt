@@ -14,7 +14,7 @@ use Rattle.rules.specs.declared.answer.Size.{Size}
 use Rattle.rules.specs.Frame.{cells}
 use Rattle.rules.specs.Answer.{Ask, Lent, too-large, scratch-bytes, first-of, refusal, answer, stream-answer, frame-samples, marks, frame-scratch, unless-refused, samples-after, map-after, scratch-after}
 use Rattle.samsung.specs.declared.refusals.Lending.{Lending}
-use Rattle.samsung.specs.declared.refusals.Lending.the-variants.{Bytes}
+use Rattle.samsung.specs.declared.refusals.Lending.the-variants.{Length}
 use Rattle.samsung.specs.Lending.{short}
 use Rattle.rules.proofs.Tests.{neither}
 use Rattle.rules.proofs.Refusals.{answer-refused, answer-passed, samples-kept, map-kept, scratch-kept}
@@ -29,11 +29,11 @@ unfolding too-large
 size-most z e = let q = neither _ _ e in (ltb-false _ _ (q .0), ltb-false _ _ (q .1))
 
 -- What a call that is not refused may count on.
-pub record Room (z : Size) (samples : ℕ) (short-offsets : Bool) (map scratch : Lending) : Type 0 where
+pub record Room (z : Size) (samples : ℕ) (offsets map scratch : Lending) : Type 0 where
   pub wide : z .width ≤ 16_384
   pub high : z .height ≤ 16_384
   pub samples-enough : cells z ≤ samples
-  pub offsets-enough : short-offsets ≡ false
+  pub offsets-enough : short offsets (z .height) ≡ false
   pub map-enough : short map (cells z) ≡ false
   pub scratch-enough : short scratch (scratch-bytes z) ≡ false
 
@@ -45,10 +45,10 @@ first-zero false false true t4 e = absurd (omega arith)
 first-zero false false false true e = absurd (omega arith)
 first-zero false false false false e = (refl, (refl, refl))
 
-pub room : (z : Size) (small : Bool) (samples : ℕ) (short-offsets : Bool) (map scratch : Lending) (k : ℕ)
-    → k ≡ first-of (too-large z) small (ltb samples (cells z) || short-offsets) (short map (cells z) || short scratch (scratch-bytes z))
-    → k ≡ 0 → Room z samples short-offsets map scratch
-room z small samples short-offsets map scratch k e q =
+pub room : (z : Size) (small : Bool) (samples : ℕ) (offsets map scratch : Lending) (k : ℕ)
+    → k ≡ first-of (too-large z) small (ltb samples (cells z) || short offsets (z .height)) (short map (cells z) || short scratch (scratch-bytes z))
+    → k ≡ 0 → Room z samples offsets map scratch
+room z small samples offsets map scratch k e q =
     let f = first-zero _ _ _ _ (sym e ∙ q) in
     let s = neither _ _ (f .1 .0) in
     let l = neither _ _ (f .1 .1) in
@@ -66,10 +66,10 @@ room z small samples short-offsets map scratch k e q =
 pub small-as : (t1 t2 u t3 t4 : Bool) (k : ℕ) → k ≡ first-of t1 t2 t3 t4 → t2 ≡ u → first-of t1 u t3 t4 ≡ k
 small-as t1 t2 u t3 t4 k e f = sym (e ∙ ap (λ t. first-of t1 t t3 t4) f)
 
--- A buffer that is lent and not short has bytes enough.
-pub bytes-enough : (m n : ℕ) → short (Bytes m) n ≡ false → n ≤ m
+-- A buffer that is lent and not short is long enough.
+pub long-enough : (m n : ℕ) → short (Length m) n ≡ false → n ≤ m
 unfolding short
-bytes-enough m n e = ltb-false m n e
+long-enough m n e = ltb-false m n e
 
 -- A frame of one row or none has no late rows; and the scratch's bytes fit.
 pub no-late-rows : (n h : ℕ) → h < 2 → 0 ≡ n * (h - 2)

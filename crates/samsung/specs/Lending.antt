@@ -3,9 +3,9 @@ use Prim.Native.Nat.{ℕ}
 use mathlib.Core.Bool.{Bool, false}
 use lib.Dec.{ltb}
 use Rattle.samsung.specs.declared.refusals.Lending.{Lending}
-use Rattle.samsung.specs.declared.refusals.Lending.the-variants.{Nothing, Bytes}
+use Rattle.samsung.specs.declared.refusals.Lending.the-variants.{Nothing, Length}
 
--- Whether it is lent and has fewer bytes than needed.
+-- Whether it is lent and less than needed.
 unfoldable pub short : Lending → ℕ → Bool
 short Nothing n = false
-short (Bytes m) n = ltb m n
+short (Length m) n = ltb m n

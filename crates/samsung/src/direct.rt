@@ -31,7 +31,7 @@ pub fn decode_v0_reference(
         size,
         false,
         out.len(),
-        offsets.len() < height,
+        Lending::Length(offsets.len()),
         Lending::Nothing,
         Lending::Nothing,
     );
@@ -72,8 +72,8 @@ pub fn decode_v0_reference_map(
         size,
         false,
         out.len(),
-        offsets.len() < height,
-        Lending::Bytes(map.len()),
+        Lending::Length(offsets.len()),
+        Lending::Length(map.len()),
         Lending::Nothing,
     );
     if refusal != 0 {

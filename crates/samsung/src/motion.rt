@@ -27,7 +27,7 @@ pub fn decode_v2(src: &[u8], width: usize, height: usize, out: &mut [u16]) -> An
         size,
         is_too_small(size),
         out.len(),
-        false,
+        Lending::Nothing,
         Lending::Nothing,
         Lending::Nothing,
     );
@@ -67,8 +67,8 @@ pub fn decode_v2_map(
         size,
         is_too_small(size),
         out.len(),
-        false,
-        Lending::Bytes(map.len()),
+        Lending::Nothing,
+        Lending::Length(map.len()),
         Lending::Nothing,
     );
     if refusal != 0 {

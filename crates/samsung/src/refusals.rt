@@ -12,10 +12,10 @@ use rules::Size;
 use rules::V0Row;
 use rules::V2Hdr;
 
-// What is lent of a buffer that some calls do without: nothing, or so many bytes.
+// What is lent of a buffer that some calls do without: nothing, or so many elements.
 pub enum Lending {
     Nothing,
-    Bytes(usize),
+    Length(usize),
 }
 
 // A refusal of 1 to 4: its row is 0.
@@ -39,13 +39,13 @@ pub fn is_too_small(size: Size) -> bool
     size.height < V2Hdr::LEAST_HEIGHT || size.width < V2Hdr::LEAST_WIDTH
 }
 
-// 4: a buffer that is lent has fewer bytes than the frame needs.
+// 3 of the offsets, 4 of map and scratch: what is lent is less than the frame needs.
 fn is_short(lent: Lending, needed: usize) -> bool
     ensures { λ r. ⌜ r ≡ short lent needed ⌝ }
 {
     match lent {
         Lending::Nothing => false,
-        Lending::Bytes(n) => n < needed,
+        Lending::Length(n) => n < needed,
     }
 }
 
@@ -65,11 +65,11 @@ pub fn refuse(
     size: Size,
     small: bool,
     samples: usize,
-    short_offsets: bool,
+    offsets: Lending,
     map: Lending,
     scratch: Lending,
 ) -> u32
-    ensures { λ r. ⌜ r ≡ first-of (too-large size) small (ltb samples (cells size) || «short_offsets») (short map (cells size) || short scratch (scratch-bytes size)) ⌝ }
+    ensures { λ r. ⌜ r ≡ first-of (too-large size) small (ltb samples (cells size) || short offsets (size .height)) (short map (cells size) || short scratch (scratch-bytes size)) ⌝ }
 {
     if is_too_large(size) {
         return Answer::TOO_LARGE;
@@ -81,7 +81,7 @@ pub fn refuse(
     if samples < n {
         return Answer::SHORT_SAMPLES;
     }
-    if short_offsets {
+    if is_short(offsets, size.height) {
         return Answer::SHORT_SAMPLES;
     }
     if is_short(map, n) {

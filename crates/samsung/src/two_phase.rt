@@ -34,9 +34,9 @@ pub fn decode_v0(
         size,
         false,
         out.len(),
-        offsets.len() < height,
+        Lending::Length(offsets.len()),
         Lending::Nothing,
-        Lending::Bytes(scratch.len()),
+        Lending::Length(scratch.len()),
     );
     if refusal != 0 {
         return refused(refusal);
@@ -85,9 +85,9 @@ pub fn decode_v0_map(
         size,
         false,
         out.len(),
-        offsets.len() < height,
-        Lending::Bytes(map.len()),
-        Lending::Bytes(scratch.len()),
+        Lending::Length(offsets.len()),
+        Lending::Length(map.len()),
+        Lending::Length(scratch.len()),
     );
     if refusal != 0 {
         return refused(refusal);

@@ -24,6 +24,7 @@ use Rattle.v0.specs.Limits.{Inside}
 use Rattle.v0.specs.Block.{inner-ops}
 use Rattle.v0.proofs.CellLaws.{product}
 use Rattle.v0.proofs.InnerLaws.{late-source}
+use Rattle.v0.proofs.ExchangeLaws.{map-framed}
 use Rattle.v0_phases.specs.Lent.{LateRow, PhaseLent, MapLent}
 
 -- ── The predictor ──
@@ -200,13 +201,7 @@ none-lent g w n row ds f e = no-cells f (phase-two g w n row ds f) e (phase-two-
 
 -- .. and one that is lent has a byte for each sample.
 pub map-whole : {z : Size} {map dirs : List ℕ} → MapLent z map dirs → (length map ≡ 0 → ⊥) → PhaseLent z map dirs
-map-whole m lent =
-    record {
-      width = m .width;
-      height = m .height;
-      cells-lent = ⊎-elim (λ e. e) (λ e. absurd (lent e)) (m .map-lent);
-      directions-lent = m .directions-lent;
-    }
+map-whole m lent = record { frame = map-framed _ _ (m .frame) lent; directions-lent = m .directions-lent }
 
 -- ── The directions that are read ──
 

@@ -3,7 +3,7 @@
 use mathlib.Core.Path.{_≡_, refl, sym, ap, _∙_}
 use mathlib.Core.Bool.{Bool, true, false, cond}
 use mathlib.Core.List.{List, [], _∷_, _++_, map, append-assoc, append-nil}
-use Prim.Native.Nat.{ℕ, zero, suc, _+_, _-_, _*_, _≤_, _<_}
+use Prim.Native.Nat.{ℕ, suc, _+_, _-_, _*_, _≤_, _<_}
 use native.Mathlib.Omega.{arith}
 use native.Mathlib.Nat.{mul-comm, mul-le-mul-right}
 use lib.Dec.{ltb}
@@ -12,8 +12,8 @@ use lib.Seq.{take-all, take-set-le, drop-set-add, length-take-le, take-at, drop-
 use borrow.Author.Tests.{le-ltb}
 use borrow.Rule.Slice.PartMut.{midOf, putMid}
 use Rattle.rules.specs.V0.{order, blocks-in, fresh-row}
-use Rattle.rules.specs.Phases.{BlockRecord, block-records, row-records, store-samples, store-blocks, phase-one, direction, directions, scratch}
-use Rattle.rules.specs.declared.v0.V0Row.{V0Row}
+use Rattle.rules.specs.Phases.{BlockRecord, row-records, store-samples, store-blocks, phase-one, direction, directions, scratch}
+use Rattle.rules.proofs.TwoPhase.{row-directions-length}
 
 -- ── Room ──
 
@@ -83,15 +83,6 @@ tail-back a xs ys = rw (drop-of-length-le (drop a xs) {i = length xs - a} (omega
 late-records : (s : List ℕ) (w row offset : ℕ) → 2 ≤ row → row-records s w 2 offset ≡ row-records s w row offset
 unfolding row-records fresh-row
 late-records s w row offset h = rw (le-ltb row 2 h)
-
-records-length : (s : List ℕ) (n : ℕ) (st : V0Row) → length (map direction (block-records s n st)) ≡ n
-unfolding block-records
-records-length s zero st = refl
-records-length s (suc n) st = ap suc (records-length s n _)
-
-row-directions-length : (s : List ℕ) (w row offset : ℕ) → length (map direction (row-records s w row offset)) ≡ blocks-in w
-unfolding row-records
-row-directions-length s w row offset = records-length s (blocks-in w) (fresh-row row offset)
 
 module _ (s offsets : List ℕ) (w h : ℕ) where
   abbrev n : ℕ

@@ -1,10 +1,8 @@
 -- What the decoder and its two phases are lent.
 use Prim.Native.Nat.{ℕ, _+_, _*_, _≤_, _<_}
-use mathlib.Core.Path.{_≡_}
 use mathlib.Core.List.{List}
 use lib.ListN.{length}
 use Rattle.rules.specs.Answer.{scratch-bytes}
-use Rattle.rules.specs.Frame.{cells}
 use Rattle.rules.specs.V0.{blocks-in}
 use Rattle.rules.specs.declared.answer.Size.{Size}
 use Rattle.v0.specs.Limits as Limits
@@ -17,16 +15,12 @@ pub record RowLent (w : ℕ) (out dirs : List ℕ) : Type 0 where
 
 -- What a phase is lent: a frame's cells, and a direction byte for each block from row 2 on.
 pub record PhaseLent (z : Size) (f dirs : List ℕ) : Type 0 where
-  pub width : z .width ≤ 16_384
-  pub height : z .height ≤ 16_384
-  pub cells-lent : length f ≡ cells z
+  pub frame : Limits.Framed z f
   pub directions-lent : scratch-bytes z ≤ length dirs
 
 -- The same for the marks, of a map that is lent whole or not at all.
 pub record MapLent (z : Size) (map dirs : List ℕ) : Type 0 where
-  pub width : z .width ≤ 16_384
-  pub height : z .height ≤ 16_384
-  pub map-lent : Limits.Whole z map
+  pub frame : Limits.MapFramed z map
   pub directions-lent : scratch-bytes z ≤ length dirs
 
 -- A row from row 2 on, of w cells.

@@ -3,11 +3,10 @@ use mathlib.Core.Path.{_≡_, refl, sym, _∙_}
 use mathlib.Core.Logic.{inl, inr}
 use native.Mathlib.Omega.{arith}
 use borrow.Author.Needs.{needs}
-use borrow.Author.Tests.{ltb-false}
 use lib.Seq.{length-take-le}
 use Rattle.rules.specs.Answer.{refusal, too-small, short-samples, short-offsets, short-map, short-scratch, frame-samples, frame-marks, stream-answer}
 use Rattle.samsung.specs.Lending.{short}
-use Rattle.samsung.proofs.EntryLaws.{cells-most, room, bytes-enough, refused-answer, refused-samples, refused-map, passed-answer, passed-samples, passed-map}
+use Rattle.samsung.proofs.EntryLaws.{cells-most, room, long-enough, refused-answer, refused-samples, refused-map, passed-answer, passed-samples, passed-map}
 use Rattle.samsung.proofs.direct.decode_v0_reference_map.Statement.{statement}
 use Rattle.samsung.proofs.direct.decode_v0_reference_map.Tie as tie
 
@@ -36,16 +35,16 @@ slice-aggregate-decode-marked : tie.Need-slice-aggregate-decode-marked
 slice-aggregate-decode-marked c = sym (length-take-le _ _ (room _ _ _ _ _ _ _ (c .before .before .refuse .ensures) (c .before .if1 .left) .samples-enough))
 
 slice-relend-prefix-decode-marked-2 : tie.Need-slice-relend-prefix-decode-marked-2
-slice-relend-prefix-decode-marked-2 c = bytes-enough _ _ (room _ _ _ _ _ _ _ (c .before .before .refuse .ensures) (c .before .if1 .left) .map-enough)
+slice-relend-prefix-decode-marked-2 c = long-enough _ _ (room _ _ _ _ _ _ _ (c .before .before .refuse .ensures) (c .before .if1 .left) .map-enough)
 
 slice-aggregate-decode-marked-2 : tie.Need-slice-aggregate-decode-marked-2
-slice-aggregate-decode-marked-2 c = sym (length-take-le _ _ (bytes-enough _ _ (room _ _ _ _ _ _ _ (c .before .before .before .refuse .ensures) (c .before .before .if1 .left) .map-enough)))
+slice-aggregate-decode-marked-2 c = sym (length-take-le _ _ (long-enough _ _ (room _ _ _ _ _ _ _ (c .before .before .before .refuse .ensures) (c .before .before .if1 .left) .map-enough)))
 
 decode-marked-requires : tie.Need-decode-marked-requires
 decode-marked-requires c κs =
     let p = room _ _ _ _ _ _ _ (c .before .before .before .refuse .ensures) (c .before .before .if1 .left) in
-    let m = length-take-le _ _ (bytes-enough _ _ (p .map-enough)) in
-    (record { width = p .wide; height = p .high; offsets-enough = ltb-false _ _ (p .offsets-enough); samples-lent = length-take-le _ _ (p .samples-enough); map-lent = inl m }, m)
+    let m = length-take-le _ _ (long-enough _ _ (p .map-enough)) in
+    (record { width = p .wide; height = p .high; offsets-enough = long-enough _ _ (p .offsets-enough); samples-lent = length-take-le _ _ (p .samples-enough); map-lent = inl m }, m)
 
 done-requires : tie.Need-done-requires
 done-requires c κs = search needs

@@ -6,7 +6,7 @@ use borrow.Author.Needs.{needs}
 use lib.Seq.{length-take-le}
 use Rattle.rules.specs.Answer.{refusal, short-samples, short-offsets, short-map, short-scratch, frame-samples, frame-marks, stream-answer}
 use Rattle.samsung.specs.Lending.{short}
-use Rattle.samsung.proofs.EntryLaws.{cells-most, room, small-as, bytes-enough, refused-answer, refused-samples, refused-map, passed-answer, passed-samples, passed-map}
+use Rattle.samsung.proofs.EntryLaws.{cells-most, room, small-as, long-enough, refused-answer, refused-samples, refused-map, passed-answer, passed-samples, passed-map}
 use Rattle.samsung.proofs.motion.decode_v2_map.Statement.{statement}
 use Rattle.samsung.proofs.motion.decode_v2_map.Tie as tie
 
@@ -38,15 +38,15 @@ slice-aggregate-decode-marked : tie.Need-slice-aggregate-decode-marked
 slice-aggregate-decode-marked c = sym (length-take-le _ _ (room _ _ _ _ _ _ _ (c .before .before .refuse .ensures) (c .before .if1 .left) .samples-enough))
 
 slice-relend-prefix-decode-marked-2 : tie.Need-slice-relend-prefix-decode-marked-2
-slice-relend-prefix-decode-marked-2 c = bytes-enough _ _ (room _ _ _ _ _ _ _ (c .before .before .refuse .ensures) (c .before .if1 .left) .map-enough)
+slice-relend-prefix-decode-marked-2 c = long-enough _ _ (room _ _ _ _ _ _ _ (c .before .before .refuse .ensures) (c .before .if1 .left) .map-enough)
 
 slice-aggregate-decode-marked-2 : tie.Need-slice-aggregate-decode-marked-2
-slice-aggregate-decode-marked-2 c = sym (length-take-le _ _ (bytes-enough _ _ (room _ _ _ _ _ _ _ (c .before .before .before .refuse .ensures) (c .before .before .if1 .left) .map-enough)))
+slice-aggregate-decode-marked-2 c = sym (length-take-le _ _ (long-enough _ _ (room _ _ _ _ _ _ _ (c .before .before .before .refuse .ensures) (c .before .before .if1 .left) .map-enough)))
 
 decode-marked-requires : tie.Need-decode-marked-requires
 decode-marked-requires c κs =
     let p = room _ _ _ _ _ _ _ (c .before .before .before .refuse .ensures) (c .before .before .if1 .left) in
-    let m = length-take-le _ _ (bytes-enough _ _ (p .map-enough)) in
+    let m = length-take-le _ _ (long-enough _ _ (p .map-enough)) in
     (record { width = p .wide; height = p .high; samples-lent = length-take-le _ _ (p .samples-enough); map-lent = inl m }, m)
 
 same-length : tie.Need-same-length

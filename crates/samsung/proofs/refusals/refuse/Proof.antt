@@ -29,33 +29,37 @@ returns-3 : tie.Need-returns-3
 unfolding first-of
 returns-3 c = rw (sym (c .before .before .before .before .is-too-large .ensures) ∙ c .before .before .before .if1 .left, c .before .before .if2 .left, lt-ltb _ _ (c .if3 .taken))
 
-returns-4 : tie.Need-returns-4
-unfolding first-of
-returns-4 c = rw (sym (c .before .before .before .before .before .is-too-large .ensures) ∙ c .before .before .before .before .if1 .left, c .before .before .before .if2 .left, le-ltb _ _ (c .before .if3 .left), c .if4 .taken)
-
 is-short-requires : tie.Need-is-short-requires
 is-short-requires c κs = search needs
 
-returns-5 : tie.Need-returns-5
+returns-4 : tie.Need-returns-4
 unfolding first-of
-returns-5 c =
-    rw (sym (c .before .before .before .before .before .before .before .is-too-large .ensures) ∙ c .before .before .before .before .before .before .if1 .left, c .before .before .before .before .before .if2 .left, le-ltb _ _ (c .before .before .before .if3 .left), c .before .before .if4 .left, sym (c .before .is-short .ensures) ∙ c .if5 .taken)
-
-bytes-of-scratch-requires : tie.Need-bytes-of-scratch-requires
-bytes-of-scratch-requires c κs = size-most _ (sym (c .before .before .before .before .before .before .before .is-too-large .ensures) ∙ c .before .before .before .before .before .before .if1 .left)
+returns-4 c =
+    rw (sym (c .before .before .before .before .before .before .is-too-large .ensures) ∙ c .before .before .before .before .before .if1 .left, c .before .before .before .before .if2 .left, le-ltb _ _ (c .before .before .if3 .left), sym (c .before .is-short .ensures) ∙ c .if4 .taken)
 
 is-short-requires-2 : tie.Need-is-short-requires-2
 is-short-requires-2 c κs = search needs
 
+returns-5 : tie.Need-returns-5
+unfolding first-of
+returns-5 c =
+    rw (sym (c .before .before .before .before .before .before .before .before .is-too-large .ensures) ∙ c .before .before .before .before .before .before .before .if1 .left, c .before .before .before .before .before .before .if2 .left, le-ltb _ _ (c .before .before .before .before .if3 .left), sym (c .before .before .before .is-short .ensures) ∙ c .before .before .if4 .left, sym (c .before .is-short2 .ensures) ∙ c .if5 .taken)
+
+bytes-of-scratch-requires : tie.Need-bytes-of-scratch-requires
+bytes-of-scratch-requires c κs = size-most _ (sym (c .before .before .before .before .before .before .before .before .is-too-large .ensures) ∙ c .before .before .before .before .before .before .before .if1 .left)
+
+is-short-requires-3 : tie.Need-is-short-requires-3
+is-short-requires-3 c κs = search needs
+
 returns-6 : tie.Need-returns-6
 unfolding first-of
 returns-6 c =
-    rw (sym (c .before .before .before .before .before .before .before .before .before .before .is-too-large .ensures) ∙ c .before .before .before .before .before .before .before .before .before .if1 .left, c .before .before .before .before .before .before .before .before .if2 .left, le-ltb _ _ (c .before .before .before .before .before .before .if3 .left), c .before .before .before .before .before .if4 .left, sym (c .before .before .before .before .is-short .ensures) ∙ c .before .before .before .if5 .left, sym (c .before .is-short2 .ensures ∙ ap (short _) (c .before .before .bytes-of-scratch .ensures)) ∙ c .if6 .taken)
+    rw (sym (c .before .before .before .before .before .before .before .before .before .before .before .is-too-large .ensures) ∙ c .before .before .before .before .before .before .before .before .before .before .if1 .left, c .before .before .before .before .before .before .before .before .before .if2 .left, le-ltb _ _ (c .before .before .before .before .before .before .before .if3 .left), sym (c .before .before .before .before .before .before .is-short .ensures) ∙ c .before .before .before .before .before .if4 .left, sym (c .before .before .before .before .is-short2 .ensures) ∙ c .before .before .before .if5 .left, sym (c .before .is-short3 .ensures ∙ ap (short _) (c .before .before .bytes-of-scratch .ensures)) ∙ c .if6 .taken)
 
 returns-7 : tie.Need-returns-7
 unfolding first-of
 returns-7 c =
-    rw (sym (c .before .before .before .before .before .before .before .before .before .before .is-too-large .ensures) ∙ c .before .before .before .before .before .before .before .before .before .if1 .left, c .before .before .before .before .before .before .before .before .if2 .left, le-ltb _ _ (c .before .before .before .before .before .before .if3 .left), c .before .before .before .before .before .if4 .left, sym (c .before .before .before .before .is-short .ensures) ∙ c .before .before .before .if5 .left, sym (c .before .is-short2 .ensures ∙ ap (short _) (c .before .before .bytes-of-scratch .ensures)) ∙ c .if6 .left)
+    rw (sym (c .before .before .before .before .before .before .before .before .before .before .before .is-too-large .ensures) ∙ c .before .before .before .before .before .before .before .before .before .before .if1 .left, c .before .before .before .before .before .before .before .before .before .if2 .left, le-ltb _ _ (c .before .before .before .before .before .before .before .if3 .left), sym (c .before .before .before .before .before .before .is-short .ensures) ∙ c .before .before .before .before .before .if4 .left, sym (c .before .before .before .before .is-short2 .ensures) ∙ c .before .before .before .if5 .left, sym (c .before .is-short3 .ensures ∙ ap (short _) (c .before .before .bytes-of-scratch .ensures)) ∙ c .if6 .left)
 
 pub refuse-spec : {M : Type 1} → statement M
 refuse-spec =
@@ -66,10 +70,11 @@ refuse-spec =
     returns-2
     mul-n
     returns-3
-    returns-4
     is-short-requires
+    returns-4
+    is-short-requires-2
     returns-5
     bytes-of-scratch-requires
-    is-short-requires-2
+    is-short-requires-3
     returns-6
     returns-7)

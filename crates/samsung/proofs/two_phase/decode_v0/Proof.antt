@@ -3,11 +3,10 @@ use mathlib.Core.Path.{_≡_, refl, sym, _∙_}
 use mathlib.Core.Logic.{inl, inr}
 use native.Mathlib.Omega.{arith}
 use borrow.Author.Needs.{needs}
-use borrow.Author.Tests.{ltb-false}
 use lib.Seq.{length-take-le}
 use Rattle.rules.specs.Answer.{refusal, too-small, short-samples, short-offsets, short-map, short-scratch, frame-samples, frame-scratch, stream-answer}
 use Rattle.samsung.specs.Lending.{short}
-use Rattle.samsung.proofs.EntryLaws.{cells-most, room, bytes-enough, refused-answer, refused-samples, refused-scratch, passed-answer, passed-samples, passed-scratch}
+use Rattle.samsung.proofs.EntryLaws.{cells-most, room, long-enough, refused-answer, refused-samples, refused-scratch, passed-answer, passed-samples, passed-scratch}
 use Rattle.samsung.proofs.two_phase.decode_v0.Statement.{statement}
 use Rattle.samsung.proofs.two_phase.decode_v0.Tie as tie
 
@@ -41,7 +40,7 @@ slice-aggregate-decode-frame-2 c = search needs
 decode-frame-requires : tie.Need-decode-frame-requires
 decode-frame-requires c κs =
     let p = room _ _ _ _ _ _ _ (c .before .before .before .before .refuse .ensures) (c .before .before .before .if1 .left) in
-    record { frame = record { width = p .wide; height = p .high; offsets-enough = ltb-false _ _ (p .offsets-enough); samples-lent = length-take-le _ _ (p .samples-enough); map-lent = inr refl }; directions-lent = bytes-enough _ _ (p .scratch-enough) }
+    record { frame = record { width = p .wide; height = p .high; offsets-enough = long-enough _ _ (p .offsets-enough); samples-lent = length-take-le _ _ (p .samples-enough); map-lent = inr refl }; directions-lent = long-enough _ _ (p .scratch-enough) }
 
 done-requires : tie.Need-done-requires
 done-requires c κs = search needs

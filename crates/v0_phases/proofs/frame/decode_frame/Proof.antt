@@ -2,69 +2,30 @@
 use mathlib.Core.Path.{_∙_}
 use native.Mathlib.Omega.{arith}
 use borrow.Author.Needs.{needs}
-use Rattle.v0_phases.proofs.FrameLaws.{whole-kept, samples-done, marks-done, directions-done}
+use Rattle.v0_phases.proofs.FrameLaws.{samples-framed, marks-framed, samples-done, marks-done, directions-done}
 use Rattle.v0_phases.proofs.frame.decode_frame.Statement.{statement}
 use Rattle.v0_phases.proofs.frame.decode_frame.Tie as tie
 
-head-rows-requires : tie.Need-head-rows-requires
-head-rows-requires c κs = search needs
-
-decode-rows-requires : tie.Need-decode-rows-requires
-decode-rows-requires c κs = (c .before .before .before .before .before .before .before .before .pre .frame, omega (arith, c .before .before .head-rows .ensures))
-
-parse-rows-requires : tie.Need-parse-rows-requires
-parse-rows-requires c κs =
-    let p = c .before .before .before .before .before .before .before .before .before .before .before .before .before .before .before .pre in (
-      record {
-        width = p .frame .width;
-        height = p .frame .height;
-        cells-lent = c .before .before .before .before .before .before .decode-rows .kept .1 .1 .1 .1 .0 ∙ p .frame .samples-lent;
-        directions-lent = p .directions-lent;
-      },
-      p .frame .offsets-enough,
-    )
+store-rows-requires : tie.Need-store-rows-requires
+store-rows-requires c κs = search needs
 
 add-rows-requires : tie.Need-add-rows-requires
 add-rows-requires c κs =
-    let p = c .before .before .before .before .before .before .before .before .before .before .before .before .before .before .before .before .before .before .before .before .before .before .pre in
-    record {
-      width = p .frame .width;
-      height = p .frame .height;
-      cells-lent = c .before .before .before .before .before .before .parse-rows .kept .1 .1 .1 .0 ∙ c .before .before .before .before .before .before .before .before .before .before .before .before .before .decode-rows .kept .1 .1 .1 .1 .0 ∙ p .frame .samples-lent;
-      directions-lent = omega (arith, c .before .before .before .before .before .before .parse-rows .kept .1 .1 .1 .1 .0, p .directions-lent);
-    }
+    let p = c .before .before .before .before .before .before .before .before .before .before .before .before .before .before .before .before .before .pre in
+    let kept = c .before .before .before .before .before .before .before .before .store-rows .kept in
+    record { frame = samples-framed (p .frame) (kept .1 .1 .1 .0); directions-lent = omega (arith, kept .1 .1 .1 .1 .1 .0, p .directions-lent) }
 
 mark-lent-requires : tie.Need-mark-lent-requires
 mark-lent-requires c κs =
-    let p = c .before .before .before .before .before .before .before .before .before .before .before .before .before .before .before .before .before .before .before .before .before .before .before .before .before .before .before .pre in
-    record {
-      width = p .frame .width;
-      height = p .frame .height;
-      map-lent = whole-kept (c .before .before .before .before .before .before .before .before .before .before .before .before .before .before .before .before .before .before .before .before .before .before .before .before .before .before .before .args .size) (c .before .before .before .before .before .before .before .before .before .before .before .before .before .before .before .before .before .before .decode-rows .kept .1 .1 .1 .1 .1 .0) (p .frame .map-lent);
-      directions-lent = omega (arith, c .before .before .before .before .before .before .before .before .before .before .before .parse-rows .kept .1 .1 .1 .1 .0, p .directions-lent);
-    }
+    let p = c .before .before .before .before .before .before .before .before .before .before .before .before .before .before .before .before .before .before .before .before .before .before .pre in
+    let kept = c .before .before .before .before .before .before .before .before .before .before .before .before .before .store-rows .kept in
+    record { frame = marks-framed (p .frame) (kept .1 .1 .1 .1 .0); directions-lent = omega (arith, kept .1 .1 .1 .1 .1 .0, p .directions-lent) }
 
 exchange-requires : tie.Need-exchange-requires
-exchange-requires c κs =
-    let p = c .before .before .before .before .before .before .before .before .before .before .before .before .before .before .before .before .before .before .before .before .before .before .before .before .before .before .before .before .before .before .before .pre in
-    record {
-      width = p .frame .width;
-      height = p .frame .height;
-      lent =
-          c .before .before .before .before .before .before .before .before .add-rows .kept .0
-          ∙ c .before .before .before .before .before .before .before .before .before .before .before .before .before .before .before .parse-rows .kept .1 .1 .1 .0
-          ∙ c .before .before .before .before .before .before .before .before .before .before .before .before .before .before .before .before .before .before .before .before .before .before .decode-rows .kept .1 .1 .1 .1 .0
-          ∙ p .frame .samples-lent;
-    }
+exchange-requires c κs = samples-framed (c .before .before .before .before .before .before .before .before .before .before .before .before .before .before .before .before .before .before .before .before .before .before .before .before .before .before .pre .frame) (c .before .before .before .before .before .before .before .before .add-rows .kept .0 ∙ c .before .before .before .before .before .before .before .before .before .before .before .before .before .before .before .before .before .store-rows .kept .1 .1 .1 .0)
 
 exchange-marks-requires : tie.Need-exchange-marks-requires
-exchange-marks-requires c κs =
-    let p = c .before .before .before .before .before .before .before .before .before .before .before .before .before .before .before .before .before .before .before .before .before .before .before .before .before .before .before .before .before .before .before .before .before .before .before .pre in
-    record {
-      width = p .frame .width;
-      height = p .frame .height;
-      lent = whole-kept (c .before .before .before .before .before .before .before .before .before .before .before .before .before .before .before .before .before .before .before .before .before .before .before .before .before .before .before .before .before .before .before .before .before .before .before .args .size) (c .before .before .before .before .before .before .before .mark-lent .kept .0 ∙ c .before .before .before .before .before .before .before .before .before .before .before .before .before .before .before .before .before .before .before .before .before .before .before .before .before .before .decode-rows .kept .1 .1 .1 .1 .1 .0) (p .frame .map-lent);
-    }
+exchange-marks-requires c κs = marks-framed (c .before .before .before .before .before .before .before .before .before .before .before .before .before .before .before .before .before .before .before .before .before .before .before .before .before .before .before .before .before .before .pre .frame) (c .before .before .before .before .before .before .before .mark-lent .kept .0 ∙ c .before .before .before .before .before .before .before .before .before .before .before .before .before .before .before .before .before .before .before .before .before .store-rows .kept .1 .1 .1 .1 .0)
 
 same-length : tie.Need-same-length
 same-length c = search needs
@@ -77,24 +38,17 @@ same-length-3 c = search needs
 
 returns : tie.Need-returns
 returns c =
-    let z = c .before .before .before .before .before .before .before .before .before .before .before .before .before .before .before .before .before .before .before .before .before .before .before .before .before .before .before .before .before .before .before .before .before .before .before .before .before .before .args .size in
-    let rows = c .before .before .before .before .before .before .before .before .before .before .before .before .before .before .before .before .before .before .before .before .before .before .before .before .before .before .before .before .before .decode-rows .ensures in
-    let first = c .before .before .before .before .before .before .before .before .before .before .before .before .before .before .before .before .before .before .before .before .before .before .before .before .before .before .before .before .before .before .before .before .head-rows .ensures in
-    let phase = c .before .before .before .before .before .before .before .before .before .before .before .before .before .before .before .before .before .before .before .before .before .before .parse-rows .ensures in (
-      samples-done _ _ z _ _ _ _ _ _ _ _ first (rows .0) (phase .0) (phase .1) (c .before .before .before .before .before .before .before .before .before .before .before .before .before .before .before .add-rows .ensures) (c .before .before .before .before .before .before .exchange .ensures),
-      (
-        marks-done _ _ z _ _ _ _ _ _ _ first (rows .1) (phase .1) (c .before .before .before .before .before .before .before .before .before .before .mark-lent .ensures) (c .before .before .exchange-marks .ensures),
-        directions-done _ _ z _ _ (phase .1),
-      ),
+    let z = c .before .before .before .before .before .before .before .before .before .before .before .before .before .before .before .before .before .before .before .before .before .before .before .before .before .before .before .before .before .before .before .before .before .args .size in
+    let stored = c .before .before .before .before .before .before .before .before .before .before .before .before .before .before .before .before .before .before .before .before .before .before .before .before .store-rows .ensures in (
+      samples-done _ _ z _ _ _ _ _ _ (stored .0) (stored .1 .1) (c .before .before .before .before .before .before .before .before .before .before .before .before .before .before .before .add-rows .ensures) (c .before .before .before .before .before .before .exchange .ensures),
+      (marks-done _ _ z _ _ _ _ _ _ (stored .1 .0) (stored .1 .1) (c .before .before .before .before .before .before .before .before .before .before .mark-lent .ensures) (c .before .before .exchange-marks .ensures), directions-done _ _ z _ _ (stored .1 .1)),
     )
 
 pub decode-frame-spec : {M : Type 1} → statement M
 decode-frame-spec =
     tie.close
     (tie.spec
-    head-rows-requires
-    decode-rows-requires
-    parse-rows-requires
+    store-rows-requires
     add-rows-requires
     mark-lent-requires
     exchange-requires

@@ -36,10 +36,10 @@ mark-row-requires c κs =
     let l = c .before .before .loop in
     let h = c .before .before .before .before .before .args .size .height in (
       record {
-        width = p .width;
+        width = p .frame .width;
         rows-above = omega arith;
-        row-below = omega (arith, p .height);
-        row-lent = row-within _ h (l .r) _ (omega arith) (l .inv .same-length ∙ p .cells-lent);
+        row-below = omega (arith, p .frame .height);
+        row-lent = row-within _ h (l .r) _ (omega arith) (l .inv .same-length ∙ p .frame .lent);
       },
       directions-within _ h (l .r) _ (omega arith) (p .directions-lent),
     )

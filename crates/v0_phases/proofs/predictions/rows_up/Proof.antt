@@ -1,11 +1,10 @@
--- One row for an even column, two for an odd one.
+-- One row up, and for an odd sample one more.
 use native.Mathlib.Omega.{arith}
-use borrow.Author.Needs.{needs}
 use Rattle.v0_phases.proofs.predictions.rows_up.Statement.{statement}
 use Rattle.v0_phases.proofs.predictions.rows_up.Tie as tie
 
 add-result : tie.Need-add-result
-add-result c = search needs
+add-result c = omega arith
 
 returns : tie.Need-returns
 returns c = omega arith

@@ -21,7 +21,7 @@ abbrev μ-loop : tie.MeasureT-loop
 samples-room : (c : tie.In-loop Inv-loop μ-loop)
     → (c .before .loop .r + 2) * c .before .before .before .before .before .before .args .size .width + c .before .before .before .before .before .before .args .size .width ≤ length (c .before .loop .out)
 samples-room c =
-    row-within _ (c .before .before .before .before .before .before .args .size .height) _ _ (omega arith) (c .before .loop .inv .same-samples ∙ c .before .before .before .before .before .before .pre .0 .cells-lent)
+    row-within _ (c .before .before .before .before .before .before .args .size .height) _ _ (omega arith) (c .before .loop .inv .same-samples ∙ c .before .before .before .before .before .before .pre .0 .frame .lent)
 
 dirs-room : (c : tie.In-loop Inv-loop μ-loop)
     → c .before .loop .r * ((c .before .before .before .before .before .before .args .size .width + 15) / 16) + (c .before .before .before .before .before .before .args .size .width + 15) / 16
@@ -56,7 +56,7 @@ shared-slice-read-parse-v0-residuals :
 shared-slice-read-parse-v0-residuals c = search needs
 
 mul-parse-v0-residuals-2 : tie.Need-mul-parse-v0-residuals-2 Inv-loop μ-loop
-mul-parse-v0-residuals-2 c = omega (arith, product (c .before .before .loop .r + 2) (c .before .before .before .before .before .before .before .args .size .width) (omega arith) (omega (arith, c .before .before .before .before .before .before .before .pre .0 .width)))
+mul-parse-v0-residuals-2 c = omega (arith, product (c .before .before .loop .r + 2) (c .before .before .before .before .before .before .before .args .size .width) (omega (arith, c .before .before .before .before .before .before .before .pre .0 .frame .height)) (omega (arith, c .before .before .before .before .before .before .before .pre .0 .frame .width)))
 
 sub-parse-v0-residuals : tie.Need-sub-parse-v0-residuals Inv-loop μ-loop
 sub-parse-v0-residuals c = omega (arith, samples-room (c .before))
@@ -81,7 +81,7 @@ parse-v0-residuals-requires c κs =
     let l = c .before .before .before .before .loop in
     let w = c .before .before .before .before .before .before .before .before .before .args .size .width in
     record {
-      width = c .before .before .before .before .before .before .before .before .before .pre .0 .width;
+      width = c .before .before .before .before .before .before .before .before .before .pre .0 .frame .width;
       samples-lent = rw (tail-lent ((l .r + 2) * w) (l .out)) (omega (arith, samples-room (c .before .before .before), length-drop ((l .r + 2) * w) (l .out)));
       directions-lent =
           rw (tail-lent (l .r * ((w + 15) / 16)) (l .dirs)) (omega (arith, dirs-room (c .before .before .before), length-drop (l .r * ((w + 15) / 16)) (l .dirs)));
