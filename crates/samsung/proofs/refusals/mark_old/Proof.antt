@@ -1,5 +1,6 @@
 -- `mark_old` meets its contract: the bytes before i are 1.
 use Prim.Native.Nat.{ℕ, _≤_, _-_}
+use mathlib.Core.List.{[], _∷_, _++_}
 use mathlib.Core.Path.{_≡_, refl, sym, ap, _∙_}
 use native.Mathlib.Omega.{arith}
 use borrow.Author.Needs.{needs}
@@ -33,7 +34,7 @@ loop-again c = (
   simp length-set (omega arith),
   (
     simp length-set (c .before .loop .inv .1 .0),
-    rw (add-one, take-suc-set (c .before .loop .map) (c .before .loop .i) 1 (omega arith), c .before .loop .inv .1 .1) (ones-more (c .before .loop .i)),
+    rw add-one (take-suc-set (c .before .loop .map) (c .before .loop .i) 1 (omega arith) ∙ ap (λ xs. xs ++ (1 ∷ [])) (c .before .loop .inv .1 .1) ∙ ones-more (c .before .loop .i)),
   ),
 )
 
