@@ -1,5 +1,7 @@
 //! Frames to time decoders on, and how they are timed.
 
+pub mod contenders;
+pub mod count;
 pub mod hostile;
 pub mod measure;
 pub mod photo;

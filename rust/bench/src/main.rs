@@ -1,32 +1,25 @@
-//! `bench [RUNS [PART]]`: Razvolk and the Rust in turn on the same frames, in one process, the best of RUNS runs each (20).
-//! PART divides each side of the frames, for a quick look.
+//! `bench [RUNS [PART]]`: Razvolk and the Rust in turn on the same frames, in one process, the best of RUNS runs each (20); then
+//! the instructions that they take, where valgrind is installed. PART divides each side of the frames, for a quick look.
 
-use bench::measure::{Contender, best, print};
-use bench::{hostile, photo, v0, v2};
-use compare::call::{Decoder, Lent, razvolk_of};
+use bench::contenders::{Buffers, alike, of_v0, of_v2};
+use bench::measure::{best, print};
+use bench::{count, hostile, photo, v0, v2};
 use compare::v0::Frame;
 use compare::v2::Stream;
-use std::cell::RefCell;
 use std::fs;
 
-/// The buffers that all contenders share. They are not cleared between runs.
-struct Buffers {
-    samples: Vec<u16>,
-    map: Vec<u8>,
-    scratch: Vec<u8>,
-}
-
-impl Buffers {
-    fn new(width: usize, height: usize) -> RefCell<Buffers> {
-        let n = width * height;
-        let scratch = vec![1; razvolk::scratch_len(width, height)];
-        RefCell::new(Buffers { samples: vec![1; n], map: vec![1; n], scratch })
-    }
-}
-
 fn main() {
-    let mut numbers = std::env::args().skip(1).map(|word| word.parse().expect("usage: bench [RUNS [PART]]"));
-    let (runs, part): (usize, usize) = (numbers.next().unwrap_or(20), numbers.next().unwrap_or(1));
+    let mut words = std::env::args().skip(1).peekable();
+    let once = words.next_if(|word| word == "once").is_some();
+    let mut numbers = words.map(|word| word.parse().expect("usage: bench [RUNS [PART]]"));
+    if once {
+        return count::once(numbers.next().expect("a frame"), numbers.next().expect("a contender"));
+    }
+    time(numbers.next().unwrap_or(20), numbers.next().unwrap_or(1));
+    count::print();
+}
+
+fn time(runs: usize, part: usize) {
     let cpus = fs::read_to_string("/proc/cpuinfo").unwrap_or_default();
     let model = cpus.lines().find_map(|line| line.strip_prefix("model name\t: ")).unwrap_or("unknown");
     println!(
@@ -67,80 +60,21 @@ fn title(name: &str, width: usize, height: usize, bytes: usize) -> String {
 }
 
 fn time_v0(name: &str, frame: &Frame, runs: usize) {
-    let Frame { src, offsets, width, height } = frame;
-    let (width, height) = (*width, *height);
-    let buffers = Buffers::new(width, height);
-    let entries = razvolk_of(false);
-    let mut contenders = vec![
-        Contender {
-            name: "Rust decode_v0_reference",
-            against: 0,
-            run: Box::new(|| {
-                let out = &mut buffers.borrow_mut().samples;
-                reference::decode_v0_reference(src, offsets, width, height, out).expect("done");
-            }),
-        },
-        Contender {
-            name: "Rust decode_v0_with(.., false)",
-            against: 1,
-            run: Box::new(|| {
-                let out = &mut buffers.borrow_mut().samples;
-                reference::decode_v0_with(src, offsets, width, height, out, false).expect("done");
-            }),
-        },
-    ];
-    for entry in &entries {
-        let buffers = &buffers;
-        let run = move || {
-            let Buffers { samples, map, scratch } = &mut *buffers.borrow_mut();
-            let answer = entry.call(&frame.ask(), &mut Lent { samples, map, scratch });
-            assert_eq!(answer.number, 0);
-        };
-        let against = usize::from(entry.decoder == Decoder::TwoPhase);
-        contenders.push(Contender { name: entry.name, against, run: Box::new(run) });
-    }
+    let buffers = Buffers::new(frame.width, frame.height);
+    let mut contenders = of_v0(frame, &buffers);
     alike(&mut contenders, &buffers);
     let best = best(&mut contenders, runs);
-    print(&title(name, width, height, src.len()), Some(width * height), &contenders, &best);
+    let title = title(name, frame.width, frame.height, frame.src.len());
+    print(&title, Some(frame.width * frame.height), &contenders, &best);
 }
 
 fn time_v2(name: &str, stream: &Stream, runs: usize) {
-    let Stream { src, width, height, .. } = stream;
-    let (width, height) = (*width, *height);
-    let buffers = Buffers::new(width, height);
-    let entries = razvolk_of(true);
-    let mut contenders = vec![Contender {
-        name: "Rust decode_v2",
-        against: 0,
-        run: Box::new(|| {
-            // Refused streams are timed, too.
-            let _ = reference::decode_v2(src, width, height, &mut buffers.borrow_mut().samples);
-        }),
-    }];
-    for entry in &entries {
-        let buffers = &buffers;
-        let run = move || {
-            let Buffers { samples, map, scratch } = &mut *buffers.borrow_mut();
-            entry.call(&stream.ask(), &mut Lent { samples, map, scratch });
-        };
-        contenders.push(Contender { name: entry.name, against: 0, run: Box::new(run) });
-    }
+    let buffers = Buffers::new(stream.width, stream.height);
+    let mut contenders = of_v2(stream, &buffers);
     alike(&mut contenders, &buffers);
     let best = best(&mut contenders, runs);
-    let done = reference::decode_v2(src, width, height, &mut buffers.borrow_mut().samples).is_ok();
-    print(&title(name, width, height, src.len()), done.then_some(width * height), &contenders, &best);
-}
-
-/// Runs each contender once over the same samples: all must leave the same.
-fn alike(contenders: &mut [Contender], buffers: &RefCell<Buffers>) {
-    let mut first: Option<Vec<u16>> = None;
-    for contender in contenders {
-        buffers.borrow_mut().samples.fill(1);
-        (contender.run)();
-        let samples = &buffers.borrow().samples;
-        match &first {
-            None => first = Some(samples.clone()),
-            Some(first) => assert!(first == samples, "{} leaves other samples", contender.name),
-        }
-    }
+    let samples = stream.width * stream.height;
+    let done = reference::decode_v2(&stream.src, stream.width, stream.height, &mut vec![0; samples]).is_ok();
+    let title = title(name, stream.width, stream.height, stream.src.len());
+    print(&title, done.then_some(samples), &contenders, &best);
 }
