@@ -1,4 +1,4 @@
--- An entry's tests are the rules' tests, in their order; and what it leaves is what they say.
+-- What an entry owes: its answer and what it leaves are what the rules say.
 use mathlib.Core.Path.{_≡_, refl, sym, ap, _∙_}
 use mathlib.Core.Bool.{Bool, true, false, _||_, cond}
 use mathlib.Core.List.{List, [], _∷_, _++_}
@@ -13,80 +13,8 @@ use Rattle.rules.specs.declared.answer.Answer.{Answer}
 use Rattle.rules.specs.declared.answer.Size.{Size}
 use Rattle.rules.specs.Frame.{cells}
 use Rattle.rules.specs.Answer.{Ask, Lent, too-large, scratch-bytes, first-of, refusal, answer, stream-answer, frame-samples, marks, frame-scratch, unless-refused, samples-after, map-after, scratch-after}
-use Rattle.samsung.specs.declared.refusals.Lending.{Lending}
-use Rattle.samsung.specs.declared.refusals.Lending.the-variants.{Length}
-use Rattle.samsung.specs.Lending.{short}
 use Rattle.rules.proofs.Tests.{neither}
 use Rattle.rules.proofs.Refusals.{answer-refused, answer-passed, samples-kept, map-kept, scratch-kept}
-
--- A frame within the limits has few enough samples.
-pub cells-most : (w h : ℕ) → w ≤ 16_384 → h ≤ 16_384 → w * h ≤ 268_435_456
-cells-most w h p q = mul-le-mul p q
-
--- A size that is not too large is within the limits.
-pub size-most : (z : Size) → too-large z ≡ false → (z .width ≤ 16_384) × (z .height ≤ 16_384)
-unfolding too-large
-size-most z e = let q = neither _ _ e in (ltb-false _ _ (q .0), ltb-false _ _ (q .1))
-
--- What a call that is not refused may count on.
-pub record Room (z : Size) (samples : ℕ) (offsets map scratch : Lending) : Type 0 where
-  pub wide : z .width ≤ 16_384
-  pub high : z .height ≤ 16_384
-  pub samples-enough : cells z ≤ samples
-  pub offsets-enough : short offsets (z .height) ≡ false
-  pub map-enough : short map (cells z) ≡ false
-  pub scratch-enough : short scratch (scratch-bytes z) ≡ false
-
-first-zero : (t1 t2 t3 t4 : Bool) → first-of t1 t2 t3 t4 ≡ 0 → (t1 ≡ false) × ((t3 ≡ false) × (t4 ≡ false))
-unfolding first-of
-first-zero true t2 t3 t4 e = absurd (omega arith)
-first-zero false true t3 t4 e = absurd (omega arith)
-first-zero false false true t4 e = absurd (omega arith)
-first-zero false false false true e = absurd (omega arith)
-first-zero false false false false e = (refl, (refl, refl))
-
-pub room : (z : Size) (small : Bool) (samples : ℕ) (offsets map scratch : Lending) (k : ℕ)
-    → k ≡ first-of (too-large z) small (ltb samples (cells z) || short offsets (z .height)) (short map (cells z) || short scratch (scratch-bytes z))
-    → k ≡ 0 → Room z samples offsets map scratch
-room z small samples offsets map scratch k e q =
-    let f = first-zero _ _ _ _ (sym e ∙ q) in
-    let s = neither _ _ (f .1 .0) in
-    let l = neither _ _ (f .1 .1) in
-    let m = size-most z (f .0) in
-    record {
-      wide = m .0;
-      high = m .1;
-      samples-enough = ltb-false _ _ (s .0);
-      offsets-enough = s .1;
-      map-enough = l .0;
-      scratch-enough = l .1;
-    }
-
--- A test by another name.
-pub small-as : (t1 t2 u t3 t4 : Bool) (k : ℕ) → k ≡ first-of t1 t2 t3 t4 → t2 ≡ u → first-of t1 u t3 t4 ≡ k
-small-as t1 t2 u t3 t4 k e f = sym (e ∙ ap (λ t. first-of t1 t t3 t4) f)
-
--- A buffer that is lent and not short is long enough.
-pub long-enough : (m n : ℕ) → short (Length m) n ≡ false → n ≤ m
-unfolding short
-long-enough m n e = ltb-false m n e
-
--- A frame of one row or none has no late rows; and the scratch's bytes fit.
-pub no-late-rows : (n h : ℕ) → h < 2 → 0 ≡ n * (h - 2)
-no-late-rows n h l = let e : h - 2 ≡ 0 = omega arith in rw (e, mul-zero)
-
-pub scratch-fits : (w h : ℕ) → w ≤ 16_384 → h ≤ 16_384 → (w + 15) / 16 * (h - 2) ≤ 16_777_216
-scratch-fits w h p q =
-    let a : (w + 15) / 16 ≤ 1_024 = omega arith in
-    let b : h - 2 ≤ 16_384 = omega arith in
-    mul-le-mul a b
-
--- ── What an entry owes ──
-
--- Ones, one more.
-pub ones-more : (n : ℕ) → replicate {A = ℕ} n 1 ++ (1 ∷ []) ≡ replicate (suc n) 1
-ones-more zero = refl
-ones-more (suc n) = ap (λ l. 1 ∷ l) (ones-more n)
 
 module _ (a : Ask) (l : Lent) where
   -- A refusal of 1 to 4 is answered by its number, and leaves every buffer as it was.

@@ -2,7 +2,6 @@
 // asked of a caller.
 pub mod direct;
 pub mod motion;
-mod refusals;
 pub mod two_phase;
 
 pub use direct::decode_v0_reference;

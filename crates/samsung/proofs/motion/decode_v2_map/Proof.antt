@@ -5,8 +5,9 @@ use native.Mathlib.Omega.{arith}
 use borrow.Author.Needs.{needs}
 use lib.Seq.{length-take-le}
 use Rattle.rules.specs.Answer.{refusal, short-samples, short-offsets, short-map, short-scratch, frame-samples, frame-marks, stream-answer}
-use Rattle.samsung.specs.Lending.{short}
-use Rattle.samsung.proofs.EntryLaws.{cells-most, room, small-as, long-enough, refused-answer, refused-samples, refused-map, passed-answer, passed-samples, passed-map}
+use Rattle.refusals.specs.Lending.{short}
+use Rattle.refusals.proofs.RefusalLaws.{cells-most, room, small-as, long-enough}
+use Rattle.samsung.proofs.EntryLaws.{refused-answer, refused-samples, refused-map, passed-answer, passed-samples, passed-map}
 use Rattle.samsung.proofs.motion.decode_v2_map.Statement.{statement}
 use Rattle.samsung.proofs.motion.decode_v2_map.Tie as tie
 

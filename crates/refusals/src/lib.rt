@@ -6,7 +6,7 @@ ghost use lib.Dec.{ltb};
 ghost use lib.ListN.{length, replicate};
 ghost use Rattle.rules.specs.Answer.{v2, too-large, too-small, scratch-bytes, first-of};
 ghost use Rattle.rules.specs.Frame.{cells};
-ghost use Rattle.samsung.specs.Lending.{short};
+ghost use Rattle.refusals.specs.Lending.{short};
 use rules::Answer;
 use rules::Size;
 use rules::V0Row;

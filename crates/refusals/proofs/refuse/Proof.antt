@@ -4,10 +4,10 @@ use native.Mathlib.Omega.{arith}
 use borrow.Author.Needs.{needs}
 use borrow.Author.Tests.{lt-ltb, le-ltb}
 use Rattle.rules.specs.Answer.{first-of}
-use Rattle.samsung.specs.Lending.{short}
-use Rattle.samsung.proofs.EntryLaws.{cells-most, size-most}
-use Rattle.samsung.proofs.refusals.refuse.Statement.{statement}
-use Rattle.samsung.proofs.refusals.refuse.Tie as tie
+use Rattle.refusals.specs.Lending.{short}
+use Rattle.refusals.proofs.RefusalLaws.{cells-most, size-most}
+use Rattle.refusals.proofs.refuse.Statement.{statement}
+use Rattle.refusals.proofs.refuse.Tie as tie
 
 is-too-large-requires : tie.Need-is-too-large-requires
 is-too-large-requires c κs = search needs

@@ -1,8 +1,8 @@
 -- `is_too_small` meets its contract: the code's two tests are the rule's.
 use borrow.Author.Tests.{lt-ltb, le-ltb}
 use Rattle.rules.specs.Answer.{too-small}
-use Rattle.samsung.proofs.refusals.is_too_small.Statement.{statement}
-use Rattle.samsung.proofs.refusals.is_too_small.Tie as tie
+use Rattle.refusals.proofs.is_too_small.Statement.{statement}
+use Rattle.refusals.proofs.is_too_small.Tie as tie
 
 returns : tie.Need-returns
 unfolding too-small

@@ -1,8 +1,8 @@
 -- `is_short` meets its contract, case by case.
 use borrow.Author.Needs.{needs}
-use Rattle.samsung.specs.Lending.{short}
-use Rattle.samsung.proofs.refusals.is_short.Statement.{statement}
-use Rattle.samsung.proofs.refusals.is_short.Tie as tie
+use Rattle.refusals.specs.Lending.{short}
+use Rattle.refusals.proofs.is_short.Statement.{statement}
+use Rattle.refusals.proofs.is_short.Tie as tie
 
 enum-told : tie.Need-enum-told
 enum-told c = search needs

@@ -1,9 +1,9 @@
 -- `bytes_of_scratch` meets its contract: below row 2 there is no byte.
 use native.Mathlib.Omega.{arith}
 use borrow.Author.Needs.{needs}
-use Rattle.samsung.proofs.EntryLaws.{no-late-rows, scratch-fits}
-use Rattle.samsung.proofs.refusals.bytes_of_scratch.Statement.{statement}
-use Rattle.samsung.proofs.refusals.bytes_of_scratch.Tie as tie
+use Rattle.refusals.proofs.RefusalLaws.{no-late-rows, scratch-fits}
+use Rattle.refusals.proofs.bytes_of_scratch.Statement.{statement}
+use Rattle.refusals.proofs.bytes_of_scratch.Tie as tie
 
 returns : tie.Need-returns
 returns c = no-late-rows _ _ (c .if1 .taken)

@@ -2,8 +2,8 @@
 use Prim.Native.Nat.{ℕ}
 use mathlib.Core.Bool.{Bool, false}
 use lib.Dec.{ltb}
-use Rattle.samsung.specs.declared.refusals.Lending.{Lending}
-use Rattle.samsung.specs.declared.refusals.Lending.the-variants.{Nothing, Length}
+use Rattle.refusals.specs.declared.Lending.{Lending}
+use Rattle.refusals.specs.declared.Lending.the-variants.{Nothing, Length}
 
 -- Whether it is lent and less than needed.
 unfoldable pub short : Lending → ℕ → Bool

@@ -2,8 +2,8 @@
 use borrow.Author.Tests.{lt-ltb, le-ltb}
 use mathlib.Core.Path.{_≡_}
 use Rattle.rules.specs.Answer.{too-large}
-use Rattle.samsung.proofs.refusals.is_too_large.Statement.{statement}
-use Rattle.samsung.proofs.refusals.is_too_large.Tie as tie
+use Rattle.refusals.proofs.is_too_large.Statement.{statement}
+use Rattle.refusals.proofs.is_too_large.Tie as tie
 
 returns : tie.Need-returns
 unfolding too-large
