@@ -2,7 +2,7 @@
 ghost use mathlib.Core.Path.{_≡_};
 ghost use mathlib.Core.Bool.{cond};
 ghost use mathlib.Core.List.{_++_, map};
-ghost use Prim.Native.Nat.{_-_, _≤_, _<_};
+ghost use Prim.Native.Nat.{_+_, _-_, _≤_, _<_};
 ghost use lib.Dec.{ltb};
 ghost use lib.ListN.{length, set, drop};
 ghost use Rattle.rules.specs.V0.{order, blocks-in};
@@ -31,8 +31,8 @@ fn store_residual(out: &mut [u16], width: usize, i: usize, residual: u16)
     }
 }
 
-// The residuals of the block at a column of a row.
-fn store_residuals(out: &mut [u16], width: usize, col: usize, residuals: [u16; 16])
+// The residuals of a block that may reach past its row's end.
+fn store_edge(out: &mut [u16], width: usize, col: usize, residuals: [u16; 16])
     requires { ⌜ (width ≤ length (now out)) × (col < 16_384) ⌝ }
     ensures { λ _. ⌜ now (out .exit) ≡ store-samples 0 width col order residuals (now (out .entry)) ⌝ }
 {
@@ -42,6 +42,31 @@ fn store_residuals(out: &mut [u16], width: usize, col: usize, residuals: [u16; 1
         store_residual(out, width, col + c, residuals[k]);
         k += 1;
     }
+}
+
+// The residuals of a block that lies within its row.
+fn store_inner(out: &mut [u16], width: usize, col: usize, residuals: [u16; 16])
+    requires { ⌜ (width ≤ length (now out)) × ((col + 16 ≤ width) × (width ≤ 16_384)) ⌝ }
+    ensures { λ _. ⌜ now (out .exit) ≡ store-samples 0 width col order residuals (now (out .entry)) ⌝ }
+{
+    let mut k: usize = 0;
+    while k < V0Row::BLOCK {
+        let c = stream_column(k);
+        out[col + c] = residuals[k];
+        k += 1;
+    }
+}
+
+// The residuals of the block at a column of a row.
+fn store_residuals(out: &mut [u16], width: usize, col: usize, residuals: [u16; 16])
+    requires { ⌜ (width ≤ length (now out)) × ((col < 16_384) × (width ≤ 16_384)) ⌝ }
+    ensures { λ _. ⌜ now (out .exit) ≡ store-samples 0 width col order residuals (now (out .entry)) ⌝ }
+{
+    if col + V0Row::BLOCK <= width {
+        store_inner(out, width, col, residuals);
+        return;
+    }
+    store_edge(out, width, col, residuals);
 }
 
 // A row from row 2 on, whose first sample is the first of `out`, and its first block's direction the first of `dirs`.

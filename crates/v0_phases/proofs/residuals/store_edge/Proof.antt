@@ -3,8 +3,8 @@ use Prim.Native.Nat.{_-_}
 use native.Mathlib.Omega.{arith}
 use borrow.Author.Needs.{needs}
 use Rattle.v0_phases.proofs.ResidualLaws.{Storing, storing-begun, storing-on, storing-done}
-use Rattle.v0_phases.proofs.residuals.store_residuals.Statement.{statement}
-use Rattle.v0_phases.proofs.residuals.store_residuals.Tie as tie
+use Rattle.v0_phases.proofs.residuals.store_edge.Statement.{statement}
+use Rattle.v0_phases.proofs.residuals.store_edge.Tie as tie
 
 abbrev Inv-loop : tie.InvT-loop
 Inv-loop out₀ width col residuals k₀ out k = Storing width col residuals out₀ out k
@@ -45,8 +45,8 @@ same-length c = search needs
 returns : tie.Need-returns Inv-loop μ-loop
 returns c = storing-done _ _ (c .before .before .before .args .t4) _ _ _ (omega arith) (search needs) (c .before .loop .inv)
 
-pub store-residuals-spec : {M : Type 1} → statement M
-store-residuals-spec =
+pub store-edge-spec : {M : Type 1} → statement M
+store-edge-spec =
     tie.close
     (tie.spec
     Inv-loop
