@@ -2,6 +2,7 @@
 
 use std::fs;
 use std::sync::OnceLock;
+use std::thread;
 use std::time::Instant;
 
 /// One contender: a name, the number of the one that it is compared with, and a run.
@@ -12,9 +13,11 @@ pub struct Contender<'a> {
 }
 
 /// The processor time that this thread has used, in seconds, where the system tells it: other programs on the machine then
-/// count for little. Else the time of day.
+/// count for little. Else the time of day. The system brings its count up to date where a thread yields, and else only some
+/// hundred times a second.
 fn clock() -> f64 {
     static BEGAN: OnceLock<Instant> = OnceLock::new();
+    thread::yield_now();
     let told = fs::read_to_string("/proc/thread-self/schedstat").ok();
     let nanoseconds = told.and_then(|text| text.split(' ').next()?.parse::<u64>().ok());
     match nanoseconds {
