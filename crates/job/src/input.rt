@@ -8,7 +8,7 @@ ghost use Rattle.rules.specs.Job.{marked as Job·marked};
 ghost use Rattle.job.specs.Fields.{offsets-of};
 
 // The number of the two bytes from `at` on, lowest first.
-pub fn half_word(input: &[u8], at: usize) -> usize
+pub(crate) fn half_word(input: &[u8], at: usize) -> usize
     requires { ⌜ at + 2 ≤ length (now input) ⌝ }
     ensures { λ r. ⌜ r ≡ half-word-at (now (input .entry)) at ⌝ }
     ensures { λ r. ⌜ r < 65_536 ⌝ }
@@ -29,7 +29,7 @@ fn both(a: bool, b: bool) -> bool
 }
 
 // The mark "SMR", and after it version 1.
-pub fn marked(input: &[u8]) -> bool
+pub(crate) fn marked(input: &[u8]) -> bool
     requires { ⌜ 9 ≤ length (now input) ⌝ }
     ensures { λ r. ⌜ r ≡ Job·marked (now (input .entry)) ⌝ }
 {
@@ -38,7 +38,7 @@ pub fn marked(input: &[u8]) -> bool
 }
 
 // The offsets of `height` rows, a word each from byte 9 on.
-pub fn read_offsets(input: &[u8], offsets: &mut [u32], height: usize)
+pub(crate) fn read_offsets(input: &[u8], offsets: &mut [u32], height: usize)
     requires { ⌜ (9 + 4 * height ≤ length (now input)) × (height ≤ length (now offsets)) ⌝ }
     ensures { λ _. ⌜ take height (now (offsets .exit)) ≡ offsets-of (now (input .entry)) height ⌝ }
 {

@@ -63,7 +63,7 @@ fn put_numbered(text: &mut [u8], word: &[u8], number: usize) -> usize
 }
 
 // A job fault.
-pub fn put_fault(text: &mut [u8], number: usize) -> usize
+pub(crate) fn put_fault(text: &mut [u8], number: usize) -> usize
     requires { ⌜ Room (now text) 0 (fault number) ⌝ }
     ensures { λ r. ⌜ Appends (now (text .entry)) 0 (fault number) (now (text .exit)) r ⌝ }
 {
@@ -71,7 +71,7 @@ pub fn put_fault(text: &mut [u8], number: usize) -> usize
 }
 
 // A refusal of the decoder.
-pub fn put_refused(text: &mut [u8], number: usize) -> usize
+pub(crate) fn put_refused(text: &mut [u8], number: usize) -> usize
     requires { ⌜ Room (now text) 0 (refused-line number) ⌝ }
     ensures { λ r. ⌜ Appends (now (text .entry)) 0 (refused-line number) (now (text .exit)) r ⌝ }
 {
@@ -149,7 +149,13 @@ fn put_rows(
 }
 
 // The line "done", and the rows.
-pub fn put_frame(text: &mut [u8], width: usize, height: usize, samples: &[u16], map: &[u8]) -> usize
+pub(crate) fn put_frame(
+    text: &mut [u8],
+    width: usize,
+    height: usize,
+    samples: &[u16],
+    map: &[u8],
+) -> usize
     requires { ⌜ (width * height ≤ length (now samples)) × (length (now map) ≡ length (now samples)) ⌝ }
     requires { ⌜ Room (now text) 0 (done-line ++ rows-text width height 0 (now samples) (now map)) ⌝ }
     ensures { λ r. ⌜ Appends (now (text .entry)) 0 (done-line ++ rows-text width height 0 (now (samples .entry)) (now (map .entry))) (now (text .exit)) r ⌝ }

@@ -16,7 +16,7 @@ const V2: u32 = 2;
 
 const NOT_TOLD: u32 = 4_294_967_295;
 
-pub fn least(a: usize, b: usize) -> usize
+pub(crate) fn least(a: usize, b: usize) -> usize
     ensures { λ r. ⌜ (r ≤ a) × (r ≤ b) ⌝ }
 {
     if a < b {
@@ -31,7 +31,7 @@ fn number(bytes: &[u8], at: usize) -> u32 {
     word.value
 }
 
-pub fn word(bytes: &[u8], at: usize) -> usize
+pub(crate) fn word(bytes: &[u8], at: usize) -> usize
     ensures { λ r. ⌜ r < 4_294_967_296 ⌝ }
 {
     let word = bits::fetch(bytes, at as u64);
@@ -46,7 +46,7 @@ fn length_at(call: &[u8]) -> usize
 }
 
 // Where the stream ends, and the samples lent, the seed, the answer and the sum stand.
-pub fn end_at(call: &[u8]) -> usize
+pub(crate) fn end_at(call: &[u8]) -> usize
     ensures { λ r. ⌜ r < 21_474_836_500 ⌝ }
 {
     let at = length_at(call);
@@ -158,7 +158,7 @@ fn differs_lent(call: &[u8], samples: &mut [u16], phases: bool) -> bool {
 }
 
 // Whether answer or samples are other than those recorded.
-pub fn differs(call: &[u8], phases: bool) -> bool {
+pub(crate) fn differs(call: &[u8], phases: bool) -> bool {
     let mut samples = [0u16; SAMPLES];
     differs_lent(call, &mut samples, phases)
 }

@@ -7,7 +7,7 @@ fn next_old(x: usize) -> usize
     (25_173 * (x % 65_536) + 13_849) % 65_536
 }
 
-pub fn fill(samples: &mut [u16], seed: usize) {
+pub(crate) fn fill(samples: &mut [u16], seed: usize) {
     let mut x = seed;
     let mut i: usize = 0;
     while i < samples.len() {
@@ -21,7 +21,7 @@ fn next_sum(sum: usize, sample: u16) -> usize {
     (31 * (sum % 4_294_967_296) + sample as usize) % 4_294_967_296
 }
 
-pub fn sum(samples: &[u16]) -> usize {
+pub(crate) fn sum(samples: &[u16]) -> usize {
     let mut sum = 0;
     let mut i: usize = 0;
     while i < samples.len() {

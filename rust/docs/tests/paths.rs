@@ -6,7 +6,7 @@ use std::fs;
 /// The folders that such a path begins with.
 const FOLDERS: [&str; 5] = ["home", "opt", "root", "tmp", "work"];
 
-/// The first such path in a line. A folder of that name inside another path, as in `a/tmp/b`, is none.
+/// The first such path in a line. A folder of that name that stands deeper in another path is none.
 fn machine_path(line: &str) -> Option<&str> {
     FOLDERS.iter().find_map(|folder| {
         let path = format!("/{folder}/");
