@@ -24,6 +24,7 @@
 mod answer;
 pub mod bits;
 mod decoder;
+mod ffi;
 mod marks;
 mod ph1bits;
 mod v0;
