@@ -69,16 +69,16 @@ fuzz: $(made)/tests/hostile frames
 
 # Frames in a camera's container, to look at and to damage.
 frames:
-	$(cargo_run) --quiet --example frames -- target/made/frames
+	$(cargo_run) --quiet -p streams --example frames -- target/made/frames
 
 # The picture in the README: a frame with upward blocks from row 0 on, decoded over another.
 picture: frames
-	$(cargo_run) --quiet --bin razvolk -- --over target/made/frames/sitting.srw target/made/frames/christening.srw \
+	$(cargo_run) --quiet -p razvolk-tool -- --over target/made/frames/sitting.srw target/made/frames/christening.srw \
 		--png ../docs/marked.png
 
 # Some thousand frames in one process, through one decoder: memory must stay flat.
 soak:
-	$(cargo_run) --quiet --example soak -- 5000
+	$(cargo_run) --quiet -p razvolk --example soak -- 5000
 
 fmt:
 	rt fmt

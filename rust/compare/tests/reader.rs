@@ -1,6 +1,6 @@
 //! The reader's comparison, a quick part of it; and readers that are wrong, each of which it must find out.
 
-use compare::bits::{Reader, Start, compare, razvolk, reference};
+use compare::reader::{Reader, Start, compare, razvolk, reference};
 
 #[test]
 fn razvolk_reads_as_the_rust_does() {

@@ -1,6 +1,11 @@
 //! A stream's bits, written and read: words of 4 bytes, lowest byte first, whose highest bit comes first. Neither leans on
 //! the readers that are compared.
 
+/// How many bits a number takes in two's complement; 0 takes none.
+pub fn length(number: i32) -> u32 {
+    if number == 0 { 0 } else { 33 - (number ^ number >> 31).leading_zeros() }
+}
+
 /// Writes fields one after another.
 #[derive(Default)]
 pub struct Writer {
@@ -93,5 +98,41 @@ impl<'a> Reader<'a> {
     /// Whether one of these words was missing. (No position lies near 2^64 here.)
     pub fn overrun(&self) -> bool {
         self.at > 0 && self.pos() > self.src.len() as u64
+    }
+}
+
+#[cfg(test)]
+mod tests {
+    use super::*;
+
+    #[test]
+    fn what_is_written_is_read() {
+        let fields = [(1, 1), (0x1234_5678, 32), (0, 0), (5, 3), (u32::MAX, 31), (0, 7), (0x7fff, 16)];
+        let mut writer = Writer::default();
+        for (value, n) in fields {
+            writer.put(value, n);
+        }
+        assert_eq!(writer.len(), 12);
+        let bytes = writer.finish();
+        let mut reader = Reader::new(&bytes, 0);
+        for (value, n) in fields {
+            assert_eq!(u64::from(reader.get(n)), u64::from(value) & ((1 << n) - 1), "{n} bits");
+        }
+        assert_eq!((reader.get(6), reader.pos(), reader.overrun()), (0, 12, false));
+        assert_eq!((reader.get(8), reader.pos(), reader.overrun()), (0xff, 16, true));
+    }
+
+    #[test]
+    fn a_number_fits_its_length_and_no_less() {
+        for number in [0, 1, -1, 2, -2, 127, 128, -128, -129, i32::MAX, i32::MIN] {
+            let n = length(number);
+            let read = |n: u32| {
+                let mut writer = Writer::default();
+                writer.put(number as u32, n);
+                Reader::new(&writer.finish(), 0).signed(n)
+            };
+            assert_eq!(read(n), i64::from(number), "{n} bits");
+            assert!(n == 0 || read(n - 1) != i64::from(number), "{number} in {} bits", n - 1);
+        }
     }
 }

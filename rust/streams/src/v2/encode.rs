@@ -1,29 +1,29 @@
 //! A V2 encoder: the better of repeating and of motion 3 for each block, and the lengths that take the fewest bits.
 
-use crate::photo::bits;
-use compare::random::Random;
-use compare::stream::Writer;
-use compare::v2::streams::{Header, Stream, colour};
+use super::any::Header;
+use super::{colour, fresh_length, position};
+use crate::bits::{self, Writer};
+use crate::random::Random;
+use crate::{Frame, Version};
 
-/// Encodes an image of 14 bits a sample, whose width is a multiple of 16.
-pub fn encode(image: &[u16], width: usize, height: usize) -> Stream {
+/// Encodes an image of 14 bits a sample. The last columns, which make no whole block, are not coded.
+pub fn encode(image: &[u16], width: usize, height: usize) -> Frame {
     let header = Header { depth: 14, options: 0, initial: 4_000 };
     let mut writer = Writer::default();
     header.write(&mut Random::new(1), &mut writer);
-    let mut rows = Vec::new();
+    let mut offsets = Vec::new();
     for row in 0..height {
-        rows.push(writer.len());
+        offsets.push(writer.len() as u32);
         encode_row(image, width, row, &header, &mut writer);
         writer.align(16);
     }
-    rows.push(writer.len());
-    Stream { src: writer.finish(), width, height, rows }
+    Frame { version: Version::V2, width, height, stream: writer.finish(), offsets }
 }
 
 fn encode_row(image: &[u16], width: usize, row: usize, header: &Header, writer: &mut Writer) {
-    let mut mode = [[if row < 2 { 7 } else { 4 }; 2]; 3];
+    let mut mode = [[fresh_length(row); 2]; 3];
     let mut motion = 7;
-    for col in (0..width).step_by(16) {
+    for col in (0..width / 16 * 16).step_by(16) {
         if col % 64 == 0 {
             writer.put(0, 2);
         }
@@ -49,12 +49,12 @@ fn differences(image: &[u16], width: usize, row: usize, col: usize, motion: u32,
     let first = row * width + col;
     let mut differences = [0; 16];
     for (k, difference) in differences.iter_mut().enumerate() {
-        let i = if row % 2 == 1 { 2 * (k % 8) + 1 - k / 8 } else { 2 * (k % 8) + k / 8 };
+        let i = position(row, k);
         let base = match motion {
             7 if col == 0 => header.initial as u16,
             7 => image[first + i % 2 - 2],
             _ if (row + i) % 2 == 1 => image[first + i - 2 * width],
-            _ if i % 2 == 0 => image[first + i - width + 1],
+            _ if i.is_multiple_of(2) => image[first + i - width + 1],
             _ => image[first + i - width - 1],
         };
         *difference = i32::from(image[first + i]) - i32::from(base);
@@ -65,7 +65,7 @@ fn differences(image: &[u16], width: usize, row: usize, col: usize, motion: u32,
 fn encode_differences(differences: &[i32; 16], row: usize, mode: &mut [[u32; 2]; 3], writer: &mut Writer) {
     let mut told = [(0, 0); 4];
     for (j, four) in differences.chunks_exact(4).enumerate() {
-        let need = four.iter().map(|&d| bits(d)).max().unwrap_or(0);
+        let need = four.iter().map(|&d| bits::length(d)).max().unwrap_or(0);
         let mode = &mut mode[colour(row, j)];
         let near = [(0, mode[0]), (1, mode[0] + 1), (2, mode[0].wrapping_sub(1))];
         let near = near.into_iter().filter(|&(_, length)| length >= need && length <= 15);

@@ -1,38 +1,9 @@
 //! V2 streams: a writer that follows the rules, so that a stream is accepted or is refused just where it is meant to be.
 
-use crate::call::Ask;
+use super::{colour, fresh_length};
+use crate::bits::Writer;
 use crate::random::Random;
-use crate::stream::Writer;
-
-/// A stream with its frame's size.
-#[derive(Clone, Debug)]
-pub struct Stream {
-    pub src: Vec<u8>,
-    pub width: usize,
-    pub height: usize,
-    /// Where each row starts, and last where the stream ends.
-    pub rows: Vec<usize>,
-}
-
-impl Stream {
-    pub fn ask(&self) -> Ask<'_> {
-        Ask { src: &self.src, offsets: &[], width: self.width, height: self.height }
-    }
-
-    /// The stream broken off in a row.
-    pub fn cut(&self, random: &mut Random, row: usize) -> Stream {
-        let (start, end) = (self.rows[row], self.rows[row + 1]);
-        Stream { src: self.src[..start + random.index(end - start)].to_vec(), ..self.clone() }
-    }
-
-    /// The stream with a bit turned in a row.
-    pub fn damaged(&self, random: &mut Random, row: usize) -> Stream {
-        let mut other = self.clone();
-        let at = self.rows[row] + random.index(self.rows[row + 1] - self.rows[row]);
-        other.src[at] ^= 1 << random.below(8);
-        other
-    }
-}
+use crate::{Frame, Version};
 
 /// The fields of a header that count.
 #[derive(Clone, Copy, Debug)]
@@ -112,11 +83,6 @@ pub struct Planted {
     pub block: usize,
 }
 
-/// The colour of length `j`.
-pub fn colour(row: usize, j: usize) -> usize {
-    if row % 2 == 1 { j / 2 } else { [2, 2, 0, 0][j] }
-}
-
 /// The state of a row, as a decoder has it.
 struct Row {
     row: usize,
@@ -125,14 +91,13 @@ struct Row {
 }
 
 /// Writes a stream; the rows after a planted refusal are as if it were not there.
-pub fn written(random: &mut Random, style: &Style, width: usize, height: usize, planted: Option<Planted>) -> Stream {
+pub fn written(random: &mut Random, style: &Style, width: usize, height: usize, planted: Option<Planted>) -> Frame {
     let mut writer = Writer::default();
     style.header.write(random, &mut writer);
-    let mut rows = Vec::with_capacity(height + 1);
+    let mut offsets = Vec::with_capacity(height);
     for row in 0..height {
-        rows.push(writer.len());
-        let fresh = if row < 2 { 7 } else { 4 };
-        let mut state = Row { row, motion: 7, mode: [[fresh; 2]; 3] };
+        offsets.push(writer.len() as u32);
+        let mut state = Row { row, motion: 7, mode: [[fresh_length(row); 2]; 3] };
         for block in 0..width / 16 {
             let here = planted.filter(|p| p.row == row && p.block == block).map(|p| p.number);
             let soon = planted.is_some_and(|p| p.number == 7 && p.row == row && p.block == block + 1);
@@ -142,8 +107,7 @@ pub fn written(random: &mut Random, style: &Style, width: usize, height: usize, 
         }
         writer.align(16);
     }
-    rows.push(writer.len());
-    Stream { src: writer.finish(), width, height, rows }
+    Frame { version: Version::V2, width, height, stream: writer.finish(), offsets }
 }
 
 fn write_scale(random: &mut Random, style: &Style, writer: &mut Writer, col: usize) {

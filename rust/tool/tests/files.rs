@@ -1,17 +1,19 @@
 //! Files that are made, damaged, and made to do harm.
 
-use crate::make::{LONG, Made, SHORT, directory, srw, v0, v2};
-use crate::report;
-use crate::scenes::{christening, sitting};
-use crate::seen::seen;
-use crate::srw::{Coding, Fault, Frame, frame};
-use crate::worker::Worker;
 use razvolk::Refusal;
+use razvolk_tool::look::seen;
+use razvolk_tool::report;
+use razvolk_tool::srw::{Coding, Fault, Frame, frame};
+use razvolk_tool::worker::Worker;
+use streams::images::{christening, sitting};
+use streams::random::Random;
+use streams::srw::{self, LONG, SHORT, directory};
+use streams::{v0, v2};
 
 /// A V0 frame of 20 by 5 in its file; the table stands right before the strip.
-fn small() -> (Made, Vec<u8>) {
-    let made = v0(&christening(20, 5), 20, 5, 1);
-    let file = srw(&made);
+fn small() -> (streams::Frame, Vec<u8>) {
+    let made = v0::encode::with_band(&christening(20, 5), 20, 5, 1);
+    let file = srw::file(&made);
     (made, file)
 }
 
@@ -19,8 +21,8 @@ fn small() -> (Made, Vec<u8>) {
 fn a_frame_is_found_and_decoded() {
     let (width, height) = (320, 200);
     let image = sitting(width, height);
-    let made = v0(&image, width, height, 0);
-    let file = srw(&made);
+    let made = v0::encode(&image, width, height);
+    let file = srw::file(&made);
     let found = frame(&file).expect("a frame");
     let coding = Coding::V0(made.offsets.clone());
     assert_eq!(found, Frame { coding, width, height, stream: &made.stream, missing: 0 });
@@ -33,8 +35,9 @@ fn a_frame_is_found_and_decoded() {
 #[test]
 fn a_band_of_another_frame_is_marked() {
     let (width, height) = (320, 200);
-    let made = [v0(&sitting(width, height), width, height, 0), v0(&christening(width, height), width, height, 24)];
-    let files = made.map(|made| srw(&made));
+    let first = v0::encode(&sitting(width, height), width, height);
+    let made = [first, v0::encode::with_band(&christening(width, height), width, height, 24)];
+    let files = made.map(|made| srw::file(&made));
     let [over, band] = [0, 1].map(|i| frame(&files[i]).expect("a frame"));
     let mut worker = Worker::of(&[&over, &band]).expect("few samples");
     assert_eq!([worker.decode(&over), worker.decode(&band)], [Ok(()), Ok(())]);
@@ -50,7 +53,7 @@ fn a_band_of_another_frame_is_marked() {
 #[test]
 fn a_v2_frame_is_found_and_decoded() {
     let image = christening(646, 436);
-    let file = srw(&v2(&image, 646, 436));
+    let file = srw::file(&v2::encode(&image, 646, 436));
     let found = frame(&file).expect("a frame");
     assert_eq!((&found.coding, found.width, found.height), (&Coding::V2, 646, 436));
     let mut worker = Worker::of(&[&found]).expect("few samples");
@@ -121,27 +124,23 @@ fn every_byte_may_be_wrong() {
 #[test]
 fn many_bytes_may_be_wrong() {
     let (_, file) = small();
-    let mut state = 0x9e37_79b9_7f4a_7c15_u64;
-    let mut next = |below: usize| {
-        state = state.wrapping_mul(0x5851_f42d_4c95_7f2d).wrapping_add(1);
-        (state >> 33) as usize % below
-    };
+    let mut random = Random::new(1);
     let mut faults = 0;
     for _ in 0..20_000 {
         let mut damaged = file.clone();
-        for _ in 0..=next(6) {
+        for _ in 0..=random.below(6) {
             // Mostly in the directories.
-            let within = if next(4) == 0 { file.len() } else { 142 };
-            let at = next(within);
-            damaged[at] = match next(4) {
+            let within = if random.once_in(4) { file.len() } else { 142 };
+            let at = random.index(within);
+            damaged[at] = match random.below(4) {
                 0 => 0,
                 1 => 0xff,
-                2 => next(256) as u8,
-                _ => damaged[at] ^ 1 << next(8),
+                2 => random.below(256) as u8,
+                _ => damaged[at] ^ 1 << random.below(8),
             };
         }
-        if next(4) == 0 {
-            damaged.truncate(next(file.len()));
+        if random.once_in(4) {
+            damaged.truncate(random.index(file.len()));
         }
         faults += usize::from(seen(&damaged).is_err());
     }

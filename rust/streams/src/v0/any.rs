@@ -1,23 +1,9 @@
-//! V0 frames: written ones that use everything, damaged, random, and constant ones.
+//! V0 frames of every kind: written ones that use everything, damaged, random, and constant ones.
 
-use crate::call::Ask;
+use super::{fresh_length, order, skipped};
+use crate::bits::Writer;
 use crate::random::Random;
-use crate::stream::Writer;
-
-/// A frame to decode.
-#[derive(Clone, Debug, PartialEq, Eq)]
-pub struct Frame {
-    pub src: Vec<u8>,
-    pub offsets: Vec<u32>,
-    pub width: usize,
-    pub height: usize,
-}
-
-impl Frame {
-    pub fn ask(&self) -> Ask<'_> {
-        Ask { src: &self.src, offsets: &self.offsets, width: self.width, height: self.height }
-    }
-}
+use crate::{Frame, Version};
 
 /// How a frame's blocks are written.
 struct Style {
@@ -50,26 +36,9 @@ impl Style {
     }
 }
 
-/// Whether a sample is skipped.
-pub fn skipped(width: usize, height: usize, row: usize, col: usize, c: usize, direction: u32) -> bool {
-    let limit = width * (height + 7);
-    let place = row * width + col + c;
-    if direction == 0 {
-        let before = 2 - c % 2;
-        return col > 0 && (place >= limit || row * width + col - before >= limit);
-    }
-    let up = 1 + c % 2;
-    row < up || place >= limit || place - up * width >= limit
-}
-
-/// The samples of a block in the order of the stream, each with the number of its length.
-pub fn order() -> impl Iterator<Item = (usize, usize)> + Clone {
-    (0..16).step_by(2).chain((1..16).step_by(2)).map(|c| (c, 2 * (c % 2) + c / 8))
-}
-
 fn write_row(random: &mut Random, style: &Style, width: usize, height: usize, row: usize) -> Vec<u8> {
     let mut writer = Writer::default();
-    let mut lengths = [if row < 2 { 7i32 } else { 4 }; 4];
+    let mut lengths = [fresh_length(row); 4];
     for col in (0..width).step_by(16) {
         let direction = u32::from(random.below(8) < style.up[usize::from(row >= 2)]);
         writer.put(direction, 1);
@@ -99,12 +68,11 @@ fn write_row(random: &mut Random, style: &Style, width: usize, height: usize, ro
 pub fn written(random: &mut Random, width: usize, height: usize) -> Frame {
     let style = Style::any(random);
     let gap = random.below(4);
-    let mut frame = Frame { src: Vec::new(), offsets: Vec::new(), width, height };
+    let mut frame = Frame::new(Version::V0, width, height);
     for row in 0..height {
         let bytes = random.below(gap + 1) as usize;
-        frame.src.extend(random.bytes(bytes));
-        frame.offsets.push(frame.src.len() as u32);
-        frame.src.extend(write_row(random, &style, width, height, row));
+        frame.stream.extend(random.bytes(bytes));
+        frame.push_row(&write_row(random, &style, width, height, row));
     }
     frame
 }
@@ -122,10 +90,10 @@ fn offset(random: &mut Random, len: usize) -> u32 {
 pub fn damage(random: &mut Random, frame: &mut Frame) {
     for _ in 0..=random.below(3) {
         match random.below(6) {
-            0 => frame.src.truncate(random.index(frame.src.len() + 1)),
+            0 => frame.stream.truncate(random.index(frame.stream.len() + 1)),
             1 if frame.height > 0 => {
                 let row = random.index(frame.height);
-                frame.offsets[row] = offset(random, frame.src.len());
+                frame.offsets[row] = offset(random, frame.stream.len());
             }
             2 if frame.height > 0 => {
                 let (one, other) = (random.index(frame.height), random.index(frame.height));
@@ -135,11 +103,11 @@ pub fn damage(random: &mut Random, frame: &mut Frame) {
                 let (one, other) = (random.index(frame.height), random.index(frame.height));
                 frame.offsets[one] = frame.offsets[other];
             }
-            _ if !frame.src.is_empty() => {
-                let at = random.index(frame.src.len());
-                frame.src[at] ^= 1 << random.below(8);
+            _ if !frame.stream.is_empty() => {
+                let at = random.index(frame.stream.len());
+                frame.stream[at] ^= 1 << random.below(8);
             }
-            _ => frame.src.push(random.number() as u8),
+            _ => frame.stream.push(random.number() as u8),
         }
     }
 }
@@ -150,14 +118,14 @@ pub fn any(random: &mut Random, width: usize, height: usize) -> Frame {
     let mut frame = match random.below(16) {
         kind @ 0..=3 => {
             let len = random.index(blocks * 24 + 8);
-            let src = match kind {
+            let stream = match kind {
                 0 => Vec::new(),
                 1 => vec![0xff; len],
                 2 => vec![0; len],
                 _ => random.bytes(len),
             };
             let offsets = (0..height).map(|_| offset(random, len)).collect();
-            Frame { src, offsets, width, height }
+            Frame { version: Version::V0, width, height, stream, offsets }
         }
         4..=8 => {
             let mut frame = written(random, width, height);

@@ -1,7 +1,8 @@
 //! What is asked for on the command line.
 
+use crate::picture::Form;
 use std::ffi::OsString;
-use std::path::PathBuf;
+use std::path::{Path, PathBuf};
 
 pub const HELP: &str = "\
 razvolk: decodes a Samsung raw frame and shows which of its samples rest on what the buffer held before
@@ -39,6 +40,19 @@ pub struct Options {
     pub pgm: Option<PathBuf>,
     pub png: Option<PathBuf>,
     pub white: Option<u16>,
+}
+
+impl Options {
+    /// The file with the offsets of a bare stream.
+    pub fn offsets(&self) -> Option<&Path> {
+        self.bare.as_ref()?.offsets.as_deref()
+    }
+
+    /// What is to be written, and where.
+    pub fn outputs(&self) -> Vec<(Form, &Path)> {
+        let all = [(Form::Pgm, &self.pgm), (Form::Png, &self.png)];
+        all.into_iter().filter_map(|(form, path)| Some((form, path.as_deref()?))).collect()
+    }
 }
 
 #[derive(Clone, Debug, PartialEq, Eq)]

@@ -2,8 +2,9 @@
 //! compared after each step; the unread bits, which the Rust keeps to itself, show in the reads that follow. A state with more
 //! than 31 of them has no counterpart there.
 
-use crate::random::Random;
+use crate::call::Difference;
 use std::fmt;
+use streams::random::Random;
 
 /// What both readers offer.
 pub trait Reader {
@@ -73,7 +74,7 @@ fn shown(reader: &mut dyn Reader, step: Step) -> Shown {
 
 /// What was compared.
 #[derive(Debug)]
-pub struct Compared {
+pub struct Seen {
     pub seed: u64,
     pub reads: u64,
     /// How many reads were of 0 to 40 bits, and last of 2^32 - 1.
@@ -85,33 +86,12 @@ pub struct Compared {
     pub wrapped: u64,
 }
 
-impl fmt::Display for Compared {
+impl fmt::Display for Seen {
     fn fmt(&self, f: &mut fmt::Formatter<'_>) -> fmt::Result {
-        let Compared { seed, reads, streams, resets, overrun, wrapped, .. } = self;
+        let Seen { seed, reads, streams, resets, overrun, wrapped, .. } = self;
         writeln!(f, "reader, seed {seed}: {streams} streams, {resets} resets")?;
         writeln!(f, "reader: the overrun was set after {overrun} reads, {wrapped} reads took the position past 2^64")?;
         write!(f, "reader: {reads} reads compared with the Rust, no difference")
-    }
-}
-
-/// A step at which the two readers were not alike.
-#[derive(Debug)]
-pub struct Difference {
-    pub seed: u64,
-    pub reads: u64,
-    pub src: Vec<u8>,
-    pub start: u64,
-    /// The steps from the start on, the last being the one that differs.
-    pub steps: Vec<Step>,
-    pub shown: [Shown; 2],
-}
-
-impl fmt::Display for Difference {
-    fn fmt(&self, f: &mut fmt::Formatter<'_>) -> fmt::Result {
-        let Difference { seed, reads, src, start, steps, shown: [one, other] } = self;
-        writeln!(f, "reader, seed {seed}: a difference after {reads} reads")?;
-        writeln!(f, "stream {src:02x?}, from position {start:#x}: {steps:x?}")?;
-        write!(f, "value, position and overrun are {one:x?} and {other:x?}")
     }
 }
 
@@ -143,22 +123,18 @@ fn width(random: &mut Random) -> u32 {
 }
 
 /// Takes two readers through the same steps until `reads` reads are compared, or up to the first difference.
-pub fn compare(one: Start, other: Start, seed: u64, reads: u64) -> Result<Compared, Box<Difference>> {
+pub fn compare(one: Start, other: Start, seed: u64, reads: u64) -> Result<Seen, Difference> {
     let mut random = Random::new(seed);
-    let mut seen = Compared { seed, reads: 0, widths: [0; 42], streams: 0, resets: 0, overrun: 0, wrapped: 0 };
+    let mut seen = Seen { seed, reads: 0, widths: [0; 42], streams: 0, resets: 0, overrun: 0, wrapped: 0 };
     while seen.reads < reads {
-        over_a_stream(one, other, &mut random, &mut seen, reads)?;
+        over_a_stream(one, other, &mut random, &mut seen, reads).map_err(|what| {
+            Difference(format!("reader, seed {seed}: a difference after {} reads\n{what}", seen.reads))
+        })?;
     }
     Ok(seen)
 }
 
-fn over_a_stream(
-    one: Start,
-    other: Start,
-    random: &mut Random,
-    seen: &mut Compared,
-    reads: u64,
-) -> Result<(), Box<Difference>> {
+fn over_a_stream(one: Start, other: Start, random: &mut Random, seen: &mut Seen, reads: u64) -> Result<(), String> {
     let src = stream(random);
     let start = position(random, src.len());
     let (mut one, mut other) = (one(&src, start), other(&src, start));
@@ -171,18 +147,12 @@ fn over_a_stream(
             _ => Step::Get(width(random)),
         };
         steps.push(step);
-        let shown = [shown(&mut *one, step), shown(&mut *other, step)];
-        if shown[0] != shown[1] {
-            return Err(Box::new(Difference {
-                seed: seen.seed,
-                reads: seen.reads,
-                src: src.clone(),
-                start,
-                steps,
-                shown,
-            }));
+        let (one, other) = (shown(&mut *one, step), shown(&mut *other, step));
+        if one != other {
+            let found = format!("value, position and overrun are {one:x?} and {other:x?}");
+            return Err(format!("stream {src:02x?}, from position {start:#x}: {steps:x?}\n{found}"));
         }
-        let (_, after, overrun) = shown[1];
+        let (_, after, overrun) = other;
         match step {
             Step::ResetAt(_) => seen.resets += 1,
             Step::Get(n) => {
