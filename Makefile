@@ -74,7 +74,7 @@ frames:
 # The picture in the README: a frame with upward blocks from row 0 on, decoded over another.
 picture: frames
 	$(cargo_run) --quiet -p razvolk-tool -- --over target/made/frames/sitting.srw target/made/frames/christening.srw \
-		--png ../docs/marked.png
+		--force --png ../docs/marked.png
 
 # Some thousand frames in one process, through one decoder: memory must stay flat.
 soak:

@@ -1,11 +1,13 @@
 //! The tool `razvolk` as a library, so that its tests and the fuzzer run what its user runs. [`main`] reads the command line
 //! ([`options`]) and the files that it names ([`input`]), finds the frame ([`srw`]), decodes it and tells what it rests on
-//! ([`look`], [`worker`], [`report`]), and writes what is asked for ([`picture`]: [`pgm`], [`png`]).
+//! ([`look`], [`worker`], [`report`]), and writes what is asked for ([`picture`]: [`pgm`], [`png`]) without harm to a file
+//! ([`output`]).
 
 mod deflate;
 pub mod input;
 pub mod look;
 pub mod options;
+pub mod output;
 pub mod pgm;
 pub mod picture;
 pub mod png;
@@ -13,12 +15,12 @@ pub mod report;
 pub mod srw;
 pub mod worker;
 
-use input::{Input, fault};
+use input::Input;
 use look::Look;
 use options::{Asked, Bare, Options};
+use output::{Place, Staged};
 use srw::{Coding, Frame};
 use std::ffi::OsString;
-use std::fs;
 use std::io::{self, Write};
 use std::process::ExitCode;
 
@@ -40,21 +42,27 @@ fn told(text: &str) -> Result<(), String> {
     io::stdout().write_all(text.as_bytes()).map_err(|e| format!("standard output: {e}"))
 }
 
-/// Decodes and tells, and writes what is asked for.
+/// Decodes and tells, and writes what is asked for: nothing before it is known that no output harms a file, and all outputs
+/// beside their places before the first is moved there.
 fn look(options: &Options) -> Result<ExitCode, String> {
     let file = Input::read(&options.file)?;
     let over = options.over.as_deref().map(Input::read).transpose()?;
     let table = options.offsets().map(Input::read).transpose()?;
+    let inputs: Vec<&Input> = [Some(&file), over.as_ref(), table.as_ref()].into_iter().flatten().collect();
+    let outputs = options.outputs();
+    let places = output::places(outputs.iter().map(|(_, path)| *path), &inputs, options.force)?;
     let frame = frame(options, &file, table.as_ref())?;
     let before = over.as_ref().map(|over| Ok::<_, String>((over.name(), camera(over)?))).transpose()?;
     let look = Look::at(&file.name(), &frame, before.as_ref().map(|(name, frame)| (name.as_str(), frame)))?;
     told(&look.text)?;
     if let Some((samples, marks)) = look.decoded() {
-        for (form, path) in options.outputs() {
+        let stage = |((form, _), place): (_, Place)| {
             let bytes = picture::file(form, samples, marks, frame.width, options.white);
-            let bytes = bytes.ok_or_else(|| fault(path, "a frame of no samples makes no picture"))?;
-            fs::write(path, bytes).map_err(|e| fault(path, e))?;
-        }
+            let bytes = bytes.ok_or_else(|| place.fault("a frame of no samples makes no picture"))?;
+            place.stage(&bytes)
+        };
+        let staged = outputs.into_iter().zip(places).map(stage).collect::<Result<Vec<Staged>, String>>()?;
+        staged.into_iter().try_for_each(Staged::put)?;
     }
     Ok(ExitCode::from(u8::from(look.answer.is_err())))
 }

@@ -17,6 +17,7 @@ usage: razvolk [OPTIONS] FILE.srw
   --over FILE.srw  decode this frame first, into the same buffer, as a worker would; else the buffer holds zeros
   --pgm FILE       write the samples, 16 bits each
   --png FILE       write a picture in which samples that rest on old values are tinted red
+  --force          replace files of these names; a file that is read is never written over
   --white NUMBER   the sample that is white in the picture (the largest, if none is told)
   --help, --version
 
@@ -39,6 +40,7 @@ pub struct Options {
     pub over: Option<PathBuf>,
     pub pgm: Option<PathBuf>,
     pub png: Option<PathBuf>,
+    pub force: bool,
     pub white: Option<u16>,
 }
 
@@ -79,6 +81,7 @@ pub fn read(words: impl IntoIterator<Item = OsString>) -> Result<Asked, String> 
             "--over" => once(&name, &mut options.over, value()?.into())?,
             "--pgm" => once(&name, &mut options.pgm, value()?.into())?,
             "--png" => once(&name, &mut options.png, value()?.into())?,
+            "--force" => options.force = true,
             "--white" => once(&name, &mut options.white, white(&value()?)?)?,
             "--" => files.extend(words.by_ref()),
             _ if name.starts_with('-') => return Err(format!("there is no option {name}")),
@@ -142,9 +145,10 @@ mod tests {
             over: Some("b.srw".into()),
             pgm: Some("c".into()),
             png: Some("d".into()),
+            force: true,
             white: Some(4_095),
         };
-        let line = "--over b.srw a.srw --pgm c --png d --white 4095";
+        let line = "--over b.srw a.srw --force --pgm c --png d --white 4095";
         assert_eq!(asked(line), Ok(Asked::Look(options)));
         assert_eq!(asked("-- --x"), Ok(Asked::Look(Options { file: "--x".into(), ..Options::default() })));
         assert_eq!((asked("a --help"), asked("--version")), (Ok(Asked::Help), Ok(Asked::Version)));

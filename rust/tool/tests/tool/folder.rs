@@ -29,6 +29,14 @@ impl Folder {
         fs::read(self.0.join(name)).ok()
     }
 
+    /// The names of all files, in their order.
+    pub fn names(&self) -> Vec<String> {
+        let entries = fs::read_dir(&self.0).expect("a folder").map(|entry| entry.expect("a file").file_name());
+        let mut names: Vec<String> = entries.map(|name| name.to_string_lossy().into_owned()).collect();
+        names.sort();
+        names
+    }
+
     /// Runs the tool in the folder.
     pub fn run(&self, line: &str) -> Ran {
         self.ran(Command::new(env!("CARGO_BIN_EXE_razvolk")).args(line.split_whitespace()))

@@ -2,3 +2,4 @@
 
 mod folder;
 mod looks;
+mod outputs;
