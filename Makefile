@@ -13,11 +13,11 @@ run:
 test:
 	bash .ci/run
 
-# Every wrong edit that the proofs must refuse, also those of edits/, which cost too much for the gate.
+# Every wrong edit that the proofs must refuse, also those of edits/, which cost too much for the gate (edits/README.md).
 refuse:
 	rm -rf target/refuse && mkdir -p target/refuse
 	cp -r crates crates.txt target/refuse/
-	for crate in edits/*; do to=target/refuse/crates/$${crate#edits/}/must-fail; mkdir -p $$to; cp $$crate/*.edit $$to/; done
+	for crate in edits/*/; do to=target/refuse/crates/$${crate#edits/}must-fail; mkdir -p $$to; cp $$crate*.edit $$to/; done
 	cd target/refuse && rt must-fail
 
 # The long comparison with the Rust, ten to twenty minutes.

@@ -1,6 +1,6 @@
 //! The rules in words: docs/RULES.md names every definition of crates/rules/specs, and no other.
 
-use std::collections::BTreeSet;
+use crate::markdown::names;
 
 /// The public definitions of an antt file: functions, records and data types. Not counted are `mod`, `use` and rule sets, and
 /// what belongs to a record or a data type, its fields and constructors.
@@ -56,18 +56,20 @@ fn without_comments(antt: &str) -> String {
     kept
 }
 
-/// The definitions that a document cites: in backticks, `File.name`, where File begins with a capital. A file's own name, as
-/// README.md, is no citation, and neither is what stands in a block of code.
+/// The definitions that a document cites, each once: in backticks, `File.name`, where File begins with a capital. A file's own
+/// name, as README.md, is no citation, and neither is what stands in a block of code.
 pub fn citations(markdown: &str) -> Vec<String> {
-    let mut cited = Vec::new();
+    let mut cited: Vec<String> = Vec::new();
     let mut code = false;
     for line in markdown.lines() {
         if line.trim_start().starts_with("```") {
             code = !code;
         } else if !code {
-            cited.extend(line.split('`').skip(1).step_by(2).filter(|text| is_citation(text)).map(str::to_string));
+            cited.extend(names(line).into_iter().filter(|text| is_citation(text)).map(str::to_string));
         }
     }
+    cited.sort();
+    cited.dedup();
     cited
 }
 
@@ -78,18 +80,6 @@ fn is_citation(text: &str) -> bool {
         && !name.is_empty()
         && !name.contains(|c: char| c.is_whitespace() || c == '.')
         && !["md", "rs", "rt", "antt", "txt", "toml", "h", "c"].contains(&name)
-}
-
-/// What keeps a document and the definitions apart, a line for each name. The definitions come with their file's stem.
-pub fn differences(markdown: &str, specs: &[(String, String)]) -> Vec<String> {
-    let defined: BTreeSet<String> = specs
-        .iter()
-        .flat_map(|(stem, antt)| definitions(antt).into_iter().map(move |n| format!("{stem}.{n}")))
-        .collect();
-    let cited: BTreeSet<String> = citations(markdown).into_iter().collect();
-    let missing = defined.difference(&cited).map(|name| format!("`{name}` is defined and not cited"));
-    let unknown = cited.difference(&defined).map(|name| format!("`{name}` is cited and not defined"));
-    missing.chain(unknown).collect()
 }
 
 #[cfg(test)]
@@ -129,10 +119,6 @@ module _ {A : Type 0} (k : Kind A) where
 pub _⊕_ : ℕ → ℕ → ℕ
 ";
 
-    fn spec(text: &str) -> Vec<(String, String)> {
-        vec![("Reader".to_string(), text.to_string())]
-    }
-
     #[test]
     fn definitions_are_found_and_fields_are_not() {
         let expected = ["word-at", "both", "Fields", "Base", "put", "Joined", "play-each", "_⊕_"];
@@ -141,29 +127,8 @@ pub _⊕_ : ℕ → ℕ → ℕ
 
     #[test]
     fn citations_are_file_and_name() {
-        let text = "A rule (`Reader.read`, `V2.header-of`) of `README.md`, `count`, `Reader. x` and `Bits::new`.\n\
+        let text = "A rule (`Reader.read`, `V2.header-of`, again `Reader.read`) of `README.md`, `count`, `Reader. x` and `Bits::new`.\n\
             ```\n`Code.block`\n```\nThen `Reader._⊕_`; `samsung.rs`, `a.B` and `Reader.a.b` are none.";
-        assert_eq!(citations(text), ["Reader.read", "V2.header-of", "Reader._⊕_"]);
-    }
-
-    #[test]
-    fn a_document_that_names_each_definition_is_held() {
-        let none: [String; 0] = [];
-        assert_eq!(
-            differences("`Reader.a` and `Reader.B`, again `Reader.a`", &spec("pub a : ℕ\npub data B : Type 0")),
-            none
-        );
-    }
-
-    #[test]
-    fn a_definition_that_is_not_cited_is_named() {
-        let found = differences("`Reader.a`", &spec("pub a : ℕ\nabbrev pub b : ℕ"));
-        assert_eq!(found, ["`Reader.b` is defined and not cited"]);
-    }
-
-    #[test]
-    fn a_citation_of_nothing_is_named() {
-        let found = differences("`Reader.a`, `Reader.gone` and `Writer.a`", &spec("pub a : ℕ\ngone : ℕ"));
-        assert_eq!(found, ["`Reader.gone` is cited and not defined", "`Writer.a` is cited and not defined"]);
+        assert_eq!(citations(text), ["Reader._⊕_", "Reader.read", "V2.header-of"]);
     }
 }

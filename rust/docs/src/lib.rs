@@ -3,10 +3,12 @@
 
 pub mod answers;
 pub mod definitions;
+pub mod edits;
 pub mod interface;
 pub mod layers;
 pub mod markdown;
 
+use std::fmt::Display;
 use std::path::{Path, PathBuf};
 use std::{fs, io};
 
@@ -42,9 +44,15 @@ pub fn files(folder: &Path, leave_out: &dyn Fn(&Path) -> bool) -> io::Result<Vec
     Ok(found)
 }
 
-/// What keeps one list from another, under the other's name: what is missing or another in it, and what it has besides.
-pub fn differences<T: PartialEq + std::fmt::Display>(expected: &[T], place: &str, found: &[T]) -> Vec<String> {
+/// What keeps a place's list from the one that it is held to: what it does not have, and what it has besides.
+pub fn differences<T: PartialEq + Display>(expected: &[T], place: &str, found: &[T]) -> Vec<String> {
     let missing = expected.iter().filter(|one| !found.contains(one)).map(|one| format!("{place} has no \"{one}\""));
     let besides = found.iter().filter(|one| !expected.contains(one)).map(|one| format!("{place} has \"{one}\""));
     missing.chain(besides).collect()
+}
+
+/// Fails with the differences, if there are any.
+pub fn hold<T: PartialEq + Display>(expected: &[T], place: &str, found: &[T]) {
+    let differences = differences(expected, place, found);
+    assert!(differences.is_empty(), "{}", differences.join("\n"));
 }

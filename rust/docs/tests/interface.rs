@@ -1,11 +1,7 @@
 //! What the Rattle crate `razvolk` exports is what the C header and the Rust crate declare, and what the tests in C call.
 
 use docs::interface::{declared, exports, functions_of_c, structures, structures_of_c};
-use docs::{differences, text, texts};
-
-fn assert_none(found: Vec<String>) {
-    assert!(found.is_empty(), "{}", found.join("\n"));
-}
+use docs::{hold, text, texts};
 
 /// What a reading finds in all files of a kind below a folder.
 fn all(folder: &str, extension: &str, read: fn(&str) -> Vec<String>) -> Vec<String> {
@@ -16,16 +12,16 @@ fn all(folder: &str, extension: &str, read: fn(&str) -> Vec<String>) -> Vec<Stri
 fn the_functions_are_declared_as_they_are_exported() {
     let exports = all("crates/razvolk/src", "rt", exports);
     assert!(exports.len() > 7, "{exports:?}");
-    assert_none(differences(&exports, "include/razvolk.h", &functions_of_c(&text("include/razvolk.h"))));
-    assert_none(differences(&exports, "rust/src/ffi.rs", &declared(&text("rust/src/ffi.rs"))));
+    hold(&exports, "include/razvolk.h", &functions_of_c(&text("include/razvolk.h")));
+    hold(&exports, "rust/src/ffi.rs", &declared(&text("rust/src/ffi.rs")));
 }
 
 #[test]
 fn the_structures_are_declared_as_they_are_laid_out() {
     let laid_out = all("crates", "rt", structures);
     assert!(laid_out.len() > 2, "{laid_out:?}");
-    assert_none(differences(&laid_out, "include/razvolk.h", &structures_of_c(&text("include/razvolk.h"))));
-    assert_none(differences(&laid_out, "rust/src", &all("rust/src", "rs", structures)));
+    hold(&laid_out, "include/razvolk.h", &structures_of_c(&text("include/razvolk.h")));
+    hold(&laid_out, "rust/src", &all("rust/src", "rs", structures));
 }
 
 #[test]
