@@ -1,4 +1,4 @@
-//! V0 frames, each row of which has its own place in the stream: of every kind ([`any`]), hostile ones, and images encoded.
+//! V0 frames, each row of which has its own place in the stream: of every kind, hostile ones, and images encoded.
 
 pub mod any;
 pub mod encode;

@@ -1,4 +1,4 @@
-//! V2 frames, one stream of rows that predict from the rows above: of every kind ([`any`]), and images encoded.
+//! V2 frames, one stream of rows that predict from the rows above: of every kind, and images encoded.
 
 pub mod any;
 pub mod encode;
