@@ -18,6 +18,7 @@ use crate::bits::{Bits, Got};
 /// handed over; when none is left, the two functions.
 macro_rules! export {
     ($name:ident $out:ident ($($safe:tt)*) ($($c:tt)*) ($($handed:tt)*)) => {
+        #[allow(clippy::too_many_arguments)]
         pub(crate) fn $name($($safe)*) -> $out {
             unsafe extern "C" {
                 fn $name($($c)*) -> $out;
