@@ -1,5 +1,5 @@
 //! The archive's functions: each line of `exports!` below is an export of the Rattle crate `razvolk`, as its source has it,
-//! and becomes a safe function of that name. Only this module is unsafe. A test of the documents (`docs/tests/interface.rs`)
+//! and becomes a safe function of that name. No other module may be unsafe. A test of the documents (`docs/tests/interface.rs`)
 //! holds these lines, and the structures that they name, to the Rattle source and to `include/razvolk.h`.
 //!
 //! # Safety

@@ -110,7 +110,7 @@ fn answer(result: Result<(), razvolk::Refusal>) -> Answer {
     }
 }
 
-/// Razvolk's six entries.
+/// Razvolk's entries: a new decoder is one more here.
 pub fn razvolk() -> Vec<Entry> {
     vec![
         Entry::new("decode_v0_reference", Decoder::Direct, false, |a, l| {

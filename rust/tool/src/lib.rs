@@ -2,6 +2,7 @@
 //! ([`options`]) and the files that it names ([`input`]), finds the frame ([`srw`]), decodes it and tells what it rests on
 //! ([`look`], [`worker`], [`report`]), and writes what is asked for ([`picture`]: [`pgm`], [`png`]) without harm to a file
 //! ([`output`]).
+#![forbid(unsafe_code)]
 
 mod deflate;
 pub mod input;
