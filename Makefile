@@ -13,11 +13,11 @@ run:
 test:
 	bash .ci/run
 
-# Every wrong edit that the proofs must refuse, also those of edits/, which cost too much for the gate.
+# Every wrong edit that the proofs must refuse, also those of edits/, which cost too much for the gate (edits/README.md).
 refuse:
 	rm -rf target/refuse && mkdir -p target/refuse
 	cp -r crates crates.txt target/refuse/
-	for crate in edits/*; do to=target/refuse/crates/$${crate#edits/}/must-fail; mkdir -p $$to; cp $$crate/*.edit $$to/; done
+	for crate in edits/*/; do to=target/refuse/crates/$${crate#edits/}must-fail; mkdir -p $$to; cp $$crate*.edit $$to/; done
 	cd target/refuse && rt must-fail
 
 # The long comparison with the Rust, ten to twenty minutes.
@@ -69,16 +69,16 @@ fuzz: $(made)/tests/hostile frames
 
 # Frames in a camera's container, to look at and to damage.
 frames:
-	$(cargo_run) --quiet --example frames -- target/made/frames
+	$(cargo_run) --quiet -p streams --example frames -- target/made/frames
 
 # The picture in the README: a frame with upward blocks from row 0 on, decoded over another.
 picture: frames
-	$(cargo_run) --quiet --bin razvolk -- --over target/made/frames/sitting.srw target/made/frames/christening.srw \
-		--png ../docs/marked.png
+	$(cargo_run) --quiet -p razvolk-tool -- --over target/made/frames/sitting.srw target/made/frames/christening.srw \
+		--force --png ../docs/marked.png
 
 # Some thousand frames in one process, through one decoder: memory must stay flat.
 soak:
-	$(cargo_run) --quiet --example soak -- 5000
+	$(cargo_run) --quiet -p razvolk --example soak -- 5000
 
 fmt:
 	rt fmt

@@ -14,18 +14,18 @@
 extern "C" {
 #endif
 
-/* What a decoder answers. N below is width times height.
+/* What a decoder answers. N below is width times height; scratch needs RAZVOLK_SCRATCH bytes.
  *
- *   number                                                                      left behind
- *   0  done                                                                     the frame, in the first N samples
- *   1  width or height is above 16,384                                          every buffer as it was
- *   2  V2: width is below 646 or height below 436                               every buffer as it was
- *   3  fewer than N samples are lent, or in V0 fewer offsets than rows          every buffer as it was
- *   4  the map is shorter than N bytes, or the scratch than RAZVOLK_SCRATCH     every buffer as it was
- *   5  V2: a block of row 0 or 1 predicts from the rows above                   the blocks before it are written
- *   6  V2: a block predicts from outside the frame                              the blocks before it are written
- *   7  V2: a difference is longer than the depth allows                         the blocks before it are written
- *   8  V2: the stream ended                                                     that row and those before it are written
+ *   number                                                                left behind
+ *   0  done                                                               the frame, in the first N samples
+ *   1  width or height is above 16,384                                    every buffer as it was
+ *   2  V2: width is below 646 or height below 436                         every buffer as it was
+ *   3  fewer than N samples are lent, or in V0 fewer offsets than rows    every buffer as it was
+ *   4  the map is shorter than N bytes, or the scratch is too short       every buffer as it was
+ *   5  V2: a block of row 0 or 1 predicts from the rows above             the blocks before it are written
+ *   6  V2: a block predicts from outside the frame                        the blocks before it are written
+ *   7  V2: a difference is longer than the depth allows                   the blocks before it are written
+ *   8  V2: the stream ended                                               that row and those before it are written
  *
  * 1 to 4 are tested in this order; then the stream decides. `row` is the row at fault of 5 to 8, else 0. Samples and map
  * bytes from N on never change. */

@@ -17,8 +17,11 @@
 #include <time.h>
 #include <unistd.h>
 
+/* The highest number that a decoder answers. */
+#define MOST_NUMBER 8
+
 static bool heap = false;
-static unsigned long rounds = 0, calls = 0, numbers[9];
+static unsigned long rounds = 0, calls = 0, numbers[MOST_NUMBER + 1];
 
 static void fail(const char *what) {
     printf("hostile: round %lu: %s\n", rounds, what);
@@ -277,35 +280,64 @@ static void any_lengths(ask *a) {
     }
 }
 
-/* ---- A call. */
+/* ---- The decoders' entries. */
 
 typedef struct {
     razvolk_answer answer;
     slice samples, map, scratch;
 } outcome;
 
-/* The entry by number: direct, direct with a map, two-phase, two-phase with a map; V2, V2 with a map. */
-static razvolk_answer call(const ask *a, int entry, outcome *out) {
-    const uint8_t *src = a->src.data;
-    const uint32_t *offsets = (const uint32_t *)(const void *)a->offsets.data;
-    uint16_t *samples = (uint16_t *)(void *)out->samples.data;
-    size_t n = a->src.bytes, rows = a->offsets.bytes / 4, w = a->width, h = a->height;
-    uint8_t *map = out->map.data, *scratch = out->scratch.data;
-    switch (a->v2 ? 4 + entry : entry) {
-    case 0:
-        return razvolk_decode_v0_reference(src, n, offsets, rows, w, h, samples, a->samples);
-    case 1:
-        return razvolk_decode_v0_reference_map(src, n, offsets, rows, w, h, samples, a->samples, map, a->map);
-    case 2:
-        return razvolk_decode_v0(src, n, offsets, rows, w, h, samples, a->samples, scratch, a->scratch);
-    case 3:
-        return razvolk_decode_v0_map(src, n, offsets, rows, w, h, samples, a->samples, map, a->map, scratch, a->scratch);
-    case 4:
-        return razvolk_decode_v2(src, n, w, h, samples, a->samples);
-    default:
-        return razvolk_decode_v2_map(src, n, w, h, samples, a->samples, map, a->map);
-    }
+/* Slices as C hands them over. */
+#define BYTES(lent) (lent).data, (lent).bytes
+#define OFFSETS(lent) (const uint32_t *)(const void *)(lent).data, (lent).bytes / 4
+#define SAMPLES(lent) (uint16_t *)(void *)(lent).data, (lent).bytes / 2
+
+/* What V0's and V2's entries are all asked. */
+#define V0(a) BYTES((a)->src), OFFSETS((a)->offsets), (a)->width, (a)->height
+#define V2(a) BYTES((a)->src), (a)->width, (a)->height
+
+static razvolk_answer direct(const ask *a, const outcome *o) {
+    return razvolk_decode_v0_reference(V0(a), SAMPLES(o->samples));
 }
+
+static razvolk_answer direct_map(const ask *a, const outcome *o) {
+    return razvolk_decode_v0_reference_map(V0(a), SAMPLES(o->samples), BYTES(o->map));
+}
+
+static razvolk_answer two_phase(const ask *a, const outcome *o) {
+    return razvolk_decode_v0(V0(a), SAMPLES(o->samples), BYTES(o->scratch));
+}
+
+static razvolk_answer two_phase_map(const ask *a, const outcome *o) {
+    return razvolk_decode_v0_map(V0(a), SAMPLES(o->samples), BYTES(o->map), BYTES(o->scratch));
+}
+
+static razvolk_answer v2(const ask *a, const outcome *o) {
+    return razvolk_decode_v2(V2(a), SAMPLES(o->samples));
+}
+
+static razvolk_answer v2_map(const ask *a, const outcome *o) {
+    return razvolk_decode_v2_map(V2(a), SAMPLES(o->samples), BYTES(o->map));
+}
+
+/* An entry: of which version, what it is lent besides samples, and how it is called. A new decoder is a row here. */
+typedef struct {
+    bool v2, with_map, with_scratch;
+    razvolk_answer (*call)(const ask *, const outcome *);
+} entry;
+
+static const entry entries[] = {
+    {false, false, false, direct},
+    {false, true, false, direct_map},
+    {false, false, true, two_phase},
+    {false, true, true, two_phase_map},
+    {true, false, false, v2},
+    {true, true, false, v2_map},
+};
+static const entry *const entries_end = entries + sizeof entries / sizeof *entries;
+
+/* Whether the stream was begun: done, or refused by 5 to 8. */
+static bool begun(razvolk_answer answer) { return answer.number == 0 || (5 <= answer.number && answer.number <= 8); }
 
 /* Bytes of which those from `from` on must stay 9, and those before it must have become 0 or 1. */
 static void filled(slice lent, size_t from) { memset(lent.data + from, 9, lent.bytes - from); }
@@ -316,23 +348,22 @@ static void check_bytes(slice lent, size_t from, const char *what) {
 }
 
 /* Calls an entry over old samples, and checks what it answers and leaves. */
-static outcome run(const ask *a, int entry, const uint8_t *old) {
-    bool with_map = entry % 2 == 1, with_scratch = !a->v2 && entry >= 2;
-    uint32_t refused = refusal(a, with_map, with_scratch);
+static outcome run(const ask *a, const entry *e, const uint8_t *old) {
+    uint32_t refused = refusal(a, e->with_map, e->with_scratch);
     size_t n = refused == 0 ? cells(a) : 0, directions = RAZVOLK_SCRATCH(a->width, a->height);
-    size_t marks = refused == 0 && with_map ? n : 0, scratched = refused == 0 && with_scratch ? directions : 0;
+    size_t marks = refused == 0 && e->with_map ? n : 0, scratched = refused == 0 && e->with_scratch ? directions : 0;
     outcome out = {{0, 0}, copy(old, 2 * a->samples), lend(a->map), lend(a->scratch)};
     /* With valgrind, what a decoder must set is not set before; a refusal must not read it, either. */
     filled(out.map, heap ? marks : 0);
     filled(out.scratch, heap ? scratched : 0);
-    out.answer = call(a, entry, &out);
+    out.answer = e->call(a, &out);
     calls++;
-    expect(out.answer.number <= 8, "the answer is 0 to 8");
+    expect(out.answer.number <= MOST_NUMBER, "the answer is a number of the list");
     numbers[out.answer.number]++;
     if (refused > 0 || !a->v2)
         expect(out.answer.number == refused && out.answer.row == 0, "the refusal among 1 to 4");
     else
-        expect(out.answer.number == 0 ? out.answer.row == 0 : out.answer.number > 4 && out.answer.row < a->height,
+        expect(out.answer.number == 0 ? out.answer.row == 0 : begun(out.answer) && out.answer.row < a->height,
                "V2 answers 0 or 5 to 8, with a row of the frame");
     if (out.answer.number == 5)
         expect(out.answer.row < 2, "5 comes in row 0 or 1");
@@ -348,26 +379,29 @@ static void end(outcome out) {
     give_back(out.scratch);
 }
 
-/* All entries over the same old samples, and one with a map over others. */
+/* All entries of the version over the same old samples, and one with a map over others. */
 static void play(const ask *a) {
-    int entries = a->v2 ? 2 : 4;
     slice old = lend(2 * a->samples), other = lend(2 * a->samples);
     scatter(old.data, old.bytes);
     scatter(other.data, other.bytes);
-    outcome first = run(a, 1, old.data);
-    bool begun = first.answer.number == 0 || first.answer.number > 4;
-    for (int entry = 0; entry < entries; entry++) {
-        outcome next = run(a, entry, old.data);
-        if (begun && (next.answer.number == 0 || next.answer.number > 4)) {
+    const entry *marked = entries;
+    while (marked->v2 != a->v2 || !marked->with_map)
+        marked++;
+    outcome first = run(a, marked, old.data);
+    for (const entry *e = entries; e < entries_end; e++) {
+        if (e->v2 != a->v2)
+            continue;
+        outcome next = run(a, e, old.data);
+        if (begun(first.answer) && begun(next.answer)) {
             expect(next.answer.number == first.answer.number && next.answer.row == first.answer.row, "answers agree");
             expect(memcmp(next.samples.data, first.samples.data, first.samples.bytes) == 0, "samples agree");
-            if (entry % 2 == 1)
+            if (e->with_map)
                 expect(memcmp(next.map.data, first.map.data, first.map.bytes) == 0, "maps agree");
         }
         end(next);
     }
-    if (begun) {
-        outcome over = run(a, 1, other.data);
+    if (begun(first.answer)) {
+        outcome over = run(a, marked, other.data);
         expect(over.answer.number == first.answer.number && over.answer.row == first.answer.row, "answers over others");
         for (size_t i = 0; i < cells(a); i++) {
             expect(over.map.data[i] == first.map.data[i], "maps over others");
@@ -379,6 +413,17 @@ static void play(const ask *a) {
     end(first);
     give_back(old);
     give_back(other);
+}
+
+/* A frame through the decoders; every eighth is V2's. */
+static void play_decoders(void) {
+    ask a = rounds % 8 == 7 ? any_v2() : any_v0();
+    any_lengths(&a);
+    close_for_writing(a.src);
+    close_for_writing(a.offsets);
+    play(&a);
+    give_back(a.src);
+    give_back(a.offsets);
 }
 
 /* The reader, in any state. */
@@ -397,6 +442,9 @@ static void play_reader(void) {
     give_back(src);
 }
 
+/* What is played in each round. Functions of a new kind are a row here. */
+static void (*const plays[])(void) = {play_decoders, play_reader};
+
 int main(int argc, char **argv) {
     const char *count = argc > 2 ? argv[2] : "300";
     heap = argc > 1 && strcmp(argv[1], "heap") == 0;
@@ -406,18 +454,12 @@ int main(int argc, char **argv) {
     state = state * 0x9e3779b97f4a7c15ULL + 0x5eed;
     time_t began = time(NULL);
     while (seconds ? (unsigned long)(time(NULL) - began) < most : rounds < most) {
-        ask a = rounds % 8 == 7 ? any_v2() : any_v0();
-        any_lengths(&a);
-        close_for_writing(a.src);
-        close_for_writing(a.offsets);
-        play(&a);
-        play_reader();
-        give_back(a.src);
-        give_back(a.offsets);
+        for (size_t i = 0; i < sizeof plays / sizeof *plays; i++)
+            plays[i]();
         rounds++;
     }
-    printf("hostile: %s, %lu rounds, %lu calls, answers 0 to 8:", heap ? "heap" : "pages", rounds, calls);
-    for (int i = 0; i < 9; i++)
+    printf("hostile: %s, %lu rounds, %lu calls, answers 0 to %d:", heap ? "heap" : "pages", rounds, calls, MOST_NUMBER);
+    for (int i = 0; i <= MOST_NUMBER; i++)
         printf(" %lu", numbers[i]);
     printf("\nhostile: ok\n");
     return 0;

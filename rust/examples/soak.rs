@@ -1,20 +1,12 @@
 //! `soak FRAMES`: a worker's day. Decodes so many frames into one buffer with one decoder, V0 and V2 of several sizes, whole,
 //! broken off and damaged, and ends with a fault if the process has grown since every frame was seen once.
 
-#[allow(dead_code)]
-#[path = "frames/make.rs"]
-mod make;
-#[path = "frames/scenes.rs"]
-mod scenes;
-#[allow(dead_code)]
-#[path = "../compare/src/stream.rs"]
-mod stream;
-
-use make::{Made, v0, v2};
 use razvolk::Decoder;
 use std::process::ExitCode;
 use std::time::Instant;
 use std::{env, fs};
+use streams::images::{christening, sitting};
+use streams::{Frame, Version, v0, v2};
 
 /// What may be held more at the end, in KiB.
 const SLACK: u64 = 512;
@@ -25,15 +17,15 @@ fn main() -> ExitCode {
         return ExitCode::from(2);
     };
     let frames = frames();
-    let largest = frames.iter().map(|made| made.width * made.height).max().expect("frames");
+    let largest = frames.iter().map(Frame::samples).max().expect("frames");
     let (mut samples, mut decoder) = (vec![0; largest], Decoder::new());
     let (mut done, mut refused, mut marked, mut warm) = (0, 0, 0u64, None);
     let began = Instant::now();
     for i in 0..most {
-        let &Made { v2, width, height, ref stream, ref offsets } = &frames[i % frames.len()];
-        let result = match v2 {
-            true => decoder.decode_v2(stream, width, height, &mut samples),
-            false => decoder.decode_v0(stream, offsets, width, height, &mut samples),
+        let &Frame { version, width, height, ref stream, ref offsets } = &frames[i % frames.len()];
+        let result = match version {
+            Version::V0 => decoder.decode_v0(stream, offsets, width, height, &mut samples),
+            Version::V2 => decoder.decode_v2(stream, width, height, &mut samples),
         };
         match result {
             Ok(marks) => {
@@ -69,29 +61,29 @@ fn held() -> Option<u64> {
     line.trim().strip_suffix(" kB")?.parse().ok()
 }
 
-fn frames() -> Vec<Made> {
+fn frames() -> Vec<Frame> {
     let mut frames = Vec::new();
     for (width, height) in [(320, 200), (1_500, 1_000), (33, 7), (646, 436), (1_000, 700)] {
-        let scene = scenes::sitting(width, height);
-        let whole = v0(&scene, width, height, 0);
-        let band = v0(&scenes::christening(width, height), width, height, 24.min(height));
-        frames.extend([whole.clone(), band, cut(&whole), damaged(&whole)]);
+        let scene = sitting(width, height);
+        let whole = v0::encode(&scene, width, height);
+        let band = v0::encode::with_band(&christening(width, height), width, height, 24.min(height));
+        frames.extend([cut(&whole), damaged(&whole), whole, band]);
         if width >= 646 {
-            let whole = v2(&scene, width, height);
-            frames.extend([whole.clone(), cut(&whole), damaged(&whole)]);
+            let whole = v2::encode(&scene, width, height);
+            frames.extend([cut(&whole), damaged(&whole), whole]);
         }
     }
     frames
 }
 
 /// Broken off after two thirds.
-fn cut(made: &Made) -> Made {
-    Made { stream: made.stream[..made.stream.len() * 2 / 3].to_vec(), ..made.clone() }
+fn cut(frame: &Frame) -> Frame {
+    frame.cut(frame.stream.len() * 2 / 3)
 }
 
 /// With a bit turned in every thousandth byte.
-fn damaged(made: &Made) -> Made {
-    let mut stream = made.stream.clone();
+fn damaged(frame: &Frame) -> Frame {
+    let mut stream = frame.stream.clone();
     stream.iter_mut().skip(500).step_by(1_000).for_each(|byte| *byte ^= 0x10);
-    Made { stream, ..made.clone() }
+    frame.with_stream(stream)
 }

@@ -19,8 +19,21 @@ impl Answer {
 
 /// Why a frame was refused.
 ///
-/// 1 to 4 are tested in this order and leave every buffer as it was. 5 to 8 are V2's alone: what was decoded before the
-/// refusal stands in the samples, and the map describes them as they are left.
+/// N is width times height; scratch needs [`crate::scratch_len`] bytes.
+///
+/// | Number | Given when | Left behind |
+/// |---|---|---|
+/// | 1 | width or height is above 16,384 | every buffer as it was |
+/// | 2 | V2: width is below 646 or height below 436 | every buffer as it was |
+/// | 3 | fewer than N samples are lent, or in V0 fewer offsets than rows | every buffer as it was |
+/// | 4 | the map is shorter than N bytes, or the scratch is too short | every buffer as it was |
+/// | 5 | V2: a block of row 0 or 1 predicts from the rows above | the blocks before it are written |
+/// | 6 | V2: a block predicts from outside the frame | the blocks before it are written |
+/// | 7 | V2: a difference is longer than the depth allows | the blocks before it are written |
+/// | 8 | V2: the stream ended | that row and those before it are written |
+///
+/// 1 to 4 are tested in this order. After 5 to 8 the map describes the samples as they are left; the row in which the stream
+/// ended has ones in place of the missing bits.
 ///
 /// ```
 /// let refused = razvolk::decode_v2(&[], 646, 436, &mut vec![0; 646 * 436]).unwrap_err();
@@ -29,16 +42,7 @@ impl Answer {
 /// ```
 #[derive(Clone, Copy, Debug, PartialEq, Eq, Hash)]
 pub struct Refusal {
-    /// 1 to 8:
-    ///
-    /// 1. width or height is above 16,384;
-    /// 2. V2: width is below 646 or height below 436;
-    /// 3. fewer samples are lent than width times height, or in V0 fewer offsets than rows;
-    /// 4. the map is shorter than width times height bytes, or the scratch shorter than [`crate::scratch_len`] says;
-    /// 5. V2: a block of row 0 or 1 predicts from the rows above; that block is not written, those before it are;
-    /// 6. V2: a block predicts from outside the frame; that block is not written, those before it are;
-    /// 7. V2: a difference is longer than the depth allows; that block is not written, those before it are;
-    /// 8. V2: the stream ended; the row in which it did is written, with ones in place of the missing bits.
+    /// Which refusal it is.
     pub number: u32,
     /// The row at fault of refusals 5 to 8, else 0.
     pub row: u32,
@@ -53,7 +57,7 @@ impl Refusal {
     /// assert!(Refusal { number: 5, row: 1 }.has_begun());
     /// ```
     pub const fn has_begun(self) -> bool {
-        self.number > 4
+        matches!(self.number, 5..=8)
     }
 }
 

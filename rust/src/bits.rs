@@ -19,6 +19,8 @@
 //! assert!(again.overrun, "an overrun stays");
 //! ```
 
+use crate::ffi;
+
 /// A reader's state. Every value of every field is a state that [`get`] and [`reset_at`] take.
 #[repr(C)]
 #[derive(Clone, Copy, Debug, Default, PartialEq, Eq)]
@@ -50,11 +52,6 @@ pub struct Got {
     pub bits: Bits,
 }
 
-unsafe extern "C" {
-    fn razvolk_get(src: *const u8, src_len: usize, state: Bits, n: u32) -> Got;
-    safe fn razvolk_reset_at(state: Bits, pos: u64) -> Bits;
-}
-
 /// Reads `n` bits; `n` above 32 counts as 32.
 ///
 /// One word is fetched if fewer than `n` bits are unread, so `n` = 0 fetches none. Where fewer than 4 bytes remain, the word
@@ -66,9 +63,7 @@ unsafe extern "C" {
 /// assert_eq!((got.value, got.bits.count), (0b101, 29));
 /// ```
 pub fn get(src: &[u8], state: Bits, n: u32) -> Got {
-    // SAFETY: the pointer and the length are those of a slice that is borrowed for the call, which only reads it. It is
-    // proved to return on every state, and the bool in what it returns is 0 or 1.
-    unsafe { razvolk_get(src.as_ptr(), src.len(), state, n) }
+    ffi::razvolk_get(src, state, n)
 }
 
 /// Drops the unread bits and goes on at byte position `pos`. An overrun stays set.
@@ -79,7 +74,7 @@ pub fn get(src: &[u8], state: Bits, n: u32) -> Got {
 /// assert_eq!(reset_at(state, 16), Bits { pos: 16, word: 0, count: 0, overrun: true });
 /// ```
 pub fn reset_at(state: Bits, pos: u64) -> Bits {
-    razvolk_reset_at(state, pos)
+    ffi::razvolk_reset_at(state, pos)
 }
 
 #[cfg(test)]

@@ -20,10 +20,13 @@
 //! The functions lend every buffer by hand; they are what `include/razvolk.h` declares, made safe. [`Ph1Bits`] is the bit
 //! reader. Who comes from `samsung.rs` finds each call in `docs/MIGRATION.md`.
 #![warn(missing_docs)]
+#![deny(unsafe_code)]
 
 mod answer;
 pub mod bits;
 mod decoder;
+#[allow(unsafe_code)]
+mod ffi;
 mod marks;
 mod ph1bits;
 mod v0;

@@ -1,60 +1,6 @@
 //! V0, in which each row has its own place in the stream: the direct decoder and the one in two phases.
 
-use crate::answer::{Answer, Refusal};
-
-unsafe extern "C" {
-    fn razvolk_decode_v0_reference(
-        src: *const u8,
-        src_len: usize,
-        offsets: *const u32,
-        offsets_len: usize,
-        width: usize,
-        height: usize,
-        samples: *mut u16,
-        samples_len: usize,
-    ) -> Answer;
-    fn razvolk_decode_v0_reference_map(
-        src: *const u8,
-        src_len: usize,
-        offsets: *const u32,
-        offsets_len: usize,
-        width: usize,
-        height: usize,
-        samples: *mut u16,
-        samples_len: usize,
-        map: *mut u8,
-        map_len: usize,
-    ) -> Answer;
-    fn razvolk_decode_v0(
-        src: *const u8,
-        src_len: usize,
-        offsets: *const u32,
-        offsets_len: usize,
-        width: usize,
-        height: usize,
-        samples: *mut u16,
-        samples_len: usize,
-        scratch: *mut u8,
-        scratch_len: usize,
-    ) -> Answer;
-    fn razvolk_decode_v0_map(
-        src: *const u8,
-        src_len: usize,
-        offsets: *const u32,
-        offsets_len: usize,
-        width: usize,
-        height: usize,
-        samples: *mut u16,
-        samples_len: usize,
-        map: *mut u8,
-        map_len: usize,
-        scratch: *mut u8,
-        scratch_len: usize,
-    ) -> Answer;
-}
-
-// In each call below every pointer and length is that of a slice that is borrowed for the call, mutably where the callee
-// writes. The callee is proved to return on every input and to touch nothing but these slices, inside their lengths.
+use crate::{Refusal, ffi};
 
 /// Decodes a V0 frame directly. Row r is read from byte `row_offsets[r]` of `src` on; wherever that lies, the frame is done
 /// unless it is refused by 1 or 3, and bits that are missing read as ones.
@@ -80,20 +26,7 @@ pub fn decode_v0_reference(
     height: usize,
     out: &mut [u16],
 ) -> Result<(), Refusal> {
-    // SAFETY: see above.
-    let answer = unsafe {
-        razvolk_decode_v0_reference(
-            src.as_ptr(),
-            src.len(),
-            row_offsets.as_ptr(),
-            row_offsets.len(),
-            width,
-            height,
-            out.as_mut_ptr(),
-            out.len(),
-        )
-    };
-    answer.result()
+    ffi::razvolk_decode_v0_reference(src, row_offsets, width, height, out).result()
 }
 
 /// Decodes as [`decode_v0_reference`] does, and tells in the first `width * height` bytes of `map` what each sample rests
@@ -119,22 +52,7 @@ pub fn decode_v0_reference_map(
     out: &mut [u16],
     map: &mut [u8],
 ) -> Result<(), Refusal> {
-    // SAFETY: see above.
-    let answer = unsafe {
-        razvolk_decode_v0_reference_map(
-            src.as_ptr(),
-            src.len(),
-            row_offsets.as_ptr(),
-            row_offsets.len(),
-            width,
-            height,
-            out.as_mut_ptr(),
-            out.len(),
-            map.as_mut_ptr(),
-            map.len(),
-        )
-    };
-    answer.result()
+    ffi::razvolk_decode_v0_reference_map(src, row_offsets, width, height, out, map).result()
 }
 
 /// Decodes in two phases, first residuals, then predictions: the same samples as [`decode_v0_reference`]'s. `scratch` needs
@@ -162,22 +80,7 @@ pub fn decode_v0(
     out: &mut [u16],
     scratch: &mut [u8],
 ) -> Result<(), Refusal> {
-    // SAFETY: see above.
-    let answer = unsafe {
-        razvolk_decode_v0(
-            src.as_ptr(),
-            src.len(),
-            row_offsets.as_ptr(),
-            row_offsets.len(),
-            width,
-            height,
-            out.as_mut_ptr(),
-            out.len(),
-            scratch.as_mut_ptr(),
-            scratch.len(),
-        )
-    };
-    answer.result()
+    ffi::razvolk_decode_v0(src, row_offsets, width, height, out, scratch).result()
 }
 
 /// Decodes as [`decode_v0`] does, with a map as of [`decode_v0_reference_map`].
@@ -203,24 +106,7 @@ pub fn decode_v0_map(
     map: &mut [u8],
     scratch: &mut [u8],
 ) -> Result<(), Refusal> {
-    // SAFETY: see above.
-    let answer = unsafe {
-        razvolk_decode_v0_map(
-            src.as_ptr(),
-            src.len(),
-            row_offsets.as_ptr(),
-            row_offsets.len(),
-            width,
-            height,
-            out.as_mut_ptr(),
-            out.len(),
-            map.as_mut_ptr(),
-            map.len(),
-            scratch.as_mut_ptr(),
-            scratch.len(),
-        )
-    };
-    answer.result()
+    ffi::razvolk_decode_v0_map(src, row_offsets, width, height, out, map, scratch).result()
 }
 
 /// How many bytes of scratch [`decode_v0`] needs: one for each block of 16 columns of rows 2 on. (`usize::MAX` where that is

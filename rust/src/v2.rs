@@ -1,30 +1,6 @@
 //! V2, one stream of rows that predict from the rows above.
 
-use crate::answer::{Answer, Refusal};
-
-unsafe extern "C" {
-    fn razvolk_decode_v2(
-        src: *const u8,
-        src_len: usize,
-        width: usize,
-        height: usize,
-        samples: *mut u16,
-        samples_len: usize,
-    ) -> Answer;
-    fn razvolk_decode_v2_map(
-        src: *const u8,
-        src_len: usize,
-        width: usize,
-        height: usize,
-        samples: *mut u16,
-        samples_len: usize,
-        map: *mut u8,
-        map_len: usize,
-    ) -> Answer;
-}
-
-// In each call below every pointer and length is that of a slice that is borrowed for the call, mutably where the callee
-// writes. The callee is proved to return on every input and to touch nothing but these slices, inside their lengths.
+use crate::{Refusal, ffi};
 
 /// Decodes a V2 frame. The last `width % 16` samples of each row are not written, and may be built on by later rows: they
 /// keep what `out` held, and [`decode_v2_map`] tells what rests on it.
@@ -41,9 +17,7 @@ unsafe extern "C" {
 /// assert_eq!([samples[639], samples[640]], [1, 7], "that row is written, but for its last 6 samples");
 /// ```
 pub fn decode_v2(src: &[u8], width: usize, height: usize, out: &mut [u16]) -> Result<(), Refusal> {
-    // SAFETY: see above.
-    let answer = unsafe { razvolk_decode_v2(src.as_ptr(), src.len(), width, height, out.as_mut_ptr(), out.len()) };
-    answer.result()
+    ffi::razvolk_decode_v2(src, width, height, out).result()
 }
 
 /// Decodes as [`decode_v2`] does, and tells in the first `width * height` bytes of `map` what each sample rests on: 1, on
@@ -61,20 +35,7 @@ pub fn decode_v2(src: &[u8], width: usize, height: usize, out: &mut [u16]) -> Re
 /// assert_eq!([map[639], map[640]], [0, 1], "the last 6 samples of the row are what the buffer held");
 /// ```
 pub fn decode_v2_map(src: &[u8], width: usize, height: usize, out: &mut [u16], map: &mut [u8]) -> Result<(), Refusal> {
-    // SAFETY: see above.
-    let answer = unsafe {
-        razvolk_decode_v2_map(
-            src.as_ptr(),
-            src.len(),
-            width,
-            height,
-            out.as_mut_ptr(),
-            out.len(),
-            map.as_mut_ptr(),
-            map.len(),
-        )
-    };
-    answer.result()
+    ffi::razvolk_decode_v2_map(src, width, height, out, map).result()
 }
 
 #[cfg(test)]

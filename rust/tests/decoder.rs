@@ -1,45 +1,34 @@
 //! A decoder that is kept from frame to frame gives what the functions give with buffers of their own.
 
-#[allow(dead_code)]
-#[path = "../examples/frames/make.rs"]
-mod make;
-#[path = "../examples/frames/scenes.rs"]
-mod scenes;
-#[allow(dead_code)]
-#[path = "../compare/src/stream.rs"]
-mod stream;
-
-use make::{Made, v0, v2};
 use razvolk::{Decoder, Marks, Refusal, scratch_len};
-use scenes::{christening, sitting};
+use streams::images::{christening, sitting};
+use streams::{Frame, Version, v0, v2};
 
 /// Frames of several sizes: whole, with a band, broken off, of noise, and refused.
-fn frames() -> Vec<Made> {
+fn frames() -> Vec<Frame> {
     let mut frames = Vec::new();
     for (width, height) in [(320, 200), (5, 7), (33, 4), (16, 2), (1, 1), (40, 0), (0, 40), (646, 436)] {
-        let whole = v0(&sitting(width, height), width, height, 0);
-        let band = v0(&christening(width, height), width, height, height / 3 + 1);
-        let cut = Made { stream: whole.stream[..whole.stream.len() / 2].to_vec(), ..whole.clone() };
-        let noise = (0..whole.stream.len()).map(|i| ((i * i * 31) >> 3) as u8).collect();
-        let noise = Made { stream: noise, ..whole.clone() };
-        let no_table = Made { offsets: Vec::new(), ..whole.clone() };
+        let whole = v0::encode(&sitting(width, height), width, height);
+        let band = v0::encode::with_band(&christening(width, height), width, height, height / 3 + 1);
+        let cut = whole.cut(whole.stream.len() / 2);
+        let noise = whole.with_stream((0..whole.stream.len()).map(|i| ((i * i * 31) >> 3) as u8).collect());
+        let no_table = Frame { offsets: Vec::new(), ..whole.clone() };
         frames.extend([whole, band, cut, noise, no_table]);
     }
-    let whole = v2(&christening(646, 436), 646, 436);
-    let cut = Made { stream: whole.stream[..20_000].to_vec(), ..whole.clone() };
-    let small = Made { width: 645, ..whole.clone() };
-    let large = Made { width: 16_385, ..whole.clone() };
+    let whole = v2::encode(&christening(646, 436), 646, 436);
+    let cut = whole.cut(20_000);
+    let small = Frame { width: 645, ..whole.clone() };
+    let large = Frame { width: 16_385, ..whole.clone() };
     frames.extend([whole, cut, small, large]);
     frames
 }
 
 /// By the functions: the answer, and the marks where the stream was begun.
-fn by_functions(made: &Made, samples: &mut [u16], direct: bool) -> (Result<(), Refusal>, Option<Vec<u8>>) {
-    let &Made { v2, width, height, ref stream, ref offsets } = made;
-    let n = width * height;
-    let (mut map, mut scratch) = (vec![7; n], vec![7; scratch_len(width, height)]);
-    let answer = match (v2, direct) {
-        (true, _) => razvolk::decode_v2_map(stream, width, height, samples, &mut map),
+fn by_functions(frame: &Frame, samples: &mut [u16], direct: bool) -> (Result<(), Refusal>, Option<Vec<u8>>) {
+    let &Frame { version, width, height, ref stream, ref offsets } = frame;
+    let (mut map, mut scratch) = (vec![7; width * height], vec![7; scratch_len(width, height)]);
+    let answer = match (version, direct) {
+        (Version::V2, _) => razvolk::decode_v2_map(stream, width, height, samples, &mut map),
         (_, true) => razvolk::decode_v0_reference_map(stream, offsets, width, height, samples, &mut map),
         _ => razvolk::decode_v0_map(stream, offsets, width, height, samples, &mut map, &mut scratch),
     };
@@ -52,16 +41,16 @@ fn a_kept_decoder_gives_what_the_functions_give() {
     let mut decoder = Decoder::new();
     let (mut samples, mut expected) = (vec![9; 646 * 436], vec![9; 646 * 436]);
     let mut refused = [0; 9];
-    for (i, made) in frames().iter().cycle().take(100).enumerate() {
-        let &Made { v2, width, height, ref stream, ref offsets } = made;
+    for (i, frame) in frames().iter().cycle().take(100).enumerate() {
+        let &Frame { version, width, height, ref stream, ref offsets } = frame;
         let direct = i % 3 == 0;
-        let result = match (v2, direct) {
-            (true, _) => decoder.decode_v2(stream, width, height, &mut samples),
+        let result = match (version, direct) {
+            (Version::V2, _) => decoder.decode_v2(stream, width, height, &mut samples),
             (_, true) => decoder.decode_v0_reference(stream, offsets, width, height, &mut samples),
             _ => decoder.decode_v0(stream, offsets, width, height, &mut samples),
         };
         let told = result.map(|marks| marks.bytes().to_vec());
-        let (answer, marks) = by_functions(made, &mut expected, direct);
+        let (answer, marks) = by_functions(frame, &mut expected, direct);
         assert_eq!(told.as_ref().map(|_| ()).map_err(|refusal| *refusal), answer, "frame {i}");
         assert_eq!(decoder.marks().map(|marks| marks.bytes().to_vec()), marks, "frame {i}");
         assert!(told.is_err() || told.ok() == marks, "frame {i}");

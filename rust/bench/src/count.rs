@@ -1,40 +1,33 @@
 //! Instructions, counted by valgrind: the same for the same build and frame, whatever else the machine does. The program runs
 //! itself under it, once with a contender and once without.
 
-use crate::contenders::{Buffers, of_v0, of_v2};
-use crate::{hostile, photo, v0, v2};
+use crate::contenders::{self, Buffers};
 use std::env;
 use std::process::Command;
-
-/// The frames that instructions are counted on: small, since a program runs some fifty times as long under valgrind.
-const FRAMES: [&str; 4] = ["V0, like a photograph", "V0, noisy", "V0, lengths to 32 bits", "V2, like a photograph"];
+use streams::images::photo;
+use streams::{Frame, v0, v2};
 
 const V0: (usize, usize) = (1_000, 400);
 const V2: (usize, usize) = (992, 440);
 
-/// Makes frame number `frame` and calls `then` with its samples and its contenders' names and runs.
-fn with_frame(frame: usize, then: impl FnOnce(usize, &mut [crate::measure::Contender])) {
-    if frame == 3 {
-        let stream = v2::encode(&photo::image(V2.0, V2.1, 90.0, 2), V2.0, V2.1);
-        let buffers = Buffers::new(V2.0, V2.1);
-        return then(V2.0 * V2.1, &mut of_v2(&stream, &buffers));
-    }
-    let frame = match frame {
-        0 => v0::encode(&photo::image(V0.0, V0.1, 16.0, 1), V0.0, V0.1),
-        1 => v0::encode(&photo::image(V0.0, V0.1, 260.0, 1), V0.0, V0.1),
-        _ => hostile::long_lengths(V0.0, V0.1),
-    };
-    let buffers = Buffers::new(V0.0, V0.1);
-    then(V0.0 * V0.1, &mut of_v0(&frame, &buffers));
-}
+/// How a frame is made.
+type Make = fn() -> Frame;
+
+/// The frames that instructions are counted on: small, since a program runs some fifty times as long under valgrind.
+const FRAMES: [(&str, Make); 4] = [
+    ("V0, like a photograph", || v0::encode(&photo(V0.0, V0.1, 16.0, 1), V0.0, V0.1)),
+    ("V0, noisy", || v0::encode(&photo(V0.0, V0.1, 260.0, 1), V0.0, V0.1)),
+    ("V0, lengths to 32 bits", || v0::hostile::long_lengths(V0.0, V0.1)),
+    ("V2, like a photograph", || v2::encode(&photo(V2.0, V2.1, 90.0, 2), V2.0, V2.1)),
+];
 
 /// What is counted: the frame made, and the contender run once if there is one of that number.
 pub fn once(frame: usize, contender: usize) {
-    with_frame(frame, |_, contenders| {
-        if let Some(contender) = contenders.get_mut(contender) {
-            (contender.run)();
-        }
-    });
+    let frame = FRAMES[frame].1();
+    let buffers = Buffers::new(&frame);
+    if let Some(contender) = contenders::of(&frame, &buffers).get_mut(contender) {
+        (contender.run)();
+    }
 }
 
 /// The instructions of `once`, where valgrind is installed.
@@ -48,17 +41,18 @@ fn counted(frame: usize, contender: usize) -> Option<u64> {
 
 /// Prints the instructions that each contender takes for a sample.
 pub fn print() {
-    for (number, name) in FRAMES.iter().enumerate() {
-        with_frame(number, |samples, contenders| {
-            let Some(without) = counted(number, usize::MAX) else {
-                return println!("{name}: instructions are not counted, since valgrind does not run here");
-            };
-            println!("{name}: instructions a sample, by callgrind");
-            for (i, contender) in contenders.iter().enumerate() {
-                if let Some(with) = counted(number, i) {
-                    println!("  {:<32} {:>9.1}", contender.name, (with - without) as f64 / samples as f64);
-                }
+    for (number, (name, frame)) in FRAMES.iter().enumerate() {
+        let Some(without) = counted(number, usize::MAX) else {
+            println!("{name}: instructions are not counted, since valgrind does not run here");
+            continue;
+        };
+        println!("{name}: instructions a sample, by callgrind");
+        let frame = frame();
+        let buffers = Buffers::new(&frame);
+        for (i, contender) in contenders::of(&frame, &buffers).iter().enumerate() {
+            if let Some(with) = counted(number, i) {
+                println!("  {:<32} {:>9.1}", contender.name, (with - without) as f64 / frame.samples() as f64);
             }
-        });
+        }
     }
 }

@@ -5,11 +5,11 @@ use std::sync::OnceLock;
 use std::thread;
 use std::time::Instant;
 
-/// One contender: a name, the number of the one that it is compared with, and a run.
+/// One contender: a name, the number of the one that it is compared with, and a run, which tells whether the frame is done.
 pub struct Contender<'a> {
     pub name: &'static str,
     pub against: usize,
-    pub run: Box<dyn FnMut() + 'a>,
+    pub run: Box<dyn FnMut() -> bool + 'a>,
 }
 
 /// The processor time that this thread has used, in seconds, where the system tells it: other programs on the machine then

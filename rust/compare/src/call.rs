@@ -1,6 +1,10 @@
 //! A call of a decoder, whichever it is: what is asked for, what is lent, and what is answered.
 
 use std::fmt;
+use streams::{Frame, Version};
+
+/// How many numbers an answer may have: done, and refusals 1 to 8.
+pub const NUMBERS: usize = 9;
 
 /// What a call asks for. V2 has no offsets.
 #[derive(Clone, Copy, Debug)]
@@ -11,7 +15,12 @@ pub struct Ask<'a> {
     pub height: usize,
 }
 
-impl Ask<'_> {
+impl<'a> Ask<'a> {
+    pub fn of(frame: &'a Frame) -> Ask<'a> {
+        let offsets = if frame.version == Version::V0 { &frame.offsets[..] } else { &[] };
+        Ask { src: &frame.stream, offsets, width: frame.width, height: frame.height }
+    }
+
     /// How many samples the frame has.
     pub fn n(&self) -> usize {
         self.width * self.height
@@ -62,6 +71,12 @@ pub enum Decoder {
     V2,
 }
 
+impl Decoder {
+    pub fn version(self) -> Version {
+        if self == Decoder::V2 { Version::V2 } else { Version::V0 }
+    }
+}
+
 /// An entry under test.
 pub struct Entry {
     pub name: &'static str,
@@ -95,7 +110,7 @@ fn answer(result: Result<(), razvolk::Refusal>) -> Answer {
     }
 }
 
-/// Razvolk's six entries.
+/// Razvolk's entries: a new decoder is one more here.
 pub fn razvolk() -> Vec<Entry> {
     vec![
         Entry::new("decode_v0_reference", Decoder::Direct, false, |a, l| {
@@ -120,8 +135,8 @@ pub fn razvolk() -> Vec<Entry> {
 }
 
 /// Those of V0, or those of V2.
-pub fn razvolk_of(v2: bool) -> Vec<Entry> {
-    razvolk().into_iter().filter(|entry| (entry.decoder == Decoder::V2) == v2).collect()
+pub fn razvolk_of(version: Version) -> Vec<Entry> {
+    razvolk().into_iter().filter(|entry| entry.decoder.version() == version).collect()
 }
 
 /// A difference that a comparison found, with what is needed to have it again.

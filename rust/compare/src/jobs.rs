@@ -1,12 +1,12 @@
 //! Inputs of the job program with the texts that it must write. Samples come from the Rust, marks from runs of the Rust over
 //! two sets of old values: nothing here comes from the program that is tested.
 
-use crate::random::Random;
 use crate::v0::compare::{marks, rust};
-use crate::v0::{Frame, frames};
 use std::fmt::Write as _;
 use std::path::Path;
 use std::{fs, io};
+use streams::random::Random;
+use streams::{Frame, Version, v0};
 
 const MOST_INPUT: usize = 32_768;
 const MOST_SAMPLES: usize = 8_192;
@@ -20,7 +20,7 @@ pub fn input(frame: &Frame) -> Vec<u8> {
     for offset in &frame.offsets[..frame.height] {
         bytes.extend(offset.to_le_bytes());
     }
-    bytes.extend(&frame.src);
+    bytes.extend(&frame.stream);
     bytes
 }
 
@@ -37,7 +37,7 @@ pub fn text(input: &[u8]) -> String {
         return "job 1\n".into();
     }
     let (width, height) = (number(5), number(7));
-    let Some(src) = input.get(9 + 4 * height..) else {
+    let Some(stream) = input.get(9 + 4 * height..) else {
         return "job 2\n".into();
     };
     if width * height > MOST_SAMPLES {
@@ -48,11 +48,11 @@ pub fn text(input: &[u8]) -> String {
     }
     let table = input[9..9 + 4 * height].chunks_exact(4);
     let offsets = table.map(|four| u32::from_le_bytes(four.try_into().expect("four bytes"))).collect();
-    rows(&Frame { src: src.to_vec(), offsets, width, height })
+    rows(&Frame { version: Version::V0, width, height, stream: stream.to_vec(), offsets })
 }
 
 fn rows(frame: &Frame) -> String {
-    let n = frame.width * frame.height;
+    let n = frame.samples();
     let (zeros, ones) = (rust(frame, &vec![0; n]), rust(frame, &vec![1; n]));
     let marks = marks(n, &zeros, &ones).expect("a sample rises with the old values or stays");
     let mut text = String::from("done\n");
@@ -68,14 +68,14 @@ fn rows(frame: &Frame) -> String {
 
 /// A frame without rows' data, of a size.
 fn bare(width: usize, height: usize) -> Frame {
-    Frame { src: Vec::new(), offsets: vec![0; height], width, height }
+    Frame { offsets: vec![0; height], ..Frame::new(Version::V0, width, height) }
 }
 
 /// The document's frames: one whose first row is skipped, one with spill, one of a single sample.
 fn documents() -> [Frame; 3] {
     let skipped = vec![0, 0, 0, 0x80, 0x18, 0x20, 0xa0, 0x7f, 0, 0, 0x70, 0];
     let spill = vec![0x18, 0x20, 0xa0, 0x7f, 0, 0, 0x70, 0, 0x08, 0, 0xa0, 0xff, 0, 0, 0, 0];
-    let two = |src, second| Frame { src, offsets: vec![0, second], width: 2, height: 2 };
+    let two = |stream, second| Frame { stream, offsets: vec![0, second], ..bare(2, 2) };
     [two(skipped, 4), two(spill, 8), bare(1, 1)]
 }
 
@@ -88,8 +88,8 @@ pub fn inputs() -> Vec<Vec<u8>> {
     for i in 0..60 {
         let (width, height) = (random.index(36), random.index(7));
         inputs.push(match i % 3 {
-            0 => input(&frames::written(&mut random, width, height)),
-            _ => input(&frames::any(&mut random, width, height)),
+            0 => input(&v0::any::written(&mut random, width, height)),
+            _ => input(&v0::any(&mut random, width, height)),
         });
     }
     inputs
@@ -127,7 +127,7 @@ fn limits(random: &mut Random) -> Vec<Vec<u8>> {
     for (width, height) in [(8_192, 1), (4_096, 2), (128, 64), (3, 2_730)] {
         inputs.push(input(&fitting(random, width, height)));
     }
-    let frame = frames::written(random, 61, 17);
+    let frame = v0::any::written(random, 61, 17);
     inputs.push(long(input(&frame), MOST_INPUT, random));
     inputs
 }
@@ -141,7 +141,7 @@ fn long(first: Vec<u8>, len: usize, random: &mut Random) -> Vec<u8> {
 /// A written frame whose input is short enough.
 fn fitting(random: &mut Random, width: usize, height: usize) -> Frame {
     loop {
-        let frame = frames::written(random, width, height);
+        let frame = v0::any::written(random, width, height);
         if input(&frame).len() <= MOST_INPUT {
             return frame;
         }

@@ -1,14 +1,16 @@
 //! Holds Razvolk to the Rust that it was ported from: both sides get the same inputs, and everything that both let a caller
-//! see is compared. Inputs come from a generator with a seed, so that a difference can be had again.
+//! see is compared. Inputs come from a generator with a seed (`streams`), so that a difference can be had again.
+//!
+//! [`call`] has Razvolk's entries. A comparison is a module whose `compare` tells what it has seen, or the first difference;
+//! `main` has the table of them. The models are decoders of their own, written from the rules: they tell what the Rust does
+//! not, and with a fault they must be found out.
 
-pub mod bits;
 pub mod call;
 mod faults;
 pub mod jobs;
 pub mod lists;
-pub mod random;
+pub mod reader;
 pub mod record;
 pub mod refusals;
-pub mod stream;
 pub mod v0;
 pub mod v2;

@@ -2,11 +2,13 @@
 //! the same samples where the mark is 0; in V0 a sample marked 1 is the old value at one position plus an amount, and both are
 //! set by stream, offsets and size alone.
 
-use crate::call::{Answer, Ask, Decoder, Difference, Entry, Lent};
-use crate::random::Random;
-use crate::v0::{self, Frame};
-use crate::v2::{self, Stream};
+use crate::call::{Answer, Ask, Decoder, Difference, Entry, Lent, NUMBERS};
+use crate::v0::compare::{marks, rust};
+use crate::v2::model;
 use std::fmt;
+use streams::random::Random;
+use streams::v2::any::{Planted, Style, written};
+use streams::{Frame, v0};
 
 /// The samples of the one buffer: enough for the least V2 frame, and some more.
 const SAMPLES: usize = 646 * 436 + 50;
@@ -18,8 +20,8 @@ pub struct Seen {
     pub pairs: u64,
     pub calls: u64,
     /// How many calls got number 0 to 8, in the lists' histories and as the last.
-    pub before: [u64; 9],
-    pub last: [u64; 9],
+    pub before: [u64; NUMBERS],
+    pub last: [u64; NUMBERS],
     /// Samples compared, those of V0 that are marked 1, and pairs in which only one of the last two was lent a map.
     pub samples: u64,
     pub origins: u64,
@@ -59,29 +61,29 @@ struct Coming {
 }
 
 /// Streams of V2 to draw from, with their marks; the last one has too few rows.
-struct Pool(Vec<(Stream, Vec<u8>)>);
+struct Pool(Vec<(Frame, Vec<u8>)>);
 
 impl Pool {
     fn new(random: &mut Random) -> Pool {
         let mut streams = Vec::new();
         for i in 0..32 {
-            let style = v2::streams::Style::any(random, (i + i / 4) % 16);
+            let style = Style::any(random, (i + i / 4) % 16);
             let row = random.index(436);
             let (number, at) = [(5, row % 2), (6, 2), (7, row)][i as usize / 4 % 3];
-            let planted = (i % 4 == 3).then_some(v2::streams::Planted { number, row: at, block: 0 });
-            let whole = v2::streams::written(random, &style, 646, 436, planted);
-            streams.push(if i % 4 == 1 { whole.cut(random, row) } else { whole });
+            let planted = (i % 4 == 3).then_some(Planted { number, row: at, block: 0 });
+            let whole = written(random, &style, 646, 436, planted);
+            streams.push(if i % 4 == 1 { whole.cut_in_row(random, row) } else { whole });
         }
-        let small = Stream { height: 435, ..streams[0].clone() };
+        let small = Frame { height: 435, ..streams[0].clone() };
         streams.push(small);
-        let marks = |stream: &Stream| v2::model::marked(v2::model::Fault::None, &stream.ask(), &mut [0; SAMPLES]).1;
-        Pool(streams.into_iter().map(|stream| (stream.clone(), marks(&stream))).collect())
+        let marks = |frame: &Frame| model::marked(model::Fault::None, &Ask::of(frame), &mut [0; SAMPLES]).1;
+        Pool(streams.into_iter().map(|frame| (frame.clone(), marks(&frame))).collect())
     }
 
     fn ask<'a>(&'a self, asked: &'a Asked) -> Ask<'a> {
         match asked {
-            Asked::V0(frame) => frame.ask(),
-            Asked::V2(i) => self.0[*i].0.ask(),
+            Asked::V0(frame) => Ask::of(frame),
+            Asked::V2(i) => Ask::of(&self.0[*i].0),
         }
     }
 }
@@ -96,7 +98,7 @@ fn asked(random: &mut Random, decoder: Decoder, pool: &Pool) -> Asked {
         1..=4 => (random.index(200), random.index(30)),
         _ => (random.index(41), random.index(9)),
     };
-    Asked::V0(v0::frames::any(random, width, height))
+    Asked::V0(v0::any(random, width, height))
 }
 
 /// A call with buffers that are long enough, for the whole buffer or a part of it.
@@ -176,10 +178,10 @@ fn rules(asked: &Asked, pool: &Pool) -> Result<Rules, String> {
         Asked::V2(i) => return Ok(Rules { marks: pool.0[*i].1.clone(), origins: Vec::new() }),
         Asked::V0(frame) => frame,
     };
-    let n = frame.width * frame.height;
-    let run = |old: &dyn Fn(usize) -> u16| v0::compare::rust(frame, &(0..n).map(old).collect::<Vec<u16>>());
+    let n = frame.samples();
+    let run = |old: &dyn Fn(usize) -> u16| rust(frame, &(0..n).map(old).collect::<Vec<u16>>());
     let (zeros, ones) = (run(&|_| 0), run(&|_| 1));
-    let marks = v0::compare::marks(n, &zeros, &ones)?;
+    let marks = marks(n, &zeros, &ones)?;
     let (low, high) = (run(&|i| i as u16), run(&|i| (i >> 16) as u16));
     let part = |run: &[u16], i: usize| usize::from(run[i].wrapping_sub(zeros[i]));
     let origins = (0..n).map(|i| (part(&low, i) | part(&high, i) << 16, zeros[i])).collect();

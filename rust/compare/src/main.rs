@@ -1,10 +1,12 @@
 //! The comparisons with the Rust, as long as wanted. Each prints its seed, and how much was compared.
 
-use compare::call::{self, Difference};
-use compare::{bits, jobs, lists, record, refusals, v0, v2};
+use compare::call::{Difference, Entry, razvolk, razvolk_of};
+use compare::{jobs, lists, reader, record, refusals, v0, v2};
+use std::fmt::Display;
 use std::path::Path;
 use std::process::ExitCode;
 use std::{env, io};
+use streams::Version::{V0, V2};
 
 const USAGE: &str = "usage: compare quick [SEED]
        compare long [SEED]
@@ -14,15 +16,62 @@ const USAGE: &str = "usage: compare quick [SEED]
        compare jobs FOLDER           writes the job program's cases
        compare jobs-check FOLDER     finds them equal";
 
-/// How much is compared in the quick part, which the gate runs, and in the long one; 0 leaves it out.
-const COMPARISONS: [(&str, u64, u64); 6] = [
-    ("reader", 20_000_000, 1_000_000_000),
-    ("v0", 60_000, 1_000_000),
-    ("v2", 300, 20_000),
-    ("v2-full", 0, 50),
-    ("refusals", 5_000, 50_000),
-    ("lists", 1_000, 10_000),
+/// A comparison: how much of it the quick part takes, which the gate runs, and how much the long one (0 leaves it out), and
+/// how it is run with a seed and a count.
+struct Comparison {
+    name: &'static str,
+    quick: u64,
+    long: u64,
+    run: fn(u64, u64) -> Result<String, Difference>,
+}
+
+const COMPARISONS: [Comparison; 6] = [
+    Comparison {
+        name: "reader",
+        quick: 20_000_000,
+        long: 1_000_000_000,
+        run: |seed, n| Ok(reader::compare(reader::razvolk, reader::reference, seed, n)?.to_string()),
+    },
+    Comparison {
+        name: "v0",
+        quick: 60_000,
+        long: 1_000_000,
+        run: |seed, n| of(&razvolk_of(V0), |entries| v0::compare(entries, seed, n)),
+    },
+    Comparison {
+        name: "v2",
+        quick: 300,
+        long: 20_000,
+        run: |seed, n| of(&razvolk_of(V2), |entries| v2::compare(entries, seed, n)),
+    },
+    Comparison {
+        name: "v2-full",
+        quick: 0,
+        long: 50,
+        run: |seed, n| of(&razvolk_of(V2), |entries| v2::full::compare(entries, seed, n)),
+    },
+    Comparison {
+        name: "refusals",
+        quick: 5_000,
+        long: 50_000,
+        run: |seed, n| of(&razvolk(), |entries| refusals::compare(entries, seed, n)),
+    },
+    Comparison {
+        name: "lists",
+        quick: 1_000,
+        long: 10_000,
+        run: |seed, n| of(&razvolk(), |entries| lists::compare(entries, seed, n)),
+    },
 ];
+
+/// Compares some entries, and tells which.
+fn of<S: Display>(
+    entries: &[Entry],
+    compare: impl Fn(&[Entry]) -> Result<S, Difference>,
+) -> Result<String, Difference> {
+    let names: Vec<&str> = entries.iter().map(|entry| entry.name).collect();
+    compare(entries).map(|seen| format!("{seen}: {}", names.join(", ")))
+}
 
 fn main() -> ExitCode {
     let words: Vec<String> = env::args().skip(1).collect();
@@ -32,8 +81,8 @@ fn main() -> ExitCode {
         ["record-check", file] => checked(record::differences(Path::new(file)), file),
         ["jobs", folder] => written(jobs::write(Path::new(folder)), folder),
         ["jobs-check", folder] => checked(jobs::differences(Path::new(folder)), folder),
-        _ => match runs(&words) {
-            Some(runs) => all_compared(&runs),
+        _ => match asked(&words) {
+            Some((runs, seed)) => runs.into_iter().all(|(comparison, count)| compared(comparison, count, seed)),
             None => {
                 eprintln!("{USAGE}");
                 return ExitCode::from(2);
@@ -64,55 +113,35 @@ fn checked(found: io::Result<Vec<String>>, place: &str) -> bool {
     found.is_empty()
 }
 
-fn all_compared(runs: &[(&str, u64, u64)]) -> bool {
-    for &(what, count, seed) in runs {
-        match compared(what, count, seed) {
-            Ok(text) => println!("{text}"),
-            Err(difference) => {
-                println!("{difference}");
-                return false;
-            }
-        }
+/// Runs a comparison, and prints what it comes to.
+fn compared(comparison: &Comparison, count: u64, seed: u64) -> bool {
+    let compared = (comparison.run)(seed, count);
+    match &compared {
+        Ok(text) => println!("{text}"),
+        Err(difference) => println!("{difference}"),
     }
-    true
+    compared.is_ok()
 }
 
-/// What is asked for: comparisons, each with a count and a seed.
-fn runs<'a>(words: &[&'a str]) -> Option<Vec<(&'a str, u64, u64)>> {
+/// What is asked for: comparisons with their counts, and the seed.
+fn asked(words: &[&str]) -> Option<(Vec<(&'static Comparison, u64)>, u64)> {
     let number = |word: &str| word.replace('_', "").parse().ok();
-    let all = |pick: fn(u64, u64) -> u64, seed| {
-        let counts = COMPARISONS.iter().map(|&(what, quick, long)| (what, pick(quick, long), seed));
-        counts.filter(|&(_, count, _)| count > 0).collect()
+    let all = |count: fn(&Comparison) -> u64| {
+        let counts = COMPARISONS.iter().map(|comparison| (comparison, count(comparison)));
+        counts.filter(|&(_, count)| count > 0).collect()
     };
-    Some(match *words {
-        ["quick"] => all(|quick, _| quick, 1),
-        ["quick", seed] => all(|quick, _| quick, number(seed)?),
-        ["long"] => all(|_, long| long, 1),
-        ["long", seed] => all(|_, long| long, number(seed)?),
-        [what, count] if COMPARISONS.iter().any(|c| c.0 == what) => vec![(what, number(count)?, 1)],
-        [what, count, seed] if COMPARISONS.iter().any(|c| c.0 == what) => vec![(what, number(count)?, number(seed)?)],
+    let (runs, rest) = match words {
+        ["quick", rest @ ..] => (all(|comparison| comparison.quick), rest),
+        ["long", rest @ ..] => (all(|comparison| comparison.long), rest),
+        [name, count, rest @ ..] => {
+            let comparison = COMPARISONS.iter().find(|comparison| comparison.name == *name)?;
+            (vec![(comparison, number(count)?)], rest)
+        }
         _ => return None,
-    })
-}
-
-fn compared(what: &str, count: u64, seed: u64) -> Result<String, Difference> {
-    if what == "reader" {
-        return bits::compare(bits::razvolk, bits::reference, seed, count)
-            .map(|compared| compared.to_string())
-            .map_err(|difference| Difference(difference.to_string()));
+    };
+    match rest {
+        [] => Some((runs, 1)),
+        [seed] => Some((runs, number(seed)?)),
+        _ => None,
     }
-    let entries = match what {
-        "v0" => call::razvolk_of(false),
-        "v2" | "v2-full" => call::razvolk_of(true),
-        _ => call::razvolk(),
-    };
-    let text = match what {
-        "v0" => v0::compare(&entries, seed, count)?.to_string(),
-        "v2" => v2::compare(&entries, seed, count)?.to_string(),
-        "v2-full" => v2::full::compare(&entries, seed, count)?.to_string(),
-        "lists" => lists::compare(&entries, seed, count)?.to_string(),
-        _ => refusals::compare(&entries, seed, count)?.to_string(),
-    };
-    let names: Vec<&str> = entries.iter().map(|entry| entry.name).collect();
-    Ok(format!("{text}: {}", names.join(", ")))
 }

@@ -1,19 +1,14 @@
 //! Calls of the Rust with what it answered and left, as a file that a program can replay without the Rust. docs/RECORD.md says
 //! how the file is laid out.
 
-use crate::call::Answer;
-use crate::random::Random;
-use crate::v0::{self, Frame};
-use crate::v2::streams::{Header, Planted, Scale, Stream, Style, written};
-use crate::v2::{self};
+use crate::call::{Answer, Ask, first_difference};
+use crate::v2::compare::rust;
 use reference::Error;
-use std::fs;
-use std::io;
 use std::path::Path;
-
-/// The numbers of the decoders in the file.
-const V0: u32 = 0;
-const V2: u32 = 2;
+use std::{fs, io};
+use streams::random::Random;
+use streams::v2::any::{Header, Planted, Scale, Style, written};
+use streams::{Frame, Version, v0};
 
 /// In place of a row that the Rust does not tell.
 const NOT_TOLD: u32 = u32::MAX;
@@ -45,17 +40,19 @@ impl File {
     }
 
     /// One call, up to the seed; then what came of it.
-    fn call(&mut self, decoder: u32, frame: &Frame, lent: usize, seed: u16, answer: Answer, after: &[u16]) {
+    fn call(&mut self, frame: &Frame, lent: usize, seed: u16, answer: Answer, after: &[u16]) {
+        let Ask { src, offsets, width, height } = Ask::of(frame);
         self.calls += 1;
-        self.number(decoder as usize);
-        self.number(frame.width);
-        self.number(frame.height);
-        self.number(frame.offsets.len());
-        for &offset in &frame.offsets {
+        // The decoder's number is its version's.
+        self.number(if frame.version == Version::V0 { 0 } else { 2 });
+        self.number(width);
+        self.number(height);
+        self.number(offsets.len());
+        for &offset in offsets {
             self.number(offset as usize);
         }
-        self.number(frame.src.len());
-        self.bytes.extend(&frame.src);
+        self.number(src.len());
+        self.bytes.extend(src);
         self.number(lent);
         self.number(usize::from(seed));
         self.number(answer.number as usize);
@@ -66,23 +63,22 @@ impl File {
     fn v0(&mut self, frame: &Frame, lent: usize, random: &mut Random) {
         let seed = random.number() as u16;
         let mut out = old(seed, lent);
-        let answer =
-            match reference::decode_v0_reference(&frame.src, &frame.offsets, frame.width, frame.height, &mut out) {
-                Ok(()) => Answer::DONE,
-                Err(Error::InvalidArgument(_)) => Answer::refused(3),
-                Err(other) => panic!("the Rust answers {other:?}"),
-            };
-        self.call(V0, frame, lent, seed, answer, &out);
+        let &Frame { width, height, ref stream, ref offsets, .. } = frame;
+        let answer = match reference::decode_v0_reference(stream, offsets, width, height, &mut out) {
+            Ok(()) => Answer::DONE,
+            Err(Error::InvalidArgument(_)) => Answer::refused(3),
+            Err(other) => panic!("the Rust answers {other:?}"),
+        };
+        self.call(frame, lent, seed, answer, &out);
     }
 
-    fn v2(&mut self, stream: &Stream, lent: usize, random: &mut Random) {
+    fn v2(&mut self, frame: &Frame, lent: usize, random: &mut Random) {
         let seed = random.number() as u16;
-        let (mut answer, out) = v2::compare::rust(stream, &old(seed, lent));
+        let (mut answer, out) = rust(frame, &old(seed, lent));
         if (5..=7).contains(&answer.number) {
             answer.row = NOT_TOLD;
         }
-        let frame = Frame { src: stream.src.clone(), offsets: Vec::new(), width: stream.width, height: stream.height };
-        self.call(V2, &frame, lent, seed, answer, &out);
+        self.call(frame, lent, seed, answer, &out);
     }
 }
 
@@ -103,7 +99,7 @@ fn frames_of_v0(file: &mut File, random: &mut Random) {
             240..250 => (random.index(200), random.index(6)),
             _ => (i % 41, i / 8 % 9),
         };
-        let mut frame = v0::frames::any(random, width, height);
+        let mut frame = v0::any(random, width, height);
         let n = width * height;
         let lent = if i % 3 == 0 { n } else { n + random.index(20) };
         match i % 40 {
@@ -114,7 +110,7 @@ fn frames_of_v0(file: &mut File, random: &mut Random) {
         file.v0(&frame, lent, random);
     }
     for height in [0, 300] {
-        file.v0(&v0::frames::any(random, 0, height), 3, random);
+        file.v0(&v0::any(random, 0, height), 3, random);
     }
 }
 
@@ -125,14 +121,13 @@ fn streams_of_v2(file: &mut File, random: &mut Random) {
         let mut style = Style::any(random, options);
         style.none = 7;
         for row in [0, 1 + random.index(3)] {
-            let stream = written(random, &style, 646, 436, None).cut(random, row);
+            let stream = written(random, &style, 646, 436, None).cut_in_row(random, row);
             file.v2(&stream, n + random.index(20), random);
         }
         let (number, row) = [(5, 1), (6, 2), (7, 2), (7, 0)][options as usize % 4];
         let planted = Planted { number, row, block: if number == 6 { 0 } else { 3 } };
         let stream = written(random, &style, 646, 436, Some(planted));
-        let end = stream.rows[3];
-        file.v2(&Stream { src: stream.src[..end].to_vec(), ..stream }, n, random);
+        file.v2(&stream.cut(stream.row(2).end), n, random);
     }
     let accepted = [
         (4, 8, Scale::Still, 1, 8),
@@ -146,11 +141,12 @@ fn streams_of_v2(file: &mut File, random: &mut Random) {
         let style = Style { header, scale, motions, none, flag: 0, favour: 0, any: true };
         file.v2(&written(random, &style, 646, 436, None), n + 5, random);
     }
+    let zeros = |width, height| Frame { stream: vec![0; 16], ..Frame::new(Version::V2, width, height) };
     for (width, height, lent) in [(645, 436, n), (646, 435, n), (646, 436, n - 1)] {
-        file.v2(&Stream { src: vec![0; 16], width, height, rows: Vec::new() }, lent, random);
+        file.v2(&zeros(width, height), lent, random);
     }
-    file.v2(&Stream { src: Vec::new(), width: 646, height: 436, rows: Vec::new() }, n, random);
-    file.v2(&Stream { src: vec![0; 16], width: 646, height: 436, rows: Vec::new() }, n, random);
+    file.v2(&Frame::new(Version::V2, 646, 436), n, random);
+    file.v2(&zeros(646, 436), n, random);
 }
 
 /// Writes the file, and tells how many calls it has.
@@ -163,5 +159,5 @@ pub fn write(path: &Path) -> io::Result<usize> {
 /// What keeps the file from the one that would be written.
 pub fn differences(path: &Path) -> io::Result<Vec<String>> {
     let read = fs::read(path)?;
-    Ok(crate::call::first_difference(&read, &file()).into_iter().collect())
+    Ok(first_difference(&read, &file()).into_iter().collect())
 }

@@ -1,8 +1,8 @@
 //! Refusals 1 to 4: sizes and lengths about their limits, in every order of faults; and that nothing is touched.
 
-use crate::call::{Answer, Ask, Decoder, Difference, Entry, Lent};
-use crate::random::Random;
+use crate::call::{Answer, Ask, Decoder, Difference, Entry, Lent, NUMBERS};
 use std::fmt;
+use streams::random::Random;
 
 /// How long the buffers of a call are.
 #[derive(Clone, Copy, Debug)]
@@ -72,7 +72,7 @@ pub struct Seen {
     pub seed: u64,
     pub calls: u64,
     /// How many got number 0 to 8.
-    pub numbers: [u64; 9],
+    pub numbers: [u64; NUMBERS],
 }
 
 impl fmt::Display for Seen {

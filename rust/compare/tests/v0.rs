@@ -3,6 +3,7 @@
 use compare::call::{Decoder, Entry, razvolk_of};
 use compare::v0::model::{Fault, entry};
 use compare::{refusals, v0};
+use streams::Version;
 
 fn own(fault: Fault) -> Vec<Entry> {
     let all =
@@ -12,7 +13,7 @@ fn own(fault: Fault) -> Vec<Entry> {
 
 #[test]
 fn razvolk_decodes_v0_as_the_rust_does() {
-    let entries = razvolk_of(false);
+    let entries = razvolk_of(Version::V0);
     let seen = v0::compare(&entries, 0x5eed, 4_000).unwrap_or_else(|difference| panic!("{difference}"));
     println!("{seen}");
     assert_eq!(seen.calls, 4_000 * 2 * entries.len() as u64);
@@ -23,7 +24,7 @@ fn razvolk_decodes_v0_as_the_rust_does() {
 
 #[test]
 fn razvolk_refuses_v0_by_the_rules() {
-    let entries = razvolk_of(false);
+    let entries = razvolk_of(Version::V0);
     let seen = refusals::compare(&entries, 0x5eed, 4_000).unwrap_or_else(|difference| panic!("{difference}"));
     println!("{seen:?}");
     assert!([0, 1, 3].iter().all(|&i| seen.numbers[i] > 100), "{seen:?}");

@@ -3,6 +3,8 @@
 use compare::call::{Entry, razvolk_of};
 use compare::v2::model::{Fault, entry};
 use compare::{refusals, v2};
+use streams::Version;
+use streams::random::Random;
 
 fn own(fault: Fault) -> Vec<Entry> {
     [false, true].into_iter().map(|map| entry(fault, map)).collect()
@@ -10,7 +12,7 @@ fn own(fault: Fault) -> Vec<Entry> {
 
 #[test]
 fn razvolk_decodes_v2_as_the_rust_does() {
-    let entries = razvolk_of(true);
+    let entries = razvolk_of(Version::V2);
     let seen = v2::compare(&entries, 0x5eed, 120).unwrap_or_else(|difference| panic!("{difference}"));
     println!("{seen}");
     assert!([0, 5, 6, 7, 8].iter().all(|&i| seen.numbers[i] > 0), "{seen}");
@@ -20,7 +22,7 @@ fn razvolk_decodes_v2_as_the_rust_does() {
 
 #[test]
 fn frames_of_full_size_are_the_largest_and_a_camera_s() {
-    let mut random = compare::random::Random::new(1);
+    let mut random = Random::new(1);
     let sizes: Vec<(usize, usize)> = (0..50).map(|i| v2::full::size(&mut random, i)).collect();
     let count = |size: (usize, usize)| sizes.iter().filter(|&&one| one == size).count();
     assert!(count((16_384, 16_384)) == 2 && count((6_496, 4_336)) == 20, "{sizes:?}");
@@ -29,7 +31,7 @@ fn frames_of_full_size_are_the_largest_and_a_camera_s() {
 
 #[test]
 fn razvolk_refuses_v2_by_the_rules() {
-    let entries = razvolk_of(true);
+    let entries = razvolk_of(Version::V2);
     let seen = refusals::compare(&entries, 0x5eed, 1_000).unwrap_or_else(|difference| panic!("{difference}"));
     println!("{seen}");
     assert!((1..=4).all(|i| seen.numbers[i] > 5), "{seen}");

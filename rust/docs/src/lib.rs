@@ -1,13 +1,32 @@
-//! Holds the documents to the sources: docs/RULES.md names every definition of the rules, and no other. It needs neither the
-//! archive nor the reference.
+//! Holds the documents, the C header and the Rust crate to the sources, and one list to another, so that what is said in several
+//! places is said alike in all of them. It needs neither the archive nor the reference.
 
-use std::collections::BTreeSet;
+pub mod answers;
+pub mod definitions;
+pub mod edits;
+pub mod interface;
+pub mod layers;
+pub mod markdown;
+
+use std::fmt::Display;
 use std::path::{Path, PathBuf};
 use std::{fs, io};
 
 /// The repository's top.
 pub fn top() -> PathBuf {
     Path::new(env!("CARGO_MANIFEST_DIR")).join("../..")
+}
+
+/// A file of the repository, by its path from the top.
+pub fn text(path: &str) -> String {
+    fs::read_to_string(top().join(path)).unwrap_or_else(|e| panic!("{path}: {e}"))
+}
+
+/// All files below a folder of the repository with an extension: their paths, and their texts.
+pub fn texts(folder: &str, extension: &str) -> Vec<(PathBuf, String)> {
+    let mut paths = files(&top().join(folder), &|_| false).unwrap_or_else(|e| panic!("{folder}: {e}"));
+    paths.retain(|path| path.extension().is_some_and(|found| found == extension));
+    paths.into_iter().map(|path| (path.clone(), fs::read_to_string(&path).expect("text"))).collect()
 }
 
 /// The files below a folder, in the order of their names; what `leave_out` picks is passed over, folders with all they hold.
@@ -25,168 +44,15 @@ pub fn files(folder: &Path, leave_out: &dyn Fn(&Path) -> bool) -> io::Result<Vec
     Ok(found)
 }
 
-/// The public definitions of an antt file: functions, records and data types. Not counted are `mod`, `use` and rule sets, and
-/// what belongs to a record or a data type, its fields and constructors.
-pub fn definitions(antt: &str) -> Vec<String> {
-    let mut names = Vec::new();
-    // The indentation of the record or data type whose body is being read: what stands deeper belongs to it.
-    let mut body: Option<usize> = None;
-    for line in without_comments(antt).lines().filter(|line| !line.trim().is_empty()) {
-        let indent = line.len() - line.trim_start().len();
-        if body.is_some_and(|of| indent > of) {
-            continue;
-        }
-        body = None;
-        let mut words = line.split_whitespace().peekable();
-        while words.next_if(|word| ["unfoldable", "abbrev"].contains(word)).is_some() {}
-        let public = words.next_if_eq(&"pub").is_some();
-        if words.next_if(|word| ["record", "data"].contains(word)).is_some() {
-            body = Some(indent);
-        }
-        match words.next() {
-            Some("mod" | "use" | "ruleset") | None => {}
-            Some(name) if public => names.push(name.to_string()),
-            Some(_) => {}
-        }
-    }
-    names
+/// What keeps a place's list from the one that it is held to: what it does not have, and what it has besides.
+pub fn differences<T: PartialEq + Display>(expected: &[T], place: &str, found: &[T]) -> Vec<String> {
+    let missing = expected.iter().filter(|one| !found.contains(one)).map(|one| format!("{place} has no \"{one}\""));
+    let besides = found.iter().filter(|one| !expected.contains(one)).map(|one| format!("{place} has \"{one}\""));
+    missing.chain(besides).collect()
 }
 
-/// The text without `-- ..` and `{- .. -}`, line for line.
-fn without_comments(antt: &str) -> String {
-    let mut kept = String::new();
-    let mut depth = 0;
-    for line in antt.lines() {
-        let mut rest = line;
-        while let Some(c) = rest.chars().next() {
-            if rest.starts_with("{-") {
-                depth += 1;
-                rest = &rest[2..];
-            } else if depth > 0 && rest.starts_with("-}") {
-                depth -= 1;
-                rest = &rest[2..];
-            } else if depth == 0 && rest.starts_with("--") {
-                break;
-            } else {
-                if depth == 0 {
-                    kept.push(c);
-                }
-                rest = &rest[c.len_utf8()..];
-            }
-        }
-        kept.push('\n');
-    }
-    kept
-}
-
-/// The definitions that a document cites: in backticks, `File.name`, where File begins with a capital. A file's own name, as
-/// README.md, is no citation, and neither is what stands in a block of code.
-pub fn citations(markdown: &str) -> Vec<String> {
-    let mut cited = Vec::new();
-    let mut code = false;
-    for line in markdown.lines() {
-        if line.trim_start().starts_with("```") {
-            code = !code;
-        } else if !code {
-            cited.extend(line.split('`').skip(1).step_by(2).filter(|text| is_citation(text)).map(str::to_string));
-        }
-    }
-    cited
-}
-
-fn is_citation(text: &str) -> bool {
-    let Some((file, name)) = text.split_once('.') else { return false };
-    file.starts_with(|c: char| c.is_ascii_uppercase())
-        && file.chars().all(|c| c.is_ascii_alphanumeric())
-        && !name.is_empty()
-        && !name.contains(|c: char| c.is_whitespace() || c == '.')
-        && !["md", "rs", "rt", "antt", "txt", "toml", "h", "c"].contains(&name)
-}
-
-/// What keeps a document and the definitions apart, a line for each name. The definitions come with their file's stem.
-pub fn differences(markdown: &str, specs: &[(String, String)]) -> Vec<String> {
-    let defined: BTreeSet<String> = specs
-        .iter()
-        .flat_map(|(stem, antt)| definitions(antt).into_iter().map(move |n| format!("{stem}.{n}")))
-        .collect();
-    let cited: BTreeSet<String> = citations(markdown).into_iter().collect();
-    let missing = defined.difference(&cited).map(|name| format!("`{name}` is defined and not cited"));
-    let unknown = cited.difference(&defined).map(|name| format!("`{name}` is cited and not defined"));
-    missing.chain(unknown).collect()
-}
-
-#[cfg(test)]
-mod tests {
-    use super::*;
-
-    const SPEC: &str = "\
--- A comment that says pub nothing : Type 0
-use Prim.Native.Nat.{ℕ, _+_}
-pub mod Below
-unfoldable pub use Other.{thing}
-{- pub hidden : ℕ
-   pub also-hidden : ℕ -}
-abbrev pub word-at : List ℕ → ℕ → ℕ
-word-at s p = getD s p 0
-
-unfoldable abbrev pub both : ℕ
-pub record Fields (A : Type 0) : Type 0 where
-  pub values : List A
-  -- A comment between the fields.
-
-  pub bits : Bits
-
-pub data Base : Type 0 where
-  given : ℕ → Base
-private : ℕ
-private = 0
-record Closed : Type 0 where
-  pub open-field : ℕ
-module _ {A : Type 0} (k : Kind A) where
-  unfoldable pub put : ℕ → A
-  put n = k .put n
-  pub record Joined : Type 0 where
-    pub half : ℕ
-  module _ (J : Joined) where
-    pub play-each (n : ℕ) : ℕ
-pub _⊕_ : ℕ → ℕ → ℕ
-";
-
-    fn spec(text: &str) -> Vec<(String, String)> {
-        vec![("Reader".to_string(), text.to_string())]
-    }
-
-    #[test]
-    fn definitions_are_found_and_fields_are_not() {
-        let expected = ["word-at", "both", "Fields", "Base", "put", "Joined", "play-each", "_⊕_"];
-        assert_eq!(definitions(SPEC), expected);
-    }
-
-    #[test]
-    fn citations_are_file_and_name() {
-        let text = "A rule (`Reader.read`, `V2.header-of`) of `README.md`, `count`, `Reader. x` and `Bits::new`.\n\
-            ```\n`Code.block`\n```\nThen `Reader._⊕_`; `samsung.rs`, `a.B` and `Reader.a.b` are none.";
-        assert_eq!(citations(text), ["Reader.read", "V2.header-of", "Reader._⊕_"]);
-    }
-
-    #[test]
-    fn a_document_that_names_each_definition_is_held() {
-        let none: [String; 0] = [];
-        assert_eq!(
-            differences("`Reader.a` and `Reader.B`, again `Reader.a`", &spec("pub a : ℕ\npub data B : Type 0")),
-            none
-        );
-    }
-
-    #[test]
-    fn a_definition_that_is_not_cited_is_named() {
-        let found = differences("`Reader.a`", &spec("pub a : ℕ\nabbrev pub b : ℕ"));
-        assert_eq!(found, ["`Reader.b` is defined and not cited"]);
-    }
-
-    #[test]
-    fn a_citation_of_nothing_is_named() {
-        let found = differences("`Reader.a`, `Reader.gone` and `Writer.a`", &spec("pub a : ℕ\ngone : ℕ"));
-        assert_eq!(found, ["`Reader.gone` is cited and not defined", "`Writer.a` is cited and not defined"]);
-    }
+/// Fails with the differences, if there are any.
+pub fn hold<T: PartialEq + Display>(expected: &[T], place: &str, found: &[T]) {
+    let differences = differences(expected, place, found);
+    assert!(differences.is_empty(), "{}", differences.join("\n"));
 }

@@ -1,21 +1,6 @@
 //! What libFuzzer calls: all that the tool does with a file, but for reading and writing it. `make fuzz` builds this with
 //! counters of the edges that a file reaches, by which libFuzzer finds its way, and with checks of overflow.
 
-#[path = "../../src/bin/razvolk/deflate.rs"]
-mod deflate;
-#[path = "../../src/bin/razvolk/pgm.rs"]
-mod pgm;
-#[path = "../../src/bin/razvolk/png.rs"]
-mod png;
-#[path = "../../src/bin/razvolk/report.rs"]
-mod report;
-#[path = "../../src/bin/razvolk/seen.rs"]
-mod seen;
-#[path = "../../src/bin/razvolk/srw.rs"]
-mod srw;
-#[path = "../../src/bin/razvolk/worker.rs"]
-mod worker;
-
 use std::slice;
 
 /// A panic in here ends the program, which is what libFuzzer looks for.
@@ -28,6 +13,6 @@ use std::slice;
 pub unsafe extern "C" fn LLVMFuzzerTestOneInput(data: *const u8, len: usize) -> i32 {
     // SAFETY: libFuzzer's promise; without bytes the pointer may be null.
     let file = if len == 0 { &[] } else { unsafe { slice::from_raw_parts(data, len) } };
-    let _ = seen::seen(file);
+    let _ = razvolk_tool::look::seen(file);
     0
 }

@@ -1,11 +1,11 @@
 //! V0's entries against the Rust: samples over the whole buffer, marks against runs over two sets of old values, scratch
 //! against the directions read on their own.
 
-use super::frames::{self, Frame};
 use super::parse;
-use crate::call::{Answer, Decoder, Difference, Entry, Lent, first_difference};
-use crate::random::Random;
+use crate::call::{Answer, Ask, Decoder, Difference, Entry, Lent, first_difference};
 use std::fmt;
+use streams::random::Random;
+use streams::{Frame, v0};
 
 /// What was compared, and what the frames made use of.
 #[derive(Debug, Default)]
@@ -43,8 +43,8 @@ impl fmt::Display for Seen {
 /// What the Rust leaves of a frame over old values.
 pub fn rust(frame: &Frame, old: &[u16]) -> Vec<u16> {
     let mut out = old.to_vec();
-    let Frame { src, offsets, width, height } = frame;
-    reference::decode_v0_reference(src, offsets, *width, *height, &mut out).expect("the frame is within the limits");
+    let &Frame { width, height, ref stream, ref offsets, .. } = frame;
+    reference::decode_v0_reference(stream, offsets, width, height, &mut out).expect("the frame is within the limits");
     out
 }
 
@@ -75,8 +75,8 @@ fn expected(frame: &Frame, old: Vec<u16>) -> Result<Expected, String> {
     let old = [one_higher(&old), old];
     let samples = [rust(frame, &old[0]), rust(frame, &old[1])];
     let mut other = old[1].clone();
-    let Frame { src, offsets, width, height } = frame;
-    reference::decode_v0(src, offsets, *width, *height, &mut other).expect("the frame is within the limits");
+    let &Frame { width, height, ref stream, ref offsets, .. } = frame;
+    reference::decode_v0(stream, offsets, width, height, &mut other).expect("the frame is within the limits");
     if let Some(what) = first_difference(&other, &samples[1]) {
         return Err(format!("the Rust's decode_v0 and decode_v0_reference: {what}"));
     }
@@ -87,7 +87,7 @@ fn expected(frame: &Frame, old: Vec<u16>) -> Result<Expected, String> {
 /// Compares one frame through every entry, over both sets of old values; old samples and what the other buffers hold at entry
 /// are random, and each buffer may be longer than the frame needs.
 pub fn frame(entries: &[Entry], frame: &Frame, random: &mut Random, seen: &mut Seen) -> Result<(), String> {
-    let n = frame.width * frame.height;
+    let n = frame.samples();
     let more = [0; 3].map(|_| if random.below(2) == 0 { 0 } else { random.index(40) });
     let expected = expected(frame, random.samples(n + more[0]))?;
     for entry in entries {
@@ -96,7 +96,7 @@ pub fn frame(entries: &[Entry], frame: &Frame, random: &mut Random, seen: &mut S
             let scratch = random.bytes(expected.directions.len() + more[2]);
             let (mut new_map, mut new_scratch) = (map.clone(), scratch.clone());
             let mut lent = Lent { samples: &mut samples, map: &mut new_map, scratch: &mut new_scratch };
-            let answer = entry.call(&frame.ask(), &mut lent);
+            let answer = entry.call(&Ask::of(frame), &mut lent);
             seen.calls += 1;
             if answer != Answer::DONE {
                 return Err(format!("{}: answer {answer}, expected done", entry.name));
@@ -121,7 +121,7 @@ pub fn frame(entries: &[Entry], frame: &Frame, random: &mut Random, seen: &mut S
 
 fn note(frame: &Frame, expected: &Expected, seen: &mut Seen) {
     seen.frames += 1;
-    seen.samples += (frame.width * frame.height) as u64;
+    seen.samples += frame.samples() as u64;
     let marked = expected.marks.iter().map(|&mark| u64::from(mark)).sum::<u64>();
     seen.marked += marked;
     seen.old += u64::from(marked > 0);
@@ -145,10 +145,10 @@ pub fn compare(entries: &[Entry], seed: u64, frames: u64) -> Result<Seen, Differ
     let mut random = Random::new(seed);
     let mut seen = Seen { seed, ..Seen::default() };
     for i in 0..frames {
-        let (width, height) = frames::size(&mut random, i);
-        let one = frames::any(&mut random, width, height);
+        let (width, height) = v0::any::size(&mut random, i);
+        let one = v0::any(&mut random, width, height);
         frame(entries, &one, &mut random, &mut seen).map_err(|what| {
-            let shown = if one.src.len() <= 200 && height <= 16 { format!("{one:02x?}") } else { String::new() };
+            let shown = if one.stream.len() <= 200 && height <= 16 { format!("{one:02x?}") } else { String::new() };
             Difference(format!("V0, seed {seed}, frame {i}, {width} by {height}: {what}\n{shown}"))
         })?;
     }

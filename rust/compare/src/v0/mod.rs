@@ -1,9 +1,7 @@
-//! V0: frames to decode, and the comparison of its entries with the Rust.
+//! V0: the comparison of its entries with the Rust, and a decoder that is wrong where wanted.
 
 pub mod compare;
-pub mod frames;
 pub mod model;
 pub mod parse;
 
 pub use compare::compare;
-pub use frames::Frame;

@@ -1,9 +1,9 @@
 //! A V0 decoder of its own, written from the rules, with a fault where wanted: the comparisons must find each fault out.
 
-use super::frames::{order, skipped};
 use crate::call::{Answer, Ask, Decoder, Entry, Lent};
 use crate::refusals;
-use crate::stream::Reader;
+use streams::bits::Reader;
+use streams::v0::{order, skipped};
 
 crate::faults::faults!(
     SkippedReadsBits,

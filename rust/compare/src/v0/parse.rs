@@ -1,7 +1,8 @@
 //! The heads of a V0 frame's blocks, read on their own: what scratch must hold, and what a frame makes use of.
 
-use super::frames::{Frame, order, skipped};
-use crate::stream::Reader;
+use streams::Frame;
+use streams::bits::Reader;
+use streams::v0::{fresh_length, order, skipped};
 
 /// A block's head.
 pub struct Head {
@@ -17,8 +18,8 @@ pub fn heads(frame: &Frame, mut each: impl FnMut(Head)) -> usize {
     let Frame { width, height, .. } = *frame;
     let mut overruns = 0;
     for row in 0..height {
-        let mut reader = Reader::new(&frame.src, u64::from(frame.offsets[row]));
-        let mut lengths = [if row < 2 { 7i64 } else { 4 }; 4];
+        let mut reader = Reader::new(&frame.stream, u64::from(frame.offsets[row]));
+        let mut lengths = [i64::from(fresh_length(row)); 4];
         for col in (0..width).step_by(16) {
             let direction = reader.get(1);
             let operations = [0; 4].map(|_| reader.get(2));

@@ -1,11 +1,12 @@
 //! V2's entries against the Rust: the refusal's number, its row, samples over the whole buffer, and marks.
 
 use super::model::{self, Fault, Used};
-use super::streams::{self, Planted, Scale, Stream, Style};
-use crate::call::{Answer, Difference, Entry, Lent, first_difference};
-use crate::random::Random;
+use crate::call::{Answer, Ask, Difference, Entry, Lent, NUMBERS, first_difference};
 use reference::Error;
 use std::fmt;
+use streams::Frame;
+use streams::random::Random;
+use streams::v2::any::{Planted, Scale, Style, written};
 
 /// What was compared.
 #[derive(Debug, Default)]
@@ -17,7 +18,7 @@ pub struct Seen {
     pub samples: u64,
     /// How many calls got number 0 to 8, how many were done or refused after row 2, and how many samples were marked 1 of
     /// those that were written or not.
-    pub numbers: [u64; 9],
+    pub numbers: [u64; NUMBERS],
     pub deep: u64,
     pub marked: u64,
     /// How often each row was the one in which the stream ended.
@@ -42,9 +43,9 @@ impl fmt::Display for Seen {
 }
 
 /// What the Rust answers and leaves over old values; it tells a row only with 8.
-pub fn rust(stream: &Stream, old: &[u16]) -> (Answer, Vec<u16>) {
+pub fn rust(frame: &Frame, old: &[u16]) -> (Answer, Vec<u16>) {
     let mut out = old.to_vec();
-    let answer = match reference::decode_v2(&stream.src, stream.width, stream.height, &mut out) {
+    let answer = match reference::decode_v2(&frame.stream, frame.width, frame.height, &mut out) {
         Ok(()) => Answer::DONE,
         Err(Error::InvalidArgument(_)) => Answer::refused(3),
         Err(Error::CorruptFile { what, .. }) => refusal(&what),
@@ -76,10 +77,10 @@ struct Expected {
 
 /// The Rust's number and samples. The rows of 5 to 7 and the marks are those of the decoder of its own, which must give the
 /// Rust's number and samples, and whose samples marked 0 must be the Rust's over other old values, too.
-fn expected(stream: &Stream, old: &[u16], other: &[u16]) -> Result<Expected, String> {
-    let (told, samples) = rust(stream, old);
+fn expected(frame: &Frame, old: &[u16], other: &[u16]) -> Result<Expected, String> {
+    let (told, samples) = rust(frame, old);
     let mut own = old.to_vec();
-    let (answer, marks, used) = model::marked(Fault::None, &stream.ask(), &mut own);
+    let (answer, marks, used) = model::marked(Fault::None, &Ask::of(frame), &mut own);
     if answer.number != told.number || told.number == 8 && answer.row != told.row {
         return Err(format!("the decoder of its own answers {answer}, the Rust {told}"));
     }
@@ -88,29 +89,29 @@ fn expected(stream: &Stream, old: &[u16], other: &[u16]) -> Result<Expected, Str
     }
     // A frame of the largest size has half a gigabyte of samples.
     drop(own);
-    let (_, over_other) = rust(stream, other);
+    let (_, over_other) = rust(frame, other);
     let n = marks.len();
     if let Some(i) = (0..n).find(|&i| marks[i] == 0 && over_other[i] != samples[i]) {
         return Err(format!("sample {i} is marked 0, and is {} or {} by its old values", samples[i], over_other[i]));
     }
-    let unwritten = |i: usize| i % stream.width >= stream.width / 16 * 16;
+    let unwritten = |i: usize| i % frame.width >= frame.width / 16 * 16;
     if let Some(i) = (0..n).find(|&i| unwritten(i) && marks[i] == 0) {
         return Err(format!("sample {i} is not written, and marked 0"));
     }
     Ok(Expected { answer, samples, marks, used })
 }
 
-/// Compares one stream through every entry; the buffers may be longer than the frame, and hold anything.
-pub fn stream(entries: &[Entry], stream: &Stream, random: &mut Random, seen: &mut Seen) -> Result<(), String> {
-    let n = stream.width * stream.height;
+/// Compares one frame through every entry; the buffers may be longer than the frame, and hold anything.
+pub fn frame(entries: &[Entry], frame: &Frame, random: &mut Random, seen: &mut Seen) -> Result<(), String> {
+    let n = frame.samples();
     let more = [random.index(40), random.index(40)];
     let old = random.samples(n + more[0]);
-    let expected = expected(stream, &old, &random.samples(n))?;
+    let expected = expected(frame, &old, &random.samples(n))?;
     for entry in entries {
         let (mut samples, map) = (old.clone(), random.bytes(n + more[1]));
         let mut new_map = map.clone();
         let mut lent = Lent { samples: &mut samples, map: &mut new_map, scratch: &mut [] };
-        let answer = entry.call(&stream.ask(), &mut lent);
+        let answer = entry.call(&Ask::of(frame), &mut lent);
         if answer != expected.answer {
             return Err(format!("{}: answer {answer}, expected {}", entry.name, expected.answer));
         }
@@ -185,14 +186,14 @@ pub fn compare(entries: &[Entry], seed: u64, calls: u64) -> Result<Seen, Differe
         let (width, height) = size(&mut random, i);
         let style = style(&mut random, i);
         let planted = planted(&mut random, i, width, height);
-        let whole = streams::written(&mut random, &style, width, height, planted);
+        let whole = written(&mut random, &style, width, height, planted);
         for change in changes(&mut random, i, &whole).into_iter().take((calls - seen.calls) as usize) {
             let one = match change {
                 Change::None => whole.clone(),
-                Change::Cut(row) => whole.cut(&mut random, row),
-                Change::Damage(row) => whole.damaged(&mut random, row),
+                Change::Cut(row) => whole.cut_in_row(&mut random, row),
+                Change::Damage(row) => whole.damaged_in_row(&mut random, row),
             };
-            stream(entries, &one, &mut random, &mut seen).map_err(|what| {
+            frame(entries, &one, &mut random, &mut seen).map_err(|what| {
                 let stream = format!("stream {i}, {width} by {height}, {style:?}, {planted:?}, {change:?}");
                 Difference(format!("V2, seed {seed}, {stream}: {what}"))
             })?;
@@ -209,7 +210,7 @@ enum Change {
     Damage(usize),
 }
 
-fn changes(random: &mut Random, i: u64, whole: &Stream) -> Vec<Change> {
+fn changes(random: &mut Random, i: u64, whole: &Frame) -> Vec<Change> {
     let height = whole.height;
     let mut changes = vec![Change::None];
     match i % 100 {

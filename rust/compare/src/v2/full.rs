@@ -1,9 +1,9 @@
 //! V2's entries against the Rust on frames of full size: accepted, or refused in one of their last rows.
 
-use super::compare::{Seen, stream};
-use super::streams::{self, Planted, Style};
+use super::compare::{Seen, frame};
 use crate::call::{Difference, Entry};
-use crate::random::Random;
+use streams::random::Random;
+use streams::v2::any::{Planted, Style, written};
 
 /// The size of frame number `i`: twice in 50 the largest, else a camera's, or as wide or as high as can be.
 pub fn size(random: &mut Random, i: u64) -> (usize, usize) {
@@ -27,11 +27,11 @@ pub fn compare(entries: &[Entry], seed: u64, calls: u64) -> Result<Seen, Differe
         let row = height - 1 - random.index(height / 8);
         let block = 1 + random.index(width / 16 - 1);
         let planted = (i % 3 == 2).then_some(Planted { number: 7, row, block });
-        let mut one = streams::written(&mut random, &style, width, height, planted);
+        let mut one = written(&mut random, &style, width, height, planted);
         if i % 3 == 1 {
-            one = one.cut(&mut random, row);
+            one = one.cut_in_row(&mut random, row);
         }
-        stream(entries, &one, &mut random, &mut seen).map_err(|what| {
+        frame(entries, &one, &mut random, &mut seen).map_err(|what| {
             Difference(format!(
                 "V2 of full size, seed {seed}, stream {i}, {width} by {height}, {style:?}, row {row}: {what}"
             ))

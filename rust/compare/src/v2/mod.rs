@@ -1,9 +1,7 @@
-//! V2: streams to decode, and the comparison of its entries with the Rust.
+//! V2: the comparison of its entries with the Rust, and a decoder of its own, wrong where wanted.
 
 pub mod compare;
 pub mod full;
 pub mod model;
-pub mod streams;
 
 pub use compare::compare;
-pub use streams::Stream;

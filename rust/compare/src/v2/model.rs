@@ -1,10 +1,10 @@
 //! A V2 decoder of its own, written from the rules: it gives what the Rust does not tell, the row of each refusal and the
 //! marks. With a fault where wanted: the comparison must find each fault out.
 
-use super::streams::colour;
 use crate::call::{Answer, Ask, Decoder, Entry, Lent};
 use crate::refusals;
-use crate::stream::Reader;
+use streams::bits::Reader;
+use streams::v2::colour;
 
 crate::faults::faults!(
     OverrunFirst,

@@ -1,0 +1,9 @@
+-- The text of an input that is read as far as the job's array goes.
+use Prim.Native.Nat.{ℕ}
+use mathlib.Core.Bool.{Bool, cond}
+use mathlib.Core.List.{List}
+use Rattle.rules.specs.Job.{text, fault}
+
+-- The text of an input that begins with the bytes s, and goes on after them or not.
+unfoldable pub text-of : List ℕ → Bool → List ℕ
+text-of s more = cond more (fault 3) (text s)

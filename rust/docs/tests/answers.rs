@@ -1,0 +1,37 @@
+//! The answers are listed in docs/RULES.md; whatever else lists them says the same. A new number is added there, as a constant
+//! of `Answer` in crates/rules, and wherever this test then fails.
+
+use docs::answers::{Listed, constants, displayed, names, of_c, of_tables};
+use docs::{hold, text};
+
+/// The list, done first.
+fn rules() -> Vec<Listed> {
+    let rules = of_tables(&text("docs/RULES.md"));
+    assert!(rules.len() > 8 && rules[0].number == 0, "{rules:?}");
+    assert!(rules.windows(2).all(|pair| pair[0].number < pair[1].number), "{rules:?}");
+    rules
+}
+
+#[test]
+fn each_number_is_a_constant_of_its_name() {
+    let (source, rules) = ("crates/rules/src/answer.rt", text("docs/RULES.md"));
+    hold(&constants(&text(source)), "docs/RULES.md", &names(&rules));
+}
+
+#[test]
+fn the_header_lists_the_same() {
+    hold(&rules(), "include/razvolk.h", &of_c(&text("include/razvolk.h")));
+}
+
+#[test]
+fn the_rust_crate_and_the_migration_page_list_the_same_refusals() {
+    for place in ["rust/src/answer.rs", "docs/MIGRATION.md"] {
+        hold(&rules()[1..], place, &of_tables(&text(place)));
+    }
+}
+
+#[test]
+fn the_rust_crate_has_a_text_for_each_refusal() {
+    let refusals: Vec<u32> = rules()[1..].iter().map(|one| one.number).collect();
+    hold(&refusals, "rust/src/answer.rs", &displayed(&text("rust/src/answer.rs")));
+}

@@ -1,0 +1,27 @@
+//! `frames FOLDER` writes frames to look at with `razvolk`, in a camera's container:
+//!
+//! - `sitting.srw`: V0, what a worker decoded before;
+//! - `christening.srw`: V0, whose first 24 rows are upward blocks: they show what the buffer held;
+//! - `christening-v2.srw`: V2, of a width that 16 does not divide;
+//! - `small.srw`, `small-v2.srw`: a V0 frame of 20 by 5, and a V2 frame that breaks off in row 37, to damage.
+
+use std::path::Path;
+use std::{env, fs, io};
+use streams::images::{christening, sitting};
+use streams::{srw, v0, v2};
+
+fn main() -> io::Result<()> {
+    let folder = env::args_os().nth(1).ok_or_else(|| io::Error::other("usage: frames FOLDER"))?;
+    fs::create_dir_all(&folder)?;
+    let v2 = v2::encode(&christening(646, 436), 646, 436);
+    for (name, frame) in [
+        ("sitting.srw", v0::encode(&sitting(320, 200), 320, 200)),
+        ("christening.srw", v0::encode::with_band(&christening(320, 200), 320, 200, 24)),
+        ("christening-v2.srw", v2.clone()),
+        ("small.srw", v0::encode::with_band(&christening(20, 5), 20, 5, 1)),
+        ("small-v2.srw", v2.cut(3_000)),
+    ] {
+        fs::write(Path::new(&folder).join(name), srw::file(&frame))?;
+    }
+    Ok(())
+}

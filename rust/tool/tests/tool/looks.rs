@@ -1,0 +1,131 @@
+//! What is printed of a frame, and written of it.
+
+use crate::folder::{Folder, bad, done, refused};
+use std::fs;
+use std::path::PathBuf;
+use streams::images::{christening, sitting};
+use streams::srw::{self, LONG, SHORT, directory};
+use streams::v0::encode::with_band;
+use streams::{Frame, Version, v0};
+
+#[test]
+fn a_frame_over_another() {
+    let folder = Folder::new("over");
+    folder.put("first.srw", srw::file(&v0::encode(&sitting(40, 6), 40, 6)));
+    folder.put("next.srw", srw::file(&with_band(&christening(40, 6), 40, 6, 2)));
+    let text = "over first.srw: V0, 40 by 6, 408 bytes of stream\ndone\nnext.srw: V0, 40 by 6, 200 bytes of stream\ndone\n\
+        80 of 240 samples rest on what the buffer held before\n  rows 0 to 1: 40 of 40 each\n";
+    assert_eq!(folder.run("--over first.srw next.srw --pgm next.pgm --png next.png"), done(text));
+    let pgm = folder.get("next.pgm").expect("samples");
+    assert_eq!((&pgm[..13], pgm.len()), (&b"P5\n40 6\n65535"[..], 14 + 480));
+    assert!(folder.get("next.png").expect("a picture").starts_with(b"\x89PNG\r\n\x1a\n"));
+}
+
+/// The README shows the picture and the text that `make picture` makes.
+#[test]
+fn the_readme_shows_what_the_tool_does() {
+    let folder = Folder::new("readme");
+    folder.put("sitting.srw", srw::file(&v0::encode(&sitting(320, 200), 320, 200)));
+    folder.put("christening.srw", srw::file(&with_band(&christening(320, 200), 320, 200, 24)));
+    let (status, text, _) = folder.run("--over sitting.srw christening.srw --png marked.png");
+    let top = PathBuf::from(env!("CARGO_MANIFEST_DIR")).join("../..");
+    assert!(status == 0 && folder.get("marked.png") == fs::read(top.join("docs/marked.png")).ok());
+    let readme = fs::read_to_string(top.join("README.md")).expect("README.md");
+    let shown: String = text.lines().map(|line| format!("    {line}\n")).collect();
+    assert!(readme.contains(&shown), "the README has\n{shown}");
+}
+
+#[test]
+fn bare_streams() {
+    let folder = Folder::new("bare");
+    folder.put("v0", [0, 0, 0, 0x80, 0x18, 0x20, 0xa0, 0x7f, 0, 0, 0x70, 0]);
+    folder.put("offsets", "0 4\n");
+    let text = "v0: V0, 2 by 2, 12 bytes of stream\ndone\n2 of 4 samples rest on what the buffer held before\n  \
+        rows 0 to 1: 1 of 2 each\n";
+    assert_eq!(folder.run("--v0 2x2 --offsets offsets v0 --pgm v0.pgm"), done(text));
+    assert_eq!(folder.get("v0.pgm").expect("samples"), b"P5\n2 2\n65535\n\0\0\0\x83\0\0\0\x7e");
+    folder.put("v0", [0x18, 0x20, 0xa0, 0x7f, 0, 0, 0x70, 0, 0x08, 0, 0xa0, 0xff, 0, 0, 0, 0]);
+    folder.put("offsets", "0,8");
+    let text = "v0: V0, 2 by 2, 16 bytes of stream\ndone\nall 4 samples rest on the stream\n";
+    assert_eq!(folder.run("--v0 2x2 --offsets offsets v0"), done(text));
+    folder.put("v2", [0; 16]);
+    let text = "v2: V2, 646 by 436, 16 bytes of stream\nrefused 8, row 0: the stream ends in row 0\n\
+        281016 of 281656 samples rest on what the buffer held before\n  row 0: 6 of 646\n  rows 1 to 435: 646 of 646 each\n";
+    assert_eq!(folder.run("--v2 646x436 v2 --png v2.png"), refused(text));
+    assert!(folder.get("v2.png").is_some(), "what was decoded before the refusal can be looked at");
+}
+
+#[test]
+fn refusals() {
+    let folder = Folder::new("refusals");
+    folder.put("stream", []);
+    folder.put("offsets", "0 0");
+    let text = "stream: V2, 645 by 436, 0 bytes of stream\nrefused 2: the frame is smaller than 646 by 436\nnothing was decoded\n";
+    assert_eq!(folder.run("--v2 645x436 stream --png none.png"), refused(text));
+    assert!(folder.get("none.png").is_none());
+    let text = "stream: V0, 18446744073709551615 by 5, 0 bytes of stream\nrefused 1: width or height is above 16,384\nnothing \
+        was decoded\n";
+    assert_eq!(folder.run("--v0 18446744073709551615x5 --offsets offsets stream"), refused(text));
+    let text = "stream: V0, 5 by 5, 0 bytes of stream\nrefused 3: the sample buffer or the offset table is too short\nnothing \
+        was decoded\n";
+    assert_eq!(folder.run("--v0 5x5 --offsets offsets stream"), refused(text));
+    let text = "stream: V2, 646 by 436, 0 bytes of stream\nrefused 5, row 0: row 0 predicts from rows that do not exist\n\
+        281656 of 281656 samples rest on what the buffer held before\n  rows 0 to 435: 646 of 646 each\n";
+    assert_eq!(folder.run("--v2 646x436 stream"), refused(text));
+}
+
+#[test]
+fn bad_input() {
+    let folder = Folder::new("bad");
+    folder.put("text", "no TIFF");
+    folder.put("offsets", "0 x");
+    folder.put("none", []);
+    assert_eq!(folder.run("text"), bad("text: not a TIFF file"));
+    assert_eq!(folder.run("--over text none"), bad("none: not a TIFF file"));
+    assert_eq!(folder.run("gone"), bad("gone: No such file or directory (os error 2)"));
+    assert_eq!(folder.run("."), bad(".: Is a directory (os error 21)"));
+    assert_eq!(folder.run("--v0 2x2 --offsets offsets text"), bad("offsets: x is no number below 2^32"));
+    assert_eq!(folder.run("--what"), bad("there is no option --what"));
+    let text = "a frame of 16384 by 16384 is too large to look at: the limit is 67108864 samples";
+    assert_eq!(folder.run("--v2 16384x16384 none"), bad(text));
+    let mut file = b"II*\0\x08\0\0\0".to_vec();
+    file.extend(directory(&[(256, LONG, 16_384), (257, LONG, 16_384), (259, SHORT, 32_773), (273, LONG, 8)]));
+    folder.put("large.srw", file);
+    assert_eq!(folder.run("large.srw"), bad(text));
+}
+
+#[test]
+fn output_that_cannot_be_written() {
+    let folder = Folder::new("output");
+    folder.put("v2.srw", srw::file(&Frame { stream: vec![0; 16], ..Frame::new(Version::V2, 646, 436) }));
+    let (status, _, fault) = folder.run("v2.srw --pgm gone/x.pgm");
+    assert_eq!((status, fault.as_str()), (2, "razvolk: gone/x.pgm: No such file or directory (os error 2)\n"));
+    folder.put("offsets", "");
+    let (status, text, fault) = folder.run("--v0 5x0 --offsets offsets offsets --png x.png");
+    assert_eq!((status, text.lines().last()), (2, Some("all 0 samples rest on the stream")));
+    assert_eq!(fault, "razvolk: x.png: a frame of no samples makes no picture\n");
+}
+
+#[test]
+fn help_and_version() {
+    let folder = Folder::new("help");
+    let (status, text, _) = folder.run("--help");
+    assert!(status == 0 && text.contains("usage: razvolk") && text.contains("exit status"));
+    assert_eq!(folder.run("--version"), done(concat!("razvolk ", env!("CARGO_PKG_VERSION"), "\n")));
+    assert_eq!(folder.run(""), bad("no file is named"));
+}
+
+#[test]
+fn damaged_files_end_with_an_answer() {
+    let folder = Folder::new("damaged");
+    let file = srw::file(&with_band(&christening(20, 5), 20, 5, 1));
+    for i in 0..60 {
+        let mut damaged = file.clone();
+        let at = i * 37 % damaged.len();
+        damaged[at] ^= 0xff;
+        damaged.truncate(file.len() - i * 5 % 200);
+        folder.put("damaged.srw", damaged);
+        let (status, _, fault) = folder.run("damaged.srw");
+        assert!((0..=2).contains(&status) && fault.is_empty() == (status < 2), "{i}: {status} {fault}");
+    }
+}
