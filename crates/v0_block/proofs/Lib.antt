@@ -1,3 +1,2 @@
 pub mod HeadLaws
-pub mod FourLaws
 pub mod BlockLaws
