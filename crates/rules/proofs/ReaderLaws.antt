@@ -14,7 +14,6 @@ use lib.Signed.{mag}
 use borrow.Author.Tests.{le-leb, lt-leb, lt-ltb, le-ltb, ltb-true, ltb-false, leb-true, leb-false}
 use Rattle.rules.specs.Reader.{word-at, fetched, held, from-held, from-next, read, Fields, fields, four, signed, read-signed, modulo, read-residual}
 use Rattle.rules.specs.declared.reader.Bits.{Bits}
-use Rattle.rules.specs.declared.reader.Four.{Four}
 use Rattle.rules.specs.declared.reader.Got.{Got}
 use Rattle.rules.specs.declared.reader.Word.{Word}
 

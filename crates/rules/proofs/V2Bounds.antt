@@ -1,8 +1,8 @@
 -- The ranges that the V2 rules keep: they say which types hold a decoder's numbers.
-use Prim.Native.Nat.{ℕ, zero, suc, _+_, _-_, _*_, _/_, _%_, _^_, _≤_, _<_, min}
+use Prim.Native.Nat.{ℕ, zero, suc, _+_, _-_, _*_, _/_, _%_, _≤_, _<_}
 use mathlib.Core.Path.{_≡_, refl, sym, ap, _∙_}
 use mathlib.Core.Bool.{Bool, true, false, not, _&&_, cond}
-use mathlib.Core.List.{List, [], _∷_}
+use mathlib.Core.List.{List, []}
 use native.Mathlib.Nat.{mul-le-mul}
 use native.Mathlib.Omega.{arith}
 use lib.Dec.{eqb, ltb, lit≤, lit<}
@@ -20,7 +20,7 @@ use Rattle.rules.specs.declared.v2.V2Scale.{V2Scale}
 use Rattle.rules.specs.declared.v2.V2Block.{V2Block}
 use Rattle.rules.specs.declared.v2.V2Block.the-variants.{Next, EarlyMotion, Outside, LongDifference}
 use Rattle.rules.specs.Frame.{cells}
-use Rattle.rules.specs.Reader.{fresh, read, fields, four}
+use Rattle.rules.specs.Reader.{fresh, read, four}
 use Rattle.rules.specs.Ranges.{Between, not-above, not-below, ScaleAt, Small, Fits}
 use Rattle.rules.specs.V2.{field-widths, header, top, option-2, option-4, scale-steps, rescaled, read-scale, read-motion, Base, given, copied, averaged, repeated, referred, base, motion-averages, any-strays, base-refusal, lengths-bit, Moded, length-step, lengths-from, no-lengths, flagged-lengths, read-lengths, position, Differences, difference-step, differences-from, read-differences, Tail, tail, based-tail, Block, Parsed, read-block, Row, then, blocks, fresh-row, fresh-mode, aligned, read-row, rows, read-frame, base-cell, average, value, sample-kind}
 use Rattle.rules.proofs.Cells.{All, nil, more, all-append, all-get, all-map, each-of, all-of, each-set}
