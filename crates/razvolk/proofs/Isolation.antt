@@ -4,18 +4,31 @@ use Rattle.rules.proofs.Isolation.{Returned, Step, decodes}
 use Rattle.rules.proofs.Isolation as Rules
 use Rattle.samsung.proofs.Isolation.{Made, Call, returned}
 use Rattle.samsung.proofs.Isolation as Entries
+use Rattle.samsung.proofs.TwoPhase.{Paired, SameFrame, same-frame}
 use Rattle.razvolk.proofs.direct.razvolk_decode_v0_reference.Kinds as direct-kinds
 use Rattle.razvolk.proofs.direct.razvolk_decode_v0_reference.Reads as direct-reads
+use Rattle.razvolk.proofs.direct.razvolk_decode_v0_reference.Statement as direct-stated
+use Rattle.razvolk.proofs.direct.razvolk_decode_v0_reference.Met as direct-thm
 use Rattle.razvolk.proofs.direct.razvolk_decode_v0_reference_map.Kinds as direct-map-kinds
 use Rattle.razvolk.proofs.direct.razvolk_decode_v0_reference_map.Reads as direct-map-reads
+use Rattle.razvolk.proofs.direct.razvolk_decode_v0_reference_map.Statement as direct-map-stated
+use Rattle.razvolk.proofs.direct.razvolk_decode_v0_reference_map.Met as direct-map-thm
 use Rattle.razvolk.proofs.two_phase.razvolk_decode_v0.Kinds as two-phase-kinds
 use Rattle.razvolk.proofs.two_phase.razvolk_decode_v0.Reads as two-phase-reads
+use Rattle.razvolk.proofs.two_phase.razvolk_decode_v0.Statement as two-phase-stated
+use Rattle.razvolk.proofs.two_phase.razvolk_decode_v0.Met as two-phase-thm
 use Rattle.razvolk.proofs.two_phase.razvolk_decode_v0_map.Kinds as two-phase-map-kinds
 use Rattle.razvolk.proofs.two_phase.razvolk_decode_v0_map.Reads as two-phase-map-reads
+use Rattle.razvolk.proofs.two_phase.razvolk_decode_v0_map.Statement as two-phase-map-stated
+use Rattle.razvolk.proofs.two_phase.razvolk_decode_v0_map.Met as two-phase-map-thm
 use Rattle.razvolk.proofs.v2.razvolk_decode_v2.Kinds as v2-kinds
 use Rattle.razvolk.proofs.v2.razvolk_decode_v2.Reads as v2-reads
+use Rattle.razvolk.proofs.v2.razvolk_decode_v2.Statement as v2-stated
+use Rattle.razvolk.proofs.v2.razvolk_decode_v2.Met as v2-thm
 use Rattle.razvolk.proofs.v2.razvolk_decode_v2_map.Kinds as v2-map-kinds
 use Rattle.razvolk.proofs.v2.razvolk_decode_v2_map.Reads as v2-map-reads
+use Rattle.razvolk.proofs.v2.razvolk_decode_v2_map.Statement as v2-map-stated
+use Rattle.razvolk.proofs.v2.razvolk_decode_v2_map.Met as v2-map-thm
 
 -- A call of one of the six exported decoders.
 pub data Export : Type 0 where
@@ -48,3 +61,34 @@ Isolation = Rules.Isolation step exported
 
 pub isolation : Isolation
 isolation = Rules.isolation step exported
+
+-- Two-phase equals direct, of the exports: called alike, with scratch long enough, they give the same answer, samples and marks.
+abbrev pub TwoPhase : Type 0
+TwoPhase = (c d : Export) → Paired (exported c) (exported d) → SameFrame (exported c) (exported d)
+
+pub two-phase-same : TwoPhase
+two-phase-same c d p = same-frame (exported c) (exported d) p
+
+-- Both, beside each export's theorem that its code meets the contract that they speak of.
+pub record OfTheCode (M : Type 1) : Type 2 where
+  pub decode-v0-reference : direct-stated.statement M
+  pub decode-v0-reference-map : direct-map-stated.statement M
+  pub decode-v0 : two-phase-stated.statement M
+  pub decode-v0-map : two-phase-map-stated.statement M
+  pub decode-v2 : v2-stated.statement M
+  pub decode-v2-map : v2-map-stated.statement M
+  pub isolation : Isolation
+  pub two-phase-same : TwoPhase
+
+pub of-the-code : {M : Type 1} → OfTheCode M
+of-the-code =
+    record {
+      decode-v0-reference = direct-thm.met;
+      decode-v0-reference-map = direct-map-thm.met;
+      decode-v0 = two-phase-thm.met;
+      decode-v0-map = two-phase-map-thm.met;
+      decode-v2 = v2-thm.met;
+      decode-v2-map = v2-map-thm.met;
+      isolation = isolation;
+      two-phase-same = two-phase-same;
+    }
