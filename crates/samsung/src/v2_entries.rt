@@ -1,4 +1,4 @@
-// The entries of V2, which predicts by motion.
+// The V2 decoder's entries.
 ghost use mathlib.Core.Path.{_≡_};
 ghost use mathlib.Core.List.{[]};
 ghost use mathlib.Core.Option.{none, some};
@@ -6,7 +6,7 @@ ghost use lib.ListN.{length};
 ghost use Rattle.rules.specs.Frame.{cells};
 ghost use Rattle.rules.specs.V2 as V2;
 ghost use Rattle.rules.specs.Map.{v2-map};
-ghost use Rattle.rules.specs.Answer.{v2, ask, lent, answer, samples-after, map-after};
+ghost use Rattle.rules.specs.Answer.{v2, ask, buffers, Yields};
 ghost use Rattle.v2.specs.Blocks.{Lends};
 use refusals::Lending;
 use refusals::is_too_small;
@@ -19,8 +19,9 @@ use v2::frame::decode_frame;
 
 // Decodes a V2 frame over what `out` holds. Refusals 1 to 3 and 5 to 8.
 pub fn decode_v2(src: &[u8], width: usize, height: usize, out: &mut [u16]) -> Answer
-    ensures { λ r. ⌜ r ≡ answer (ask v2 (now (src .entry)) [] width height) (lent (length (now (out .entry))) none 0) ⌝ }
-    ensures { λ r. ⌜ now (out .exit) ≡ samples-after (ask v2 (now (src .entry)) [] width height) (lent (length (now (out .entry))) none 0) (now (out .entry)) ⌝ }
+    ensures { λ r. ⌜ Yields (ask v2 (now (src .entry)) [] width height)
+        (buffers (now (out .entry)) none none)
+        r (buffers (now (out .exit)) none none) ⌝ }
 {
     let size = Size { width, height };
     let refusal = refuse(
@@ -58,9 +59,9 @@ pub fn decode_v2_map(
     out: &mut [u16],
     map: &mut [u8],
 ) -> Answer
-    ensures { λ r. ⌜ r ≡ answer (ask v2 (now (src .entry)) [] width height) (lent (length (now (out .entry))) (some (length (now (map .entry)))) 0) ⌝ }
-    ensures { λ r. ⌜ now (out .exit) ≡ samples-after (ask v2 (now (src .entry)) [] width height) (lent (length (now (out .entry))) (some (length (now (map .entry)))) 0) (now (out .entry)) ⌝ }
-    ensures { λ r. ⌜ now (map .exit) ≡ map-after (ask v2 (now (src .entry)) [] width height) (lent (length (now (out .entry))) (some (length (now (map .entry)))) 0) (now (map .entry)) ⌝ }
+    ensures { λ r. ⌜ Yields (ask v2 (now (src .entry)) [] width height)
+        (buffers (now (out .entry)) (some (now (map .entry))) none)
+        r (buffers (now (out .exit)) (some (now (map .exit))) none) ⌝ }
 {
     let size = Size { width, height };
     let refusal = refuse(

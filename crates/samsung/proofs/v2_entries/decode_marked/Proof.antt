@@ -5,8 +5,8 @@ use borrow.Author.Needs.{needs}
 use lib.ListN.{length, replicate, length-replicate}
 use Rattle.rules.specs.V2.{frame}
 use Rattle.rules.specs.Map.{v2-map, v2-marks}
-use Rattle.samsung.proofs.motion.decode_marked.Statement.{statement}
-use Rattle.samsung.proofs.motion.decode_marked.Tie as tie
+use Rattle.samsung.proofs.v2_entries.decode_marked.Statement.{statement}
+use Rattle.samsung.proofs.v2_entries.decode_marked.Tie as tie
 
 mark-old-requires : tie.Need-mark-old-requires
 mark-old-requires c κs = search needs
