@@ -12,7 +12,7 @@ use lib.Pow.{pow-pos, pow-mono, pow-add, high, field, shr-shr, mod-mod-pow}
 use lib.Seq.{getD-take, take-take}
 use lib.Signed.{mag}
 use borrow.Author.Tests.{le-leb, lt-leb, lt-ltb, le-ltb, ltb-true, ltb-false, leb-true, leb-false}
-use Rattle.rules.specs.Reader.{word-at, fetched, held, from-held, from-next, read, Fields, fields, four, signed, read-signed, modulo, read-residual}
+use Rattle.rules.specs.Reader.{word-at, fetched, held, from-held, from-next, read, fields, four, signed, read-signed, modulo, read-residual}
 use Rattle.rules.specs.declared.reader.Bits.{Bits}
 use Rattle.rules.specs.declared.reader.Got.{Got}
 use Rattle.rules.specs.declared.reader.Word.{Word}
@@ -277,10 +277,11 @@ pub fields-more : (s : List ℕ) (n : ℕ) (ns : List ℕ) (b : Bits)
 unfolding fields
 fields-more s n ns b = refl
 
--- A field that was read, and those after it.
-pub fields-first : (s : List ℕ) (n : ℕ) (ns : List ℕ) (b : Bits) (g : Got) (f : Fields) → g ≡ read s b n → f ≡ fields s ns (g .bits)
-    → record { values = g .value ∷ f .values; bits = f .bits } ≡ fields s (n ∷ ns) b
-fields-first s n ns b g f eg ef = rw (fields-more s n ns b, ← eg, ← ef)
+-- Two fields are two reads.
+pub fields-pair : (s : List ℕ) (m n : ℕ) (b : Bits)
+    → fields s (m ∷ n ∷ []) b ≡ (let g = read s b m in let h = read s (g .bits) n in record { values = g .value ∷ h .value ∷ []; bits = h .bits })
+unfolding fields
+fields-pair s m n b = refl
 
 -- A field of n bits is below 2^n.
 pub fields-below : (s ns : List ℕ) (b : Bits) (i : ℕ) → getD (fields s ns b .values) i 0 < 2 ^ min (getD ns i 0) 32
