@@ -1,5 +1,6 @@
 //! `bench [RUNS [PART]]`: Razvolk and the Rust in turn on the same frames, in one process, the best of RUNS runs each (20); then
 //! the instructions that they take, where valgrind is installed. PART divides each side of the frames, for a quick look.
+//! `bench planes [RUNS [PART]]`: the colour planes alone.
 
 use bench::contenders::{self, Buffers, alike};
 use bench::count;
@@ -13,11 +14,16 @@ use streams::{Frame, Version, v0, v2};
 fn main() {
     let mut words = std::env::args().skip(1).peekable();
     let once = words.next_if(|word| word == "once").is_some();
-    let mut numbers = words.map(|word| word.parse().expect("usage: bench [RUNS [PART]]"));
+    let planes = words.next_if(|word| word == "planes").is_some();
+    let mut numbers = words.map(|word| word.parse().expect("usage: bench [planes] [RUNS [PART]]"));
     if once {
         return count::once(numbers.next().expect("a frame"), numbers.next().expect("a contender"));
     }
-    time_all(numbers.next().unwrap_or(20), numbers.next().unwrap_or(1));
+    let (runs, part) = (numbers.next().unwrap_or(20), numbers.next().unwrap_or(1));
+    if planes {
+        return bench::planes::time(V0.0 / part, V0.1 / part, runs);
+    }
+    time_all(runs, part);
     count::print();
 }
 
@@ -44,6 +50,7 @@ fn time_all(runs: usize, part: usize) {
     for part in [2 * part, 4 * part] {
         time("V0, like a photograph, smaller", &photo_v0(V0.0 / part, V0.1 / part, 16.0), runs);
     }
+    bench::planes::time(width, height, runs);
     for part in [part, 2 * part, 4 * part] {
         let (width, height) = (V2.0 / part / 16 * 16, V2.1 / part);
         if width >= 646 && height >= 436 {
