@@ -1,6 +1,6 @@
 //! What a frame is written as.
 
-use crate::{pgm, png};
+use crate::{pgm, png, v0};
 use razvolk::Marks;
 
 /// The forms of an output.
@@ -10,13 +10,29 @@ pub enum Form {
     Pgm,
     /// A picture that shows the marks.
     Png,
+    /// The samples as V0, to be decoded again.
+    V0,
 }
 
-/// A decoded frame in a form; none without samples. In a PNG `white` is the sample that is white, else the largest.
-pub fn file(form: Form, samples: &[u16], marks: Marks, width: usize, white: Option<u16>) -> Option<Vec<u8>> {
-    let largest = *samples.iter().max()?;
-    Some(match form {
-        Form::Pgm => pgm::file(samples, width),
-        Form::Png => png::file(samples, marks.bytes(), width, white.unwrap_or(largest)),
+/// A decoded frame.
+#[derive(Clone, Copy)]
+pub struct Decoded<'a> {
+    pub samples: &'a [u16],
+    pub marks: Marks<'a>,
+    pub width: usize,
+    pub height: usize,
+}
+
+/// A decoded frame in a form, or why it has none. In a PNG `white` is the sample that is white, else the largest.
+pub fn file(form: Form, frame: Decoded, white: Option<u16>) -> Result<Vec<u8>, String> {
+    let Decoded { samples, marks, width, height } = frame;
+    let picture = || samples.iter().max().ok_or("a frame of no samples makes no picture");
+    Ok(match form {
+        Form::Pgm => picture().map(|_| pgm::file(samples, width))?,
+        Form::Png => picture().map(|&largest| png::file(samples, marks.bytes(), width, white.unwrap_or(largest)))?,
+        Form::V0 => {
+            let refused = |refusal| format!("can't be written as V0: {refusal}");
+            v0::file(samples, width, height).map_err(refused)?
+        }
     })
 }
