@@ -18,6 +18,7 @@ use Rattle.writers.specs.declared.Pending.{Pending}
 use Rattle.writers.specs.Writer.{bits-of, fields-bits, run, padding, padded, word-bytes, words-bytes, bytes, smallest, lengths-for, length-for, block-bits}
 use Rattle.writers.specs.Pending.{joined, put-state, put-out, finished, Wrote}
 use Rattle.writers.specs.Weight.{weight, Short}
+use Rattle.writers.proofs.Ahead.{bits-low}
 use Rattle.writers.proofs.BitLists.{bits-length, bits-join}
 use Rattle.writers.proofs.BlockLength.{block-length-is}
 use Rattle.writers.proofs.Blocks.{opening-widths, opening, lengths-most}
@@ -35,6 +36,25 @@ join-fits a x n h l =
     let d : a * 2 ^ n + x % 2 ^ n < 2 ^ 32 * 2 ^ n = digits-lt h (mod-lt x (pow-pos n)) in
     let m : 2 ^ 32 * 2 ^ n ≤ 2 ^ 32 * 2 ^ 32 = mul-le-mul-left (2 ^ 32) (pow-mono l) in
     omega arith
+
+-- Two numbers of n bits fit 32 bits, ..
+pub pair-fits : (a b n : ℕ) → a < 2 ^ 16 → n < 16 → a * 2 ^ n + b % 2 ^ n < 2 ^ 32
+pair-fits a b n h l =
+    let d : a * 2 ^ n + b % 2 ^ n < 2 ^ 16 * 2 ^ n = digits-lt h (mod-lt b (pow-pos n)) in
+    let le : n ≤ 16 = omega arith in
+    let m : 2 ^ 16 * 2 ^ n ≤ 2 ^ 16 * 2 ^ 16 = mul-le-mul-left (2 ^ 16) (pow-mono le) in
+    omega arith
+
+-- .. and written as one are the bits of both.
+pub pair-bits : (a b n : ℕ) → bits-of (2 * n) (a * 2 ^ n + b % 2 ^ n) ≡ bits-of n a ++ bits-of n b
+pair-bits a b n =
+    let e : 2 * n ≡ n + n = omega arith in
+    rw e (bits-join n n a (b % 2 ^ n) (mod-lt b (pow-pos n)) ∙ ap (λ l. bits-of n a ++ l) (bits-low n b))
+
+pub pair-wrote : (f f′ : List ℕ) (p q : Pending) (n a b x : ℕ) → p .count < 32 → n < 16 → x ≡ a * 2 ^ n + b % 2 ^ n → q ≡ put-state p (2 * n) x
+    → f′ ≡ put-out f p (2 * n) x → Wrote f p (bits-of n a ++ bits-of n b) f′ q
+pair-wrote f f′ p q n a b x h l e s o =
+    rw (e, pair-bits a b n) at (put-wrote f p (2 * n) x f′ q h (omega arith) s o)
 
 -- Four stores are a word's bytes.
 pub stored : (f : List ℕ) (at x a b c d : ℕ) → a ≡ x % 256 → b ≡ x / 256 % 256 → c ≡ x / 65_536 % 256 → d ≡ x / 16_777_216 % 256
@@ -180,36 +200,59 @@ run-prefix g k (suc n) =
     let e : k + suc n ≡ suc (k + n) = omega arith in
     rw (e, run-snoc) (omega (arith, run-prefix g k n, length-append (run g (tabulate (k + n) 0 (λ k. k))) (g (0 + (k + n)))))
 
--- The first k numbers have been written.
+-- Two more numbers.
+run-snoc-two : (g : ℕ → List Bool) (k : ℕ) → run g (tabulate (k + 2) 0 (λ k. k)) ≡ run g (tabulate k 0 (λ k. k)) ++ (g k ++ g (k + 1))
+run-snoc-two g k =
+    let two : k + 2 ≡ suc (suc k) = omega arith in
+    let one : k + 1 ≡ suc k = omega arith in
+    let here : 0 + k ≡ k = omega arith in
+    let next : 0 + suc k ≡ suc k = omega arith in
+    rw (two, one) (
+    run-snoc g (suc k) 0
+    ∙ ap₂ (λ l j. l ++ g j) (run-snoc g k 0 ∙ ap (λ j. run g (tabulate k 0 (λ k. k)) ++ g j) here) next
+    ∙ append-assoc (run g (tabulate k 0 (λ k. k))) (g k) (g (suc k))
+    )
+
+-- The first k numbers have been written, and k is even.
 pub record Going (ls d f : List ℕ) (p : Pending) (f′ : List ℕ) (q : Pending) (k : ℕ) : Type 0 where
   pub most : k ≤ 16
+  pub even : k % 2 ≡ 0
   pub wrote : Wrote f p (run (number-bits ls d) (tabulate k 0 (λ k. k))) f′ q
 
 pub begun : (ls d f : List ℕ) (p : Pending) → p .count < 32 → Going ls d f p f p 0
 unfolding run tabulate
-begun ls d f p h = record { most = omega arith; wrote = wrote-none f p h }
+begun ls d f p h = record { most = omega arith; even = refl; wrote = wrote-none f p h }
 
-module _ (ls d f f′ : List ℕ) (p q : Pending) (k : ℕ) (low : Lengths ls) (g : Going ls d f p f′ q k) where
-  -- There is room for the next ..
-  pub room : k < 16 → 8 * p .pos + p .count + length (numbers-bits ls d) ≤ 8 * length f → 8 * q .pos + q .count + getD ls (k / 4) 0 ≤ 8 * length f′
+-- The next two.
+abbrev next-bits : (ls d : List ℕ) → ℕ → List Bool
+next-bits ls d k = bits-of (getD ls (k / 4) 0) (getD d k 0) ++ bits-of (getD ls (k / 4) 0) (getD d (k + 1) 0)
+
+-- They have one length.
+next-run : (ls d : List ℕ) (k : ℕ) → k % 2 ≡ 0 → run (number-bits ls d) (tabulate (k + 2) 0 (λ k. k)) ≡ run (number-bits ls d) (tabulate k 0 (λ k. k)) ++ next-bits ls d k
+next-run ls d k e =
+    let same : (k + 1) / 4 ≡ k / 4 = omega arith in
+    run-snoc-two (number-bits ls d) k
+    ∙ ap (λ j. run (number-bits ls d) (tabulate k 0 (λ k. k)) ++ (number-bits ls d k ++ bits-of (getD ls j 0) (getD d (k + 1) 0))) same
+
+module _ (ls d f f′ : List ℕ) (p q : Pending) (k : ℕ) (g : Going ls d f p f′ q k) where
+  -- There is room for them ..
+  pub room : k < 16 → 8 * p .pos + p .count + length (numbers-bits ls d) ≤ 8 * length f → 8 * q .pos + q .count + 2 * getD ls (k / 4) 0 ≤ 8 * length f′
   room l h =
-      let all : suc k + (15 - k) ≡ 16 = omega arith in
-      let here : 0 + k ≡ k = omega arith in
-      let m : length (run (number-bits ls d) (tabulate (suc k) 0 (λ k. k))) ≤ length (numbers-bits ls d) = rw all at (run-prefix (number-bits ls d) (suc k) (15 - k)) in
-      let n : length (run (number-bits ls d) (tabulate (suc k) 0 (λ k. k))) ≡ length (run (number-bits ls d) (tabulate k 0 (λ k. k))) + getD ls (k / 4) 0
-      = ap length (run-snoc (number-bits ls d) k 0) ∙ length-append (run (number-bits ls d) (tabulate k 0 (λ k. k))) (number-bits ls d (0 + k))
-      ∙ ap (λ x. length (run (number-bits ls d) (tabulate k 0 (λ k. k))) + x) (rw here (bits-length (getD ls (k / 4) 0) (getD d k 0))) in
-      omega (arith, g .wrote .grown, g .wrote .length-is)
+      let n = getD ls (k / 4) 0 in
+      let all : k + 2 + (14 - k) ≡ 16 = omega (arith, g .even) in
+      let m : length (run (number-bits ls d) (tabulate (k + 2) 0 (λ k. k))) ≤ length (numbers-bits ls d) = rw all at (run-prefix (number-bits ls d) (k + 2) (14 - k)) in
+      let s : length (run (number-bits ls d) (tabulate (k + 2) 0 (λ k. k))) ≡ length (run (number-bits ls d) (tabulate k 0 (λ k. k))) + length (next-bits ls d k)
+      = ap length (next-run ls d k (g .even)) ∙ length-append (run (number-bits ls d) (tabulate k 0 (λ k. k))) (next-bits ls d k) in
+      let t : length (next-bits ls d k) ≡ length (bits-of n (getD d k 0)) + length (bits-of n (getD d (k + 1) 0)) = length-append (bits-of n (getD d k 0)) (bits-of n (getD d (k + 1) 0)) in
+      omega (arith, g .wrote .grown, g .wrote .length-is, bits-length n (getD d k 0), bits-length n (getD d (k + 1) 0))
 
-  -- .. and then it is written.
-  pub going-on : (f″ : List ℕ) (r : Pending) → k < 16 → r ≡ put-state q (getD ls (k / 4) 0) (getD d k 0) → f″ ≡ put-out f′ q (getD ls (k / 4) 0) (getD d k 0)
-      → Going ls d f p f″ r (k + 1)
-  going-on f″ r l s o =
-      let next : k + 1 ≡ suc k = omega arith in
-      let here : 0 + k ≡ k = omega arith in
+  -- .. and then they are written.
+  pub going-on : (f″ : List ℕ) (r : Pending) → k < 16 → Wrote f′ q (next-bits ls d k) f″ r → Going ls d f p f″ r (k + 2)
+  going-on f″ r l w =
       record {
-        most = omega arith;
-        wrote = rw (next, run-snoc, here) (wrote-both (g .wrote) (put-wrote f′ q (getD ls (k / 4) 0) (getD d k 0) f″ r (g .wrote .count-small) (omega (arith, low .each (k / 4))) s o));
+        most = omega (arith, g .even);
+        even = omega (arith, g .even);
+        wrote = rw (next-run ls d k (g .even)) (wrote-both (g .wrote) w);
       }
 
   pub gone : 16 ≤ k → Wrote f p (run (number-bits ls d) (tabulate 16 0 (λ k. k))) f′ q

@@ -1,10 +1,10 @@
 // Bits written into a lent buffer, word by word, and a block of V0 or V2. What waits for its word is passed by value.
 ghost use mathlib.Core.Path.{_≡_};
-ghost use mathlib.Core.List.{[], _∷_};
+ghost use mathlib.Core.List.{[], _∷_, _++_};
 ghost use Prim.Native.Nat.{ℕ, _+_, _*_, _-_, _/_, _%_, _^_, _≤_, _<_, max};
 ghost use lib.ListN.{length, getD};
 ghost use lib.Seq.{sets};
-ghost use Rattle.writers.specs.Writer.{word-bytes, smallest, lengths-for, block-bits};
+ghost use Rattle.writers.specs.Writer.{bits-of, word-bytes, smallest, lengths-for, block-bits};
 ghost use Rattle.writers.specs.Weight.{weight, Short};
 ghost use Rattle.writers.specs.Pending.{joined, put-state, put-out, finished, Wrote};
 ghost use Rattle.pack.specs.Block.{numbers, numbers-bits, opening-number, Shorts, Lengths};
@@ -153,7 +153,23 @@ pub fn block_length(d: [u16; 16]) -> usize
     (25 + 4 * (lengths[0] + lengths[1] + lengths[2] + lengths[3])) as usize
 }
 
-// Writes sixteen numbers, each with its length.
+// Two numbers of n bits as one of twice as many.
+fn pair(n: u32, a: u16, b: u16) -> u32
+    requires { ⌜ n < 16 ⌝ }
+    ensures { λ r. ⌜ r ≡ a * 2 ^ n + b % 2 ^ n ⌝ }
+{
+    (a as u64 * power(n) + b as u64 % power(n)) as u32
+}
+
+// Writes the low n bits of two numbers at once.
+fn put_pair(out: &mut [u8], p: Pending, n: u32, a: u16, b: u16) -> Pending
+    requires { ⌜ (p .count < 32) × (n < 16) × (8 * p .pos + p .count + 2 * n ≤ 8 * length (now out)) ⌝ }
+    ensures { λ q. ⌜ Wrote (now (out .entry)) p (bits-of n a ++ bits-of n b) (now (out .exit)) q ⌝ }
+{
+    put(out, p, 2 * n, pair(n, a, b))
+}
+
+// Writes sixteen numbers, each with its length. Two that follow one another have the same.
 fn put_numbers(out: &mut [u8], p: Pending, lengths: [u32; 4], d: [u16; 16]) -> Pending
     requires { ⌜ (p .count < 32) × Lengths lengths × (8 * p .pos + p .count + length (numbers-bits lengths d) ≤ 8 * length (now out)) ⌝ }
     ensures { λ q. ⌜ Wrote (now (out .entry)) p (numbers-bits lengths d) (now (out .exit)) q ⌝ }
@@ -161,8 +177,8 @@ fn put_numbers(out: &mut [u8], p: Pending, lengths: [u32; 4], d: [u16; 16]) -> P
     let mut q = p;
     let mut k: usize = 0;
     while k < 16 {
-        q = put(out, q, lengths[k / 4], d[k] as u32);
-        k += 1;
+        q = put_pair(out, q, lengths[k / 4], d[k], d[k + 1]);
+        k += 2;
     }
     q
 }
