@@ -1,7 +1,7 @@
 -- Where a sample of the exchanged frame is read: by the starts of a row's even and odd columns, and always in the frame.
 use Prim.Native.Nat.{ℕ, suc, _+_, _-_, _*_, _/_, _%_, _<_, _≤_}
 use mathlib.Core.Bool.{Bool, true, false, cond, _&&_}
-use mathlib.Core.Path.{_≡_, refl, sym, ap, _∙_}
+use mathlib.Core.Path.{_≡_, refl, sym, _∙_}
 use mathlib.Core.Logic.{_≢_}
 use mathlib.Core.List.{List}
 use native.Mathlib.Omega.{arith}
@@ -13,7 +13,7 @@ use Rattle.rules.specs.V0.{sample-kind}
 use Rattle.rules.proofs.Tests.{clash}
 use Rattle.writers.specs.Exchanged.{evens-start, odds-start, place-of}
 use Rattle.writers.proofs.ExchangeAt.{exchange-place}
-use Rattle.v0_writer.specs.Frames.{InFrame, size, exchanged}
+use Rattle.v0_writer.specs.Frames.{size, exchanged}
 
 pub product : (a w : ℕ) → a ≤ 16_384 → w ≤ 16_384 → a * w ≤ 268_435_456
 product a w l m = mul-le-mul l m

@@ -15,10 +15,10 @@ use Rattle.rules.specs.Frame.{tabulate}
 use Rattle.rules.specs.V0.{order, columns-back}
 use Rattle.rules.proofs.Cells.{nil, more}
 use Rattle.writers.specs.Writer.{predicted, residual}
-use Rattle.writers.specs.Exchanged.{evens-start, odds-start, place-of}
+use Rattle.writers.specs.Exchanged.{evens-start, odds-start}
 use Rattle.writers.proofs.Blocks.{each-of-run}
 use Rattle.v0_writer.specs.Frames.{size, exchanged, residuals, by-halves}
-use Rattle.v0_writer.proofs.PlaceLaws.{sample-is, place-in, evens-place, odds-place, inner-place, evens-first, odds-first}
+use Rattle.v0_writer.proofs.PlaceLaws.{sample-is, place-in, evens-place, odds-place, inner-place}
 
 -- ── A residual ──
 

@@ -1,5 +1,5 @@
 -- What a call of the V0 writer leaves when it is done: buffers that are decoded to the samples that it was lent.
-use Prim.Native.Nat.{ℕ, suc, _+_, _-_, _^_, _<_, _≤_, min, max}
+use Prim.Native.Nat.{ℕ, suc, _+_, _-_, _^_, _<_, _≤_, max}
 use mathlib.Core.Bool.{Bool, true, false, _||_, cond}
 use mathlib.Core.Path.{_≡_, refl, sym, ap, _∙_}
 use mathlib.Core.List.{List, [], _∷_, _++_}
@@ -8,7 +8,6 @@ use lib.ListN.{length, getD, take, drop, length-append, length-take, length-drop
 use lib.Seq.{drop-cons}
 use lib.Dec.{ltb, lit<}
 use borrow.Author.Tests.{ltb-true, ltb-false, lt-ltb, le-ltb}
-use Rattle.rules.specs.declared.answer.Size.{Size}
 use Rattle.rules.specs.Frame.{cells}
 use Rattle.rules.specs.Answer.{too-large}
 use Rattle.rules.proofs.Cells.{All, nil, more, all-append, all-drop, all-get}
@@ -19,7 +18,7 @@ use Rattle.writers.proofs.V0RoundTrip.{Holds, written-holds, stream-bel
 
 -- ── Tests that were passed ──
 
-not-bright : (f : List ℕ) → too-bright f ≡ false → All (λ a. a < 16_384) f
+pub not-bright : (f : List ℕ) → too-bright f ≡ false → All (λ a. a < 16_384) f
 unfolding too-bright
 not-bright [] e = nil
 not-bright (a ∷ f) e = let q = neither _ _ e in let l = ltb-false 16_383 a (q .0) in let l′ : a < 16_384 = omega arith in more l′ (not-bright f (q .1))

@@ -13,4 +13,5 @@ pub mod WeightLaws
 pub mod BlockLength
 pub mod PendingLaws
 pub mod CallLaws
+pub mod Decoded
 pub mod WrittenFrames

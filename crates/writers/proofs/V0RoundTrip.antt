@@ -1,11 +1,11 @@
--- Request 01: what the V0 writer writes, decoded into any buffer by either decoder, is the frame, with no map byte 1 and no filler
+-- What the V0 writer writes, decoded into any buffer by either decoder, is the frame, with no map byte 1 and no filler
 -- word fetched; and every offset fits 32 bits.
 use Prim.Native.Nat.{ℕ, zero, suc, _+_, _*_, _/_, _%_, _^_, _<_, _≤_}
 use mathlib.Core.Bool.{Bool, false}
 use mathlib.Core.Path.{_≡_, refl, sym, ap, _∙_, subst₂}
-use mathlib.Core.List.{List, [], _∷_, _++_, append-assoc, append-nil}
+use mathlib.Core.List.{List, [], _++_, append-assoc, append-nil}
 use native.Mathlib.Omega.{arith}
-use native.Mathlib.Nat.{mul-comm, zero-add}
+use native.Mathlib.Nat.{zero-add}
 use lib.ListN.{length, getD, length-append, List·getD-append}
 use lib.Dec.{lit<}
 use Rattle.rules.specs.declared.answer.Size.{Size}
@@ -23,7 +23,7 @@ use Rattle.rules.proofs.V0Blocks.{EachInRow, each-block-map}
 use Rattle.rules.proofs.V0Cells.{apply-append, exchange-length}
 use Rattle.rules.proofs.V0NoMarks.{NoUpward, no-marks}
 use Rattle.writers.specs.Writer.{padding, padded, bytes, block-bits, residual, blocks-bits, row-bytes, rows-bytes, offsets-from, stream-for, offsets-for}
-use Rattle.writers.proofs.Ahead.{Stream, Sees}
+use Rattle.writers.proofs.Ahead.{Stream}
 use Rattle.writers.proofs.Blocks.{block-length}
 use Rattle.writers.proofs.Exchange.{exchange-twice, exchange-all}
 use Rattle.writers.proofs.Packed.{Found, bytes-found, bytes-length, bytes-below, padded-length}

@@ -1,6 +1,7 @@
 -- A call of the V0 writer: what it answers, and what it leaves in the buffers that are lent to it.
 use Prim.Native.Nat.{ℕ}
 use mathlib.Core.Bool.{Bool, false, _||_, cond}
+use mathlib.Core.Path.{_≡_}
 use mathlib.Core.List.{List, [], _∷_, _++_}
 use lib.ListN.{length, take, drop}
 use lib.Dec.{ltb, eqb}
@@ -75,3 +76,9 @@ stream-after c = unless-refused c (stream-of c) (c .stream)
 
 unfoldable pub offsets-after : Call → List ℕ
 offsets-after c = unless-refused c (offsets-of c) (c .offsets)
+
+-- All that a call yields and leaves.
+pub record Yields (c : Call) (r : Written) (s o : List ℕ) : Type 0 where
+  pub answered : r ≡ write-answer c
+  pub stream-left : s ≡ stream-after c
+  pub offsets-left : o ≡ offsets-after c

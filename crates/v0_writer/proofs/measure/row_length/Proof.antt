@@ -1,7 +1,6 @@
 -- The loop: the bits of the blocks before a column have been counted.
 use Prim.Native.Nat.{_+_, _-_}
 use native.Mathlib.Omega.{arith}
-use borrow.Author.Needs.{needs}
 use Rattle.v0_writer.specs.Frames.{exchanged}
 use Rattle.v0_writer.proofs.RowLaws.{block-short, block-most, Counting, count-begun, count-most, count-on, count-gone}
 use Rattle.v0_writer.proofs.measure.row_length.Statement.{statement}

@@ -1,0 +1,2 @@
+-- What the proofs of the entries rest on.
+pub mod WriterLaws

@@ -1,0 +1,4 @@
+// The entries that are no decoders. Nothing is asked of a caller.
+pub mod writer;
+
+pub use writer::write_v0;
