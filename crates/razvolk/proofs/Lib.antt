@@ -1,2 +1,3 @@
--- The claim of the exports.
+-- The claims of the exports.
 pub mod Isolation
+pub mod RoundTrip

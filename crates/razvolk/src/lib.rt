@@ -4,3 +4,4 @@ pub mod direct;
 pub mod motion;
 pub mod reader;
 pub mod two_phase;
+pub mod writer;
