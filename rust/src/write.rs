@@ -93,7 +93,7 @@ mod tests {
 
     /// A frame of blocks that are white and black in turn: each residual takes 15 bits.
     fn widest(width: usize, height: usize) -> Vec<u16> {
-        (0..width * height).map(|i| if i % width / 16 % 2 == 0 { 16_383 } else { 0 }).collect()
+        (0..width * height).map(|i| if i % width / 16 % 2 == 1 { 0 } else { 16_383 }).collect()
     }
 
     #[test]
