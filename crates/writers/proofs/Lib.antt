@@ -1,4 +1,6 @@
--- What follows from the definitions: bits and the reader that finds them; blocks; the round trip; and what code needs.
+-- What follows from the definitions: the worked examples; bits and the reader that finds them; blocks; the round trip; and what
+-- code needs.
+pub mod WrittenFrames
 pub mod BitLists
 pub mod Ahead
 pub mod Packed
@@ -14,4 +16,3 @@ pub mod BlockLength
 pub mod PendingLaws
 pub mod CallLaws
 pub mod Decoded
-pub mod WrittenFrames
