@@ -24,12 +24,14 @@ refuse:
 compare:
 	$(cargo_run) -p compare -- long
 
-# As many calls as docs/TESTING.md tells: ten million of V0, a hundred thousand streams of V2, pairs of lists. SEED picks others.
+# As many calls as docs/TESTING.md tells: ten million of V0, a hundred thousand streams of V2, pairs of lists, two hundred thousand
+# frames written. SEED picks others.
 SEED = 1
 compare-long:
 	$(cargo_run) -p compare -- v0 1_250_000 $(SEED)
 	$(cargo_run) -p compare -- lists 20_000 $(SEED)
 	$(cargo_run) -p compare -- v2 100_000 $(SEED)
+	$(cargo_run) -p compare -- write 200_000 $(SEED)
 
 # Razvolk and the Rust timed in turn on the same frames, two or three minutes.
 bench:
@@ -42,10 +44,11 @@ $(made)/%: %.c include/razvolk.h $(archive)
 	mkdir -p $(dir $@)
 	$(CC) -O1 -g -std=c99 -Wall -Wextra -pedantic -Werror -Iinclude $< -x none $(archive) -o $@
 
-# The C example and hostile calls under valgrind, which must have nothing to report.
-memcheck: $(made)/examples/decode $(made)/tests/header $(made)/tests/hostile
-	valgrind -q --error-exitcode=9 $(made)/examples/decode > $(made)/decode.txt
-	diff examples/decode.txt $(made)/decode.txt
+# The C examples and hostile calls under valgrind, which must have nothing to report.
+memcheck: $(made)/examples/decode $(made)/examples/write $(made)/tests/header $(made)/tests/hostile
+	for name in decode write; do \
+		valgrind -q --error-exitcode=9 $(made)/examples/$$name > $(made)/$$name.txt && \
+		diff examples/$$name.txt $(made)/$$name.txt || exit 1; done
 	valgrind -q --error-exitcode=9 $(made)/tests/header
 	valgrind -q --error-exitcode=9 $(made)/tests/hostile heap 400 $(SEED)
 

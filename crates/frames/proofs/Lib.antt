@@ -1,2 +1,3 @@
--- What the entries' proofs share.
+-- What the proofs of the entries rest on.
 pub mod MovedLaws
+pub mod WriterLaws

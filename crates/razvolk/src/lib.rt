@@ -5,3 +5,4 @@ pub mod direct;
 pub mod reader;
 pub mod two_phase;
 pub mod v2;
+pub mod writer;

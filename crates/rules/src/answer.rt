@@ -2,7 +2,7 @@
 ghost use mathlib.Core.Path.{_≡_};
 ghost use Rattle.rules.specs.Answer.{done};
 
-// A number and a row. Number 0 is done, 1 to 8 are refusals.
+// A number and a row. Number 0 is done, the others are refusals.
 #[repr(C)]
 pub struct Answer {
     pub number: u32,
@@ -33,6 +33,12 @@ impl Answer {
 
     // V2: a row is finished and the reader has overrun.
     pub const OVERRUN: u32 = 8;
+
+    // The writer: a sample is above 16,383.
+    pub const TOO_BRIGHT: u32 = 9;
+
+    // The writer: the buffer for the stream or for the offsets is too short.
+    pub const SHORT_OUTPUT: u32 = 10;
 
     pub fn done() -> Answer
         ensures { λ r. ⌜ r ≡ done ⌝ }

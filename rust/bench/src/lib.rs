@@ -4,3 +4,4 @@ pub mod contenders;
 pub mod count;
 pub mod measure;
 pub mod planes;
+pub mod writers;

@@ -15,3 +15,4 @@ pub mod record;
 pub mod refusals;
 pub mod v0;
 pub mod v2;
+pub mod write;

@@ -1,36 +1,8 @@
-//! What a frame is written as.
-
-use crate::{pgm, png};
-use razvolk::Marks;
-
-/// The forms of an output.
-#[derive(Clone, Copy, Debug, PartialEq, Eq)]
-pub enum Form {
-    /// The samples, 16 bits each.
-    Pgm,
-    /// A picture that shows the marks.
-    Png,
-    /// Such a picture of the four colour planes, side by side.
-    Planes,
-}
-
-/// A decoded frame in a form; none without samples. In a PNG `white` is the sample that is white, else the largest.
-pub fn file(form: Form, samples: &[u16], marks: Marks, width: usize, white: Option<u16>) -> Option<Vec<u8>> {
-    let white = white.unwrap_or(*samples.iter().max()?);
-    Some(match form {
-        Form::Pgm => pgm::file(samples, width),
-        Form::Png => png::file(samples, marks.bytes(), width, white),
-        Form::Planes => {
-            let marks: Vec<u16> = marks.bytes().iter().map(|&mark| mark.into()).collect();
-            let marks: Vec<u8> = side_by_side(&marks, width).iter().map(|&mark| mark as u8).collect();
-            png::file(&side_by_side(samples, width), &marks, 2 * width, white)
-        }
-    })
-}
+//! The four colour planes as one picture.
 
 /// The colour planes of a frame as one of twice its width, beside each other. The two of odd rows lack their last row where the
 /// height is odd; there it is 0.
-fn side_by_side(samples: &[u16], width: usize) -> Vec<u16> {
+pub fn side_by_side(samples: &[u16], width: usize) -> Vec<u16> {
     let height = samples.len() / width;
     let mut planes = vec![0; samples.len()];
     razvolk::to_planes(samples, width, height, &mut planes)
