@@ -48,8 +48,3 @@ fn the_record_is_what_the_rust_does() {
     assert!(numbers[0][0] > 200 && numbers[0][3] > 5);
     assert!([0, 2, 3, 5, 6, 7, 8].iter().all(|&i| numbers[2][i] > 0), "{numbers:?}");
 }
-
-#[test]
-fn the_record_is_the_same_each_time() {
-    assert!(file() == file());
-}
