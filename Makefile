@@ -39,7 +39,7 @@ compare-long:
 	$(cargo_run) -p compare -- lists 20_000 $(SEED)
 	$(cargo_run) -p compare -- v2 100_000 $(SEED)
 
-# Razvolk and the Rust timed in turn on the same frames, two or three minutes.
+# Razvolk and the Rust timed in turn on the same frames, three to four minutes.
 bench:
 	$(cargo_run) -p bench
 
