@@ -4,6 +4,7 @@ use mathlib.Core.Bool.{true, false}
 use mathlib.Core.Path.{refl}
 use mathlib.Core.List.{List, [], _∷_, _++_, map}
 use mathlib.Core.Option.{none, some}
+use lib.ListN.{replicate}
 use Rattle.rules.specs.declared.answer.Answer.{Answer}
 use Rattle.rules.specs.Reader.{fetched, held, read, fields, four, signed, read-signed, modulo, read-residual}
 use Rattle.rules.specs.Frame.{tabulate}
@@ -78,10 +79,11 @@ examples =
     -- stream-answer: V0 is done; V2 as the stream has it
     ∷ are (of-answer (stream-answer direct frame-bytes (size 17 4)) ++ of-answer (stream-answer two-phase frame-bytes (size 17 4))) (0 ∷ 0 ∷ 0 ∷ 0 ∷ [])
     ∷ are (of-answer (stream-answer v2 frame-bytes (size 17 4))) (8 ∷ 3 ∷ [])
-    -- answer: the row of 1 to 4 is 0; a V2 frame of no bytes meets 5 in row 0
+    -- answer: the row of 1 to 4 is 0; a V2 frame of no bytes meets 5 in row 0, one of sixteen zeros 8
     ∷ are (of-answer (answer (call direct) too-few)) (3 ∷ 0 ∷ [])
     ∷ are (of-answer (answer (call direct) enough)) (0 ∷ 0 ∷ [])
     ∷ are (of-answer (answer (ask v2 [] [] 646 436) (lent 281_656 none 0))) (5 ∷ 0 ∷ [])
+    ∷ are (of-answer (answer (ask v2 (replicate 16 0) [] 646 436) (lent 281_656 none 0))) (8 ∷ 0 ∷ [])
     -- frame-samples, frame-marks, frame-scratch: by each decoder
     ∷ are (frame-samples direct rows-bytes rows-offsets (size 3 4) (tabulate 12 7 (λ i. i))) new-samples
     ∷ are (frame-samples two-phase rows-bytes rows-offsets (size 3 4) (tabulate 12 7 (λ i. i))) new-samples

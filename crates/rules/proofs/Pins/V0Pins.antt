@@ -75,6 +75,7 @@ examples =
     ∷ are (of-predictor (predictor (size 20 5) 1 16 true 3)) (0 ∷ [])
     ∷ are (of-predictor (predictor (size 1 2) 1 0 true 6)) (2 ∷ 6 ∷ [])
     ∷ are (of-predictor (predictor (size 1 2) 1 0 true 8)) (0 ∷ [])
+    ∷ are (of-predictor (predictor (size 1 3) 2 0 true 7)) (2 ∷ 7 ∷ [])
     -- direction 0: before the block; 128 at column 0, past the bound too; skipped at the bound
     ∷ are (of-predictor (predictor (size 20 5) 3 16 false 2)) (2 ∷ 74 ∷ [])
     ∷ are (of-predictor (predictor (size 20 5) 3 16 false 3)) (2 ∷ 75 ∷ [])
@@ -125,6 +126,7 @@ examples =
     ∷ are (swap sample-kind 3 0 (10 ∷ 20 ∷ 30 ∷ [])) (0 ∷ 20 ∷ 30 ∷ [])
     -- exchange-columns: of row 1, from column 1; exchange-rows: rows 0 and 2; exchange: what has no row below or column beside it stays
     ∷ are (exchange-columns sample-kind 4 1 1 1 (tabulate 12 0 (λ i. i))) (0 ∷ 1 ∷ 2 ∷ 3 ∷ 4 ∷ 5 ∷ 9 ∷ 7 ∷ 8 ∷ 6 ∷ 10 ∷ 11 ∷ [])
+    ∷ are (exchange sample-kind (size 4 3) (tabulate 12 0 (λ i. i))) (0 ∷ 4 ∷ 2 ∷ 6 ∷ 1 ∷ 5 ∷ 3 ∷ 7 ∷ 8 ∷ 9 ∷ 10 ∷ 11 ∷ [])
     ∷ are (exchange sample-kind (size 5 5) (tabulate 25 0 (λ i. i)))
     (0 ∷ 5 ∷ 2 ∷ 7 ∷ 4 ∷ 1 ∷ 6 ∷ 3 ∷ 8 ∷ 9 ∷ 10 ∷ 15 ∷ 12 ∷ 17 ∷ 14 ∷ 11 ∷ 16 ∷ 13 ∷ 18 ∷ 19 ∷ 20 ∷ 21 ∷ 22 ∷ 23 ∷ 24 ∷ [])
     -- sample-kind: modulo 65,536

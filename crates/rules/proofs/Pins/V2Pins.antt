@@ -147,6 +147,7 @@ examples =
     ∷ are (of-bits (aligned (bits 33 5 6 true))) (48 ∷ 0 ∷ 0 ∷ 1 ∷ [])
     ∷ are (of-bits (aligned (bits 47 5 6 false))) (48 ∷ 0 ∷ 0 ∷ 0 ∷ [])
     ∷ are (of-bits (aligned (bits (2 ^ 64 - 1) 5 6 true))) (0 ∷ 0 ∷ 0 ∷ 1 ∷ [])
+    ∷ are (of-bits (aligned (bits (2 ^ 63 + 1) 5 6 false))) ((2 ^ 63 + 16) ∷ 0 ∷ 0 ∷ 0 ∷ [])
     -- fresh-row; fresh-mode: 7 up to row 1, then 4
     ∷ are (fresh-row .motion ∷ of-ℤ (fresh-row .scale) ∷ []) (7 ∷ 0 ∷ [])
     ∷ are (of-mode (fresh-mode 1)) (7 ∷ 7 ∷ 7 ∷ 7 ∷ 7 ∷ 7 ∷ [])
