@@ -3,7 +3,7 @@ use Prim.Native.Nat.{ℕ}
 use mathlib.Core.Bool.{true, false}
 use mathlib.Core.Path.{refl}
 use mathlib.Core.List.{List, [], _∷_, _++_, map}
-use mathlib.Core.Option.{none, some}
+use mathlib.Core.Option.{Option, none, some}
 use lib.ListN.{replicate}
 use Rattle.rules.specs.declared.answer.Answer.{Answer}
 use Rattle.rules.specs.Reader.{fetched, held, read, fields, four, signed, read-signed, modulo, read-residual}
@@ -12,7 +12,7 @@ use Rattle.rules.specs.V0 as V0
 use Rattle.rules.specs.Phases as Phases
 use Rattle.rules.specs.V2 as V2
 use Rattle.rules.specs.Map.{v0-map, two-phase-map, v2-map}
-use Rattle.rules.specs.Answer.{done, Decoder, direct, two-phase, v2, Ask, ask, Lent, lent, too-large, too-small, short-offsets, short-samples, short-map, scratch-bytes, short-scratch, first-of, refusal, stream-answer, answer, frame-samples, frame-marks, marks, frame-scratch, unless-refused, samples-after, map-after, scratch-after}
+use Rattle.rules.specs.Answer.{done, Decoder, direct, two-phase, v2, Ask, ask, Lent, lent, too-large, too-small, short-offsets, short-samples, short-map, scratch-bytes, short-scratch, first-of, refusal, stream-answer, answer, frame-samples, frame-marks, marks, frame-scratch, unless-refused, samples-after, map-after, scratch-after, Buffers, buffers, lengths}
 use Rattle.rules.specs.Examples.{Example}
 use Rattle.rules.proofs.Pins.Values.{is, are, Hold, of-bool, size, rows-bytes, rows-offsets, cells-at}
 use Rattle.rules.proofs.Pins.V2Pins.{frame-bytes}
@@ -39,6 +39,21 @@ new-samples = 7 ∷ 128 ∷ 9 ∷ 8 ∷ 128 ∷ 128 ∷ 122 ∷ 128 ∷ 120 ∷ 
 
 abbrev new-marks : List ℕ
 new-marks = 1 ∷ 0 ∷ 1 ∷ 1 ∷ 0 ∷ 0 ∷ 0 ∷ 0 ∷ 0 ∷ 1 ∷ 0 ∷ 0 ∷ []
+
+-- Samples, map and scratch, one after another. Lengths: of the samples, 1 and the map's or two zeros, and of the scratch.
+abbrev list-of : Option (List ℕ) → List ℕ
+list-of none = []
+list-of (some xs) = xs
+
+abbrev of-buffers : Buffers → List ℕ
+of-buffers b = b .samples ++ list-of (b .map) ++ list-of (b .scratch)
+
+abbrev of-option : Option ℕ → List ℕ
+of-option none = 0 ∷ 0 ∷ []
+of-option (some n) = 1 ∷ n ∷ []
+
+abbrev of-lent : Lent → List ℕ
+of-lent l = l .samples ∷ of-option (l .map) ++ (l .scratch ∷ [])
 
 abbrev pub examples : List Example
 examples =
@@ -104,6 +119,10 @@ examples =
     ∷ are (scratch-after (call two-phase) enough (7 ∷ 8 ∷ 9 ∷ [])) (1 ∷ 0 ∷ 9 ∷ [])
     ∷ are (scratch-after (call two-phase) too-few (7 ∷ 8 ∷ 9 ∷ [])) (7 ∷ 8 ∷ 9 ∷ [])
     ∷ are (scratch-after (call direct) enough (7 ∷ 8 ∷ 9 ∷ [])) (7 ∷ 8 ∷ 9 ∷ [])
+    -- buffers, lengths: each buffer in its place; scratch that is not lent has length 0
+    ∷ are (of-buffers (buffers (1 ∷ []) (some (2 ∷ 3 ∷ [])) (some (4 ∷ 5 ∷ 6 ∷ [])))) (1 ∷ 2 ∷ 3 ∷ 4 ∷ 5 ∷ 6 ∷ [])
+    ∷ are (of-lent (lengths (buffers (1 ∷ []) (some (2 ∷ 3 ∷ [])) (some (4 ∷ 5 ∷ 6 ∷ []))))) (1 ∷ 1 ∷ 2 ∷ 3 ∷ [])
+    ∷ are (of-lent (lengths (buffers (1 ∷ []) none none))) (1 ∷ 0 ∷ 0 ∷ 0 ∷ [])
     ∷ []
 
 pub examples-hold : Hold examples
