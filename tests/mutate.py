@@ -56,7 +56,7 @@ HOMES |= {name: INTEGERS for name in ("pos", "negsuc", "_+ℤ_", "_*ℤ_")}
 
 
 class Node:
-    """kind is name, number, field, call, infix, record, let or lambda; parts are the nodes below."""
+    """A part of a definition, from start to end: kind is name, number, paren, field, call, infix, record, let or lambda."""
 
     def __init__(self, kind, start, end, parts=(), name=None):
         self.kind, self.start, self.end, self.parts, self.name = kind, start, end, list(parts), name
@@ -86,9 +86,7 @@ class Parser:
             operator = self.take()
             own, side = LEVELS[operator.text]
             right = self.expression(own + (side == "l"))
-            node = Node("infix", left.start, right.end, [left, right], operator.text)
-            node.operator = operator
-            left = node
+            left = Node("infix", left.start, right.end, [left, right], operator.text)
         return left
 
     def bound(self):
@@ -132,9 +130,7 @@ class Parser:
         token = self.take()
         if token.text == "(":
             inner = self.expression()
-            close = self.take(")")
-            inner = Node("paren", token.start, close.end, [inner])
-            return inner
+            return Node("paren", token.start, self.take(")").end, [inner])
         if token.text == "record":
             return self.record(token)
         kind = "number" if NUMBER.fullmatch(token.text) else "name"
@@ -189,7 +185,10 @@ class File:
             while last < len(lines) and lines[last].strip() and len(lines[last]) - len(lines[last].lstrip()) > indent:
                 last += 1
             equals = at[i] + re.search(r" =(\s)", line).end() - 1
-            self.clauses.append(Clause(self, words[0], at[i], equals, at[last]))
+            try:
+                self.clauses.append(Clause(self, words[0], at[i], equals, at[last]))
+            except (ValueError, IndexError) as fault:  # a form that no rule has so far
+                print(f"left out: {path.stem}.antt:{i + 1}: {words[0]}: {fault}", file=sys.stderr)
 
 
     def brings(self, name):
@@ -204,7 +203,7 @@ class Clause:
         parser = Parser(tokens(file.text, equals, end))
         self.body = parser.expression()
         if parser.peek() is not None:
-            raise ValueError(f"{file.path}: {name}: {parser.peek()} after a definition")
+            raise ValueError(f"{parser.peek()} after a definition")
 
 
 def arrows(text):
@@ -299,10 +298,7 @@ class Changes:
     def of_paren(self, node):
         pass
 
-    def of_let(self, node):
-        pass
-
-    of_lambda = of_let
+    of_let = of_lambda = of_paren
 
     def of_number(self, node):
         n = int(node.name.replace("_", ""), 0)
@@ -412,12 +408,12 @@ def needed(crate):
     """A crate and the crates of the repository that it rests on."""
     lines = (line.split("#")[0] for line in (ROOT / "crates.txt").read_text().splitlines())
     uses = {line.split(":")[0].strip(): line.split(":")[1].split() for line in lines if ":" in line}
-    found, open_ = [], [crate]
-    while open_:
-        name = open_.pop()
+    found, left = [], [crate]
+    while left:
+        name = left.pop()
         if name in uses and name not in found:
             found.append(name)
-            open_ += uses[name]
+            left += uses[name]
     return {name: uses[name] for name in found}
 
 
