@@ -33,9 +33,10 @@ examples =
     ∷ are (v2-marks .average 0 0 ∷ v2-marks .average 0 1 ∷ v2-marks .average 1 0 ∷ v2-marks .average 1 1 ∷ []) (0 ∷ 1 ∷ 1 ∷ 1 ∷ [])
     -- mark-stage: a mark is no residual
     ∷ is (mark-stage .residual 1) 0
-    -- v0-map, two-phase-map: a frame of 3 by 4 whose rows 0 and 2 look up; v2-map: what is not written stays 1, and so does what averages it
+    -- v0-map, two-phase-map: a frame of 3 by 4 whose rows 0 and 2 look up, and one of 3 by 5 whose last row alone doesn't; v2-map: what is not written stays 1, and so does what averages it
     ∷ are (v0-map rows-bytes rows-offsets (size 3 4)) (1 ∷ 0 ∷ 1 ∷ 1 ∷ 0 ∷ 0 ∷ 0 ∷ 0 ∷ 0 ∷ 1 ∷ 0 ∷ 0 ∷ [])
     ∷ are (two-phase-map rows-bytes rows-offsets (size 3 4)) (1 ∷ 0 ∷ 1 ∷ 1 ∷ 0 ∷ 0 ∷ 0 ∷ 0 ∷ 0 ∷ 1 ∷ 0 ∷ 0 ∷ [])
+    ∷ are (two-phase-map rows-bytes (0 ∷ 0 ∷ 0 ∷ 0 ∷ 8 ∷ []) (size 3 5)) (1 ∷ 1 ∷ 1 ∷ 1 ∷ 1 ∷ 1 ∷ 1 ∷ 1 ∷ 1 ∷ 1 ∷ 1 ∷ 1 ∷ 0 ∷ 0 ∷ 0 ∷ [])
     ∷ are (v2-map frame-bytes (size 17 3))
     (0 ∷ 0 ∷ 0 ∷ 0 ∷ 0 ∷ 0 ∷ 0 ∷ 0 ∷ 0 ∷ 0 ∷ 0 ∷ 0 ∷ 0 ∷ 0 ∷ 0 ∷ 0 ∷ 1 ∷ 0 ∷ 0 ∷ 0 ∷ 0 ∷ 0 ∷ 0 ∷ 0 ∷ 0 ∷ 0 ∷ 0 ∷ 0 ∷ 0 ∷ 0 ∷ 0 ∷ 0 ∷ 0 ∷ 1
     ∷ 0 ∷ 0 ∷ 0 ∷ 0 ∷ 0 ∷ 0 ∷ 0 ∷ 0 ∷ 0 ∷ 0 ∷ 0 ∷ 0 ∷ 0 ∷ 0 ∷ 1 ∷ 0 ∷ 1 ∷ [])

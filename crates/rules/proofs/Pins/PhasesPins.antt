@@ -84,6 +84,7 @@ examples =
     ∷ are (first-rows sample-kind rows-bytes (4 ∷ 0 ∷ 4 ∷ 8 ∷ []) (size 3 4) old-frame) (7 ∷ 8 ∷ 9 ∷ 7 ∷ 11 ∷ 9 ∷ 13 ∷ 12 ∷ 15 ∷ 27 ∷ 17 ∷ 65_524 ∷ [])
     ∷ are (first-rows sample-kind rows-bytes (8 ∷ []) (size 3 1) (7 ∷ 8 ∷ 9 ∷ [])) (128 ∷ 128 ∷ 128 ∷ [])
     ∷ are (two-phase rows-bytes rows-offsets (size 3 4) old-frame) (7 ∷ 128 ∷ 9 ∷ 8 ∷ 128 ∷ 128 ∷ 122 ∷ 128 ∷ 120 ∷ 8 ∷ 128 ∷ 128 ∷ [])
+    ∷ are (two-phase rows-bytes (0 ∷ 0 ∷ 4 ∷ 4 ∷ 8 ∷ []) (size 3 5) (tabulate 15 7 (λ i. i))) (7 ∷ 7 ∷ 9 ∷ 8 ∷ 11 ∷ 9 ∷ 1 ∷ 65_531 ∷ 1 ∷ 8 ∷ 11 ∷ 65_529 ∷ 128 ∷ 128 ∷ 128 ∷ [])
     ∷ []
 
 pub examples-hold : Hold examples

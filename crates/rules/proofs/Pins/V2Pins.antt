@@ -219,10 +219,12 @@ examples =
     ∷ are (of-got (read-length words 2 5 (fresh 0))) (4 ∷ 0 ∷ 0 ∷ 0 ∷ 0 ∷ [])
     ∷ are (of-got (read-length words 2 0 (fresh 0))) (0xFFFF_FFFF ∷ 0 ∷ 0 ∷ 0 ∷ 0 ∷ [])
     ∷ are (of-got (read-length words 3 5 (fresh 0))) (10 ∷ 4 ∷ 0xA000_0000 ∷ 28 ∷ 0 ∷ [])
-    -- length-step: the second remembered becomes the first, the new one the second; too long above depth + 1
+    -- length-step: the second remembered becomes the first, the new one the second; too long above depth + 1; 0 for what isn't there
     ∷ are (of-moded (length-step words 3 1 flags 2 (no-lengths mode (fresh 0)))) (0 ∷ 0 ∷ 4 ∷ 0 ∷ 0 ∷ 0 ∷ 0 ∷ 0 ∷ 0 ∷ 1 ∷ 2 ∷ 9 ∷ 4 ∷ 5 ∷ 6 ∷ [])
     ∷ are (of-moded (length-step words 2 1 flags 2 (no-lengths mode (fresh 0)))) (0 ∷ 0 ∷ 4 ∷ 0 ∷ 1 ∷ 0 ∷ 0 ∷ 0 ∷ 0 ∷ 1 ∷ 2 ∷ 9 ∷ 4 ∷ 5 ∷ 6 ∷ [])
     ∷ are (of-moded (length-step words 9 2 flags 1 (no-lengths mode (fresh 0)))) (0 ∷ 10 ∷ 0 ∷ 0 ∷ 0 ∷ 4 ∷ 0xA000_0000 ∷ 28 ∷ 0 ∷ 1 ∷ 2 ∷ 3 ∷ 9 ∷ 6 ∷ 10 ∷ [])
+    ∷ are (of-moded (length-step words 9 1 [] 0 (no-lengths ((5 ∷ []) ∷ []) (fresh 0)))) (5 ∷ 0 ∷ 0 ∷ 0 ∷ 0 ∷ 0 ∷ 0 ∷ 0 ∷ 0 ∷ 0 ∷ 5 ∷ [])
+    ∷ are (of-moded (length-step words 9 1 flags 0 (no-lengths ([] ∷ []) (fresh 0)))) (0 ∷ 0 ∷ 0 ∷ 0 ∷ 0 ∷ 0 ∷ 0 ∷ 0 ∷ 0 ∷ 0 ∷ 0 ∷ [])
     -- lengths-from: three from number 1 on; up to the first that is too long
     ∷ are (of-moded (lengths-from words 9 1 flags 3 1 (no-lengths mode (fresh 0)))) (0 ∷ 10 ∷ 4 ∷ 8 ∷ 0 ∷ 4 ∷ 0xA000_0000 ∷ 28 ∷ 0 ∷ 2 ∷ 10 ∷ 4 ∷ 8 ∷ 5 ∷ 6 ∷ [])
     ∷ are (of-moded (lengths-from words 3 1 flags 3 1 (no-lengths mode (fresh 0)))) (0 ∷ 10 ∷ 0 ∷ 0 ∷ 1 ∷ 4 ∷ 0xA000_0000 ∷ 28 ∷ 0 ∷ 2 ∷ 10 ∷ 3 ∷ 9 ∷ 5 ∷ 6 ∷ [])
@@ -239,6 +241,7 @@ examples =
     ∷ are (tabulate 16 0 (position 3)) (1 ∷ 3 ∷ 5 ∷ 7 ∷ 9 ∷ 11 ∷ 13 ∷ 15 ∷ 0 ∷ 2 ∷ 4 ∷ 6 ∷ 8 ∷ 10 ∷ 12 ∷ 14 ∷ [])
     -- difference-step: number 5 has the second length, and stands at position 10 in an even row
     ∷ are (of-differences (difference-step words 2 four-lengths 5 no-differences)) (0 ∷ 0 ∷ 0 ∷ 0 ∷ 0 ∷ 0 ∷ 0 ∷ 0 ∷ 0 ∷ 0 ∷ minus 8 ∷ 0 ∷ 0 ∷ 0 ∷ 0 ∷ 0 ∷ 8 ∷ 0x8765_4321 ∷ 28 ∷ 0 ∷ [])
+    ∷ are (of-differences (difference-step words 2 [] 5 no-differences)) (0 ∷ 0 ∷ 0 ∷ 0 ∷ 0 ∷ 0 ∷ 0 ∷ 0 ∷ 0 ∷ 0 ∷ 0 ∷ 0 ∷ 0 ∷ 0 ∷ 0 ∷ 0 ∷ 4 ∷ 0 ∷ 0 ∷ 0 ∷ [])
     -- differences-from: two from number 7 on; read-differences: all, in an odd row
     ∷ are (of-differences (differences-from words 2 four-lengths 2 7 no-differences)) (0 ∷ 3 ∷ 0 ∷ 0 ∷ 0 ∷ 0 ∷ 0 ∷ 0 ∷ 0 ∷ 0 ∷ 0 ∷ 0 ∷ 0 ∷ 0 ∷ minus 8 ∷ 0 ∷ 8 ∷ 0x8765_4321 ∷ 25 ∷ 0 ∷ [])
     ∷ are (of-differences (read-differences words 3 four-lengths (fresh 4))) (1 ∷ minus 2 ∷ 0 ∷ 0 ∷ 3 ∷ 1 ∷ minus 1 ∷ minus 1 ∷ minus 1 ∷ 6 ∷ minus 1 ∷ 5 ∷ minus 1 ∷ 4 ∷ minus 1 ∷ 3 ∷ 12 ∷ 0xFFFF_FFFF ∷ 24 ∷ 1 ∷ [])
@@ -281,6 +284,7 @@ examples =
     ∷ are (map (base-cell (sample-kind 255) (10 ∷ 20 ∷ 31 ∷ [])) (given 7 ∷ copied 1 ∷ averaged 1 2 ∷ copied 3 ∷ averaged 2 3 ∷ averaged 3 2 ∷ [])) (7 ∷ 20 ∷ 26 ∷ 0 ∷ 16 ∷ 16 ∷ [])
     -- block-cells: each of the sixteen from the frame as it was, with its own difference; apply: they are written at the block's place
     ∷ are (block-cells (sample-kind 255) (tabulate 19 1 (λ i. i)) (shifted 2)) (2 ∷ 5 ∷ 8 ∷ 11 ∷ 14 ∷ 17 ∷ 20 ∷ 23 ∷ 26 ∷ 29 ∷ 32 ∷ 35 ∷ 38 ∷ 41 ∷ 44 ∷ 47 ∷ [])
+    ∷ are (block-cells (sample-kind 255) [] (a-block 0)) (0 ∷ 1 ∷ 2 ∷ 3 ∷ 4 ∷ 5 ∷ 6 ∷ 7 ∷ 8 ∷ 9 ∷ 10 ∷ 11 ∷ 12 ∷ 13 ∷ 14 ∷ 15 ∷ [])
     ∷ are (apply (sample-kind 255) (shifted 2 ∷ []) (tabulate 19 1 (λ i. i))) (1 ∷ 2 ∷ 2 ∷ 5 ∷ 8 ∷ 11 ∷ 14 ∷ 17 ∷ 20 ∷ 23 ∷ 26 ∷ 29 ∷ 32 ∷ 35 ∷ 38 ∷ 41 ∷ 44 ∷ 47 ∷ 19 ∷ [])
     ∷ are (apply (sample-kind 255) (shifted 2 ∷ shifted 3 ∷ []) (tabulate 19 1 (λ i. i))) (1 ∷ 2 ∷ 2 ∷ 2 ∷ 4 ∷ 9 ∷ 14 ∷ 19 ∷ 24 ∷ 29 ∷ 34 ∷ 39 ∷ 44 ∷ 49 ∷ 54 ∷ 59 ∷ 64 ∷ 69 ∷ 74 ∷ [])
     -- average; value; hold; sample-kind
