@@ -11,10 +11,12 @@ outcome.
 """
 
 import argparse
+import os
 import queue
 import random
 import re
 import shutil
+import signal
 import subprocess
 import sys
 import threading
@@ -25,7 +27,7 @@ ROOT = Path(__file__).resolve().parent.parent
 NO_RULES = {"Lib", "Examples", "Ranges"}
 # Files of proofs/ that hold worked examples.
 EXAMPLES = re.compile(r"/proofs/(Examples|Pins)\b")
-SECONDS = 120
+SECONDS = 600
 
 # ---- Tokens
 
@@ -438,13 +440,21 @@ class Worker:
         shutil.copytree(self.saved, self.base)
 
     def rt(self, verb):
+        run = subprocess.Popen(
+            ["rt", verb, self.crate],
+            cwd=self.home,
+            stdout=subprocess.PIPE,
+            stderr=subprocess.STDOUT,
+            text=True,
+            start_new_session=True,
+        )
         try:
-            done = subprocess.run(
-                ["rt", verb, self.crate], cwd=self.home, stdout=subprocess.PIPE, stderr=subprocess.STDOUT, text=True, timeout=SECONDS
-            )
+            said, _ = run.communicate(timeout=SECONDS)
         except subprocess.TimeoutExpired:
+            os.killpg(run.pid, signal.SIGKILL)
+            run.wait()
             return 3, f"no answer in {SECONDS} seconds"
-        return done.returncode, done.stdout
+        return run.returncode, said
 
     def outcome(self, change):
         path = self.home / change.file.path.relative_to(ROOT)
