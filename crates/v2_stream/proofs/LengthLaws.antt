@@ -2,7 +2,7 @@
 use mathlib.Core.Bool.{true, false}
 use mathlib.Core.List.{List, [], _∷_}
 use mathlib.Core.Path.{_≡_, ap, _∙_}
-use Prim.Native.Nat.{ℕ, zero, suc, _+_, _*_, _-_, _/_, _%_, _^_, _≤_, _<_}
+use Prim.Native.Nat.{ℕ, zero, suc, _+_, _-_, _/_, _%_, _^_, _≤_, _<_}
 use native.Mathlib.Numerals.{add-one}
 use native.Mathlib.Omega.{arith}
 use lib.Dec.{eqb}
@@ -95,14 +95,6 @@ module _ (s : List ℕ) (h : V2Hdr) (row : ℕ) (mode : List (List ℕ)) (b : Bi
   pub lengths-zero : eqb (g .value) 0 ≡ false → read-lengths s h row mode b ≡ no-lengths mode (g .bits)
   unfolding read-lengths
   lengths-zero t = rw (← e, t)
-
-pub position-even : (row k : ℕ) → row % 2 ≡ 0 → 2 * (k % 8) + k / 8 ≡ position row k
-unfolding position
-position-even row k e = rw e
-
-pub position-odd : (row k : ℕ) → (row % 2 ≡ 0 → ⊥) → 2 * (k % 8) + 1 - k / 8 ≡ position row k
-unfolding position
-position-odd row k n = rw (ne-eqb (row % 2) 0 n)
 
 -- One difference, after those before it.
 module _ (s : List ℕ) (row : ℕ) (ls : List ℕ) (k : ℕ) where
