@@ -85,6 +85,15 @@ razvolk_answer razvolk_decode_v2(const uint8_t *src, size_t src_len, size_t widt
 razvolk_answer razvolk_decode_v2_map(const uint8_t *src, size_t src_len, size_t width, size_t height, uint16_t *samples,
                                      size_t samples_len, uint8_t *map, size_t map_len);
 
+/* Colour planes, for storage: a frame's samples out of one buffer into another, first all of even rows and even columns, then
+ * even and odd, odd and even, odd and odd, each in reading order and without gaps; and the way back. Each undoes the other.
+ * 0     the first N of the buffer written are the planes, or the frame's samples; what lies past them is as it was
+ * 1, 3  nothing is written; 3 if either buffer has fewer than N samples */
+razvolk_answer razvolk_to_planes(const uint16_t *samples, size_t samples_len, size_t width, size_t height, uint16_t *planes,
+                                 size_t planes_len);
+razvolk_answer razvolk_from_planes(const uint16_t *planes, size_t planes_len, size_t width, size_t height,
+                                   uint16_t *samples, size_t samples_len);
+
 /* A bit reader's state. The stream is words of 4 bytes, lowest byte first, and a word's highest bit is read first. A reader
  * that starts at a byte position is { position, 0, 0, false }. */
 typedef struct {

@@ -113,11 +113,25 @@ static void v2(void) {
     free(marked);
 }
 
+static void planes(void) {
+    static const uint16_t frame[7] = {0, 1, 2, 10, 11, 12, 5}, apart[6] = {0, 2, 1, 10, 12, 11};
+    uint16_t to[7] = {9, 9, 9, 9, 9, 9, 9}, back[7] = {8, 8, 8, 8, 8, 8, 8};
+    razvolk_answer answer = razvolk_to_planes(frame, 7, 3, 2, to, 7);
+    expect(answer.number == 0 && memcmp(to, apart, sizeof apart) == 0 && to[6] == 9, "to_planes");
+    answer = razvolk_from_planes(to, 7, 3, 2, back, 7);
+    expect(answer.number == 0 && memcmp(back, frame, 6 * sizeof *frame) == 0 && back[6] == 8, "from_planes");
+    answer = razvolk_to_planes(frame, 7, 3, 2, to, 5);
+    expect(answer.number == 3 && answer.row == 0, "5 samples for the planes of 6 are refused by 3");
+    answer = razvolk_from_planes(to, 5, 16385, 1, back, 7);
+    expect(answer.number == 1 && answer.row == 0, "a width of 16,385 is refused by 1");
+}
+
 int main(void) {
     reader();
     v0_reference();
     v0();
     v2();
+    planes();
     puts(failed ? "header: FAILED" : "header: ok");
     return failed;
 }

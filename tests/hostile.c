@@ -442,8 +442,57 @@ static void play_reader(void) {
     give_back(src);
 }
 
+/* ---- Colour planes: samples moved out of one slice into another, and back. */
+
+typedef razvolk_answer (*mover)(slice from, size_t width, size_t height, slice to);
+
+static razvolk_answer to_planes(slice from, size_t width, size_t height, slice to) {
+    return razvolk_to_planes(SAMPLES(from), width, height, SAMPLES(to));
+}
+
+static razvolk_answer from_planes(slice from, size_t width, size_t height, slice to) {
+    return razvolk_from_planes(SAMPLES(from), width, height, SAMPLES(to));
+}
+
+static void move_and_back(mover there, mover back, size_t width, size_t height, size_t read, size_t written_to) {
+    size_t n = width <= 16384 && height <= 16384 ? width * height : 0;
+    uint32_t refused = width > 16384 || height > 16384 ? 1 : read < n || written_to < n ? 3 : 0;
+    slice from = lend(2 * read), to = lend(2 * written_to), again = lend(2 * read);
+    scatter(from.data, from.bytes);
+    filled(to, heap && refused == 0 ? 2 * n : 0);
+    filled(again, heap && refused == 0 ? 2 * n : 0);
+    close_for_writing(from);
+    razvolk_answer answer = there(from, width, height, to);
+    calls++;
+    numbers[answer.number <= MOST_NUMBER ? answer.number : 0]++;
+    expect(answer.number == refused && answer.row == 0, "planes are refused by 1 or 3");
+    for (size_t i = refused == 0 ? 2 * n : 0; i < to.bytes; i++)
+        expect(to.data[i] == 9, "what lies past the planes stays");
+    if (refused == 0) {
+        answer = back(to, width, height, again);
+        expect(answer.number == 0 && memcmp(again.data, from.data, 2 * n) == 0, "each way undoes the other");
+        for (size_t i = 2 * n; i < again.bytes; i++)
+            expect(again.data[i] == 9, "what lies past the frame stays");
+    }
+    give_back(from);
+    give_back(to);
+    give_back(again);
+}
+
+static void play_planes(void) {
+    size_t width = below(60) == 0 ? (size_t)number() : below(24), height = below(60) == 0 ? (size_t)number() : below(24);
+    size_t n = width < 24 && height < 24 ? width * height : 0;
+    size_t read = n + below(3), written_to = n + below(3);
+    if (below(4) == 0)
+        read -= below(read + 1);
+    if (below(4) == 0)
+        written_to -= below(written_to + 1);
+    move_and_back(to_planes, from_planes, width, height, read, written_to);
+    move_and_back(from_planes, to_planes, width, height, read, written_to);
+}
+
 /* What is played in each round. Functions of a new kind are a row here. */
-static void (*const plays[])(void) = {play_decoders, play_reader};
+static void (*const plays[])(void) = {play_decoders, play_reader, play_planes};
 
 int main(int argc, char **argv) {
     const char *count = argc > 2 ? argv[2] : "300";

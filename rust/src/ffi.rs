@@ -59,6 +59,8 @@ exports! {
     fn razvolk_decode_v2(src: &[u8], width: usize, height: usize, samples: &mut [u16]) -> Answer;
     fn razvolk_decode_v2_map(
         src: &[u8], width: usize, height: usize, samples: &mut [u16], map: &mut [u8]) -> Answer;
+    fn razvolk_to_planes(samples: &[u16], width: usize, height: usize, planes: &mut [u16]) -> Answer;
+    fn razvolk_from_planes(planes: &[u16], width: usize, height: usize, samples: &mut [u16]) -> Answer;
     fn razvolk_get(src: &[u8], state: Bits, n: u32) -> Got;
     fn razvolk_reset_at(state: Bits, pos: u64) -> Bits;
 }

@@ -29,6 +29,7 @@ mod decoder;
 mod ffi;
 mod marks;
 mod ph1bits;
+mod planes;
 mod v0;
 mod v2;
 
@@ -36,6 +37,7 @@ pub use answer::Refusal;
 pub use decoder::{Decoder, MAX_SIDE};
 pub use marks::Marks;
 pub use ph1bits::Ph1Bits;
+pub use planes::{from_planes, to_planes};
 pub use v0::{decode_v0, decode_v0_map, decode_v0_reference, decode_v0_reference_map, scratch_len};
 pub use v2::{decode_v2, decode_v2_map};
 

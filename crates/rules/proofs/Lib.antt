@@ -19,6 +19,7 @@ pub mod TwoPhase
 pub mod V0NoMarks
 pub mod V2Cells
 pub mod V2Places
+pub mod V2References
 pub mod V2Bounds
 pub mod V2Position
 pub mod V2Rows

@@ -60,7 +60,7 @@ no-bytes = V2.header [] .hdr
 abbrev one-less : ℕ → ℕ
 one-less depth =
     V2.number
-    (V2.read-block (0x00 ∷ 0x00 ∷ 0x00 ∷ 0x40 ∷ []) (record { depth = depth; options = 7; initial = 0 }) 281_656 646 0 0
+    (V2.read-block (0x00 ∷ 0x00 ∷ 0x00 ∷ 0x40 ∷ []) (record { depth = depth; options = 7; initial = 0 }) 646 0 0
     (fresh 0) V2.fresh-row (replicate 3 (replicate 2 0)) .outcome)
 
 -- A header of depth 8.

@@ -3,7 +3,7 @@ ghost use mathlib.Core.Path.{_≡_};
 ghost use Prim.Native.Nat.{_≤_, _<_};
 ghost use Rattle.rules.specs.V2.{lengths-bit, colour, read-length, flagged-lengths, read-lengths};
 use super::header::skips_bit;
-use bits::four::read_four;
+use bits::four::read_flags;
 use rules::Bits;
 use rules::Got;
 use rules::V2Hdr;
@@ -55,7 +55,7 @@ fn four_lengths(
     requires { ⌜ depth ≤ 16 ⌝ }
     ensures { λ r. ⌜ record { lengths = r; mode = now (mode .exit) } ≡ flagged-lengths (now (src .entry)) depth row (now (mode .entry)) bits ⌝ }
 {
-    let f = read_four(src, bits, 2);
+    let f = read_flags(src, bits);
     let flags = f.values;
     let mut four = [0u32; 4];
     let mut at = f.bits;

@@ -3,3 +3,4 @@
 pub mod contenders;
 pub mod count;
 pub mod measure;
+pub mod planes;

@@ -1,6 +1,6 @@
-//! `bench [V0 | V2] [RUNS [PART]]`: Razvolk and the Rust in turn on the same frames, in one process, the best of RUNS runs each
-//! (20); then the instructions that they take, where valgrind is installed. PART divides each side of the frames, for a quick
-//! look; a version leaves out the frames of the other.
+//! `bench [V0 | V2 | planes] [RUNS [PART]]`: Razvolk and the Rust in turn on the same frames, in one process, the best of RUNS
+//! runs each (20); then the instructions that they take, where valgrind is installed. PART divides each side of the frames, for
+//! a quick look; a name leaves out the others.
 
 use bench::contenders::{self, Buffers, alike};
 use bench::count;
@@ -11,23 +11,35 @@ use streams::random::Random;
 use streams::v0::hostile;
 use streams::{Frame, Version, v0, v2};
 
+const USAGE: &str = "usage: bench [V0 | V2 | planes] [RUNS [PART]]";
+
+/// Times some frames, with so many runs, their sides divided by a number.
+type Time = fn(usize, usize);
+
+/// What is timed, by name.
+const TIMED: [(&str, Time); 3] = [("V0", time_v0), ("V2", time_v2), ("planes", time_planes)];
+
 fn main() {
     let mut words = std::env::args().skip(1).peekable();
     let once = words.next_if(|word| word == "once").is_some();
-    let only = words.next_if(|word| word == "V0" || word == "V2").unwrap_or_default();
-    let mut numbers = words.map(|word| word.parse().expect("usage: bench [V0 | V2] [RUNS [PART]]"));
+    let named = TIMED.iter().find(|(name, _)| words.next_if(|word| word == name).is_some());
+    let mut numbers = words.map(|word| word.parse().expect(USAGE));
     if once {
         return count::once(numbers.next().expect("a frame"), numbers.next().expect("a contender"));
     }
-    time_all(&only, numbers.next().unwrap_or(20), numbers.next().unwrap_or(1));
-    count::print(&only);
+    let (runs, part) = (numbers.next().unwrap_or(20), numbers.next().unwrap_or(1));
+    tell_how(runs);
+    for (_, time) in TIMED.iter().filter(|(name, _)| named.is_none_or(|(only, _)| only == name)) {
+        time(runs, part);
+    }
+    count::print(named.map_or("", |(name, _)| name));
 }
 
 /// Frames of a camera's size.
 const V0: (usize, usize) = (5_000, 3_500);
 const V2: (usize, usize) = (6_496, 4_336);
 
-fn time_all(only: &str, runs: usize, part: usize) {
+fn tell_how(runs: usize) {
     let cpus = fs::read_to_string("/proc/cpuinfo").unwrap_or_default();
     let model = cpus.lines().find_map(|line| line.strip_prefix("model name\t: ")).unwrap_or("unknown");
     println!(
@@ -36,12 +48,6 @@ fn time_all(only: &str, runs: usize, part: usize) {
     println!(
         "ratio: time divided by the Rust's, decode_v0_reference for direct, decode_v0_with(.., false) for two-phase"
     );
-    if only != "V2" {
-        time_v0(runs, part);
-    }
-    if only != "V0" {
-        time_v2(runs, part);
-    }
 }
 
 fn time_v0(runs: usize, part: usize) {
@@ -55,6 +61,10 @@ fn time_v0(runs: usize, part: usize) {
     for part in [2 * part, 4 * part] {
         time("V0, like a photograph, smaller", &photo_v0(V0.0 / part, V0.1 / part, 16.0), runs);
     }
+}
+
+fn time_planes(runs: usize, part: usize) {
+    bench::planes::time(V0.0 / part, V0.1 / part, runs);
 }
 
 fn time_v2(runs: usize, part: usize) {

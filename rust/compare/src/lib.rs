@@ -9,6 +9,7 @@ pub mod call;
 mod faults;
 pub mod jobs;
 pub mod lists;
+pub mod planes;
 pub mod reader;
 pub mod record;
 pub mod refusals;

@@ -48,7 +48,7 @@ pub fn seen(file: &[u8]) -> Result<String, Fault> {
     }
     let look = Look::at("file", &frame, None).expect("few samples");
     if let Some((samples, marks)) = look.decoded() {
-        for form in [Form::Pgm, Form::Png] {
+        for form in [Form::Pgm, Form::Png, Form::Planes] {
             let file = picture::file(form, samples, marks, frame.width, None);
             assert_eq!(file.is_none(), samples.is_empty());
         }

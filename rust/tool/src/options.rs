@@ -17,6 +17,8 @@ usage: razvolk [OPTIONS] FILE.srw
   --over FILE.srw  decode this frame first, into the same buffer, as a worker would; else the buffer holds zeros
   --pgm FILE       write the samples, 16 bits each
   --png FILE       write a picture in which samples that rest on old values are tinted red
+  --planes FILE    write such a picture of the four colour planes, side by side: even rows and even columns, even and odd, odd
+                   and even, odd and odd
   --force          replace files of these names; a file that is read is never written over
   --white NUMBER   the sample that is white in the picture (the largest, if none is told)
   --help, --version
@@ -40,6 +42,7 @@ pub struct Options {
     pub over: Option<PathBuf>,
     pub pgm: Option<PathBuf>,
     pub png: Option<PathBuf>,
+    pub planes: Option<PathBuf>,
     pub force: bool,
     pub white: Option<u16>,
 }
@@ -52,7 +55,7 @@ impl Options {
 
     /// What is to be written, and where.
     pub fn outputs(&self) -> Vec<(Form, &Path)> {
-        let all = [(Form::Pgm, &self.pgm), (Form::Png, &self.png)];
+        let all = [(Form::Pgm, &self.pgm), (Form::Png, &self.png), (Form::Planes, &self.planes)];
         all.into_iter().filter_map(|(form, path)| Some((form, path.as_deref()?))).collect()
     }
 }
@@ -81,6 +84,7 @@ pub fn read(words: impl IntoIterator<Item = OsString>) -> Result<Asked, String> 
             "--over" => once(&name, &mut options.over, value()?.into())?,
             "--pgm" => once(&name, &mut options.pgm, value()?.into())?,
             "--png" => once(&name, &mut options.png, value()?.into())?,
+            "--planes" => once(&name, &mut options.planes, value()?.into())?,
             "--force" => options.force = true,
             "--white" => once(&name, &mut options.white, white(&value()?)?)?,
             "--" => files.extend(words.by_ref()),
@@ -145,10 +149,11 @@ mod tests {
             over: Some("b.srw".into()),
             pgm: Some("c".into()),
             png: Some("d".into()),
+            planes: Some("e".into()),
             force: true,
             white: Some(4_095),
         };
-        let line = "--over b.srw a.srw --force --pgm c --png d --white 4095";
+        let line = "--over b.srw a.srw --force --pgm c --png d --planes e --white 4095";
         assert_eq!(asked(line), Ok(Asked::Look(options)));
         assert_eq!(asked("-- --x"), Ok(Asked::Look(Options { file: "--x".into(), ..Options::default() })));
         assert_eq!((asked("a --help"), asked("--version")), (Ok(Asked::Help), Ok(Asked::Version)));

@@ -1,4 +1,4 @@
--- Pinned examples of specs/V2.antt, by the definition's name.
+-- Pinned examples of specs/V2.antt and specs/References.antt, by the definition's name.
 use Prim.Native.Nat.{ℕ, _+_, _-_, _*_, _^_}
 use mathlib.Core.Bool.{Bool, true, false}
 use mathlib.Core.Path.{refl}
@@ -14,7 +14,8 @@ use Rattle.rules.specs.declared.v2.V2Block.{V2Block}
 use Rattle.rules.specs.declared.v2.V2Block.the-variants.{Next, EarlyMotion, Outside, LongDifference}
 use Rattle.rules.specs.Reader.{fresh, reset-at, fetched, held, read, fields, four, signed, read-signed}
 use Rattle.rules.specs.Frame.{tabulate}
-use Rattle.rules.specs.V2.{field-widths, header, top, option-1, option-2, option-4, aligned, fresh-row, fresh-mode, scale-steps, rescaled, read-scale, read-motion, Base, given, copied, averaged, repeated, motion-offsets, motion-averages, reference, referred, base, outside, strays, any-strays, base-refusal, lengths-bit, colour, read-length, Moded, length-step, lengths-from, no-lengths, flagged-lengths, read-lengths, position, Differences, difference-step, differences-from, read-differences, Block, number, Tail, tail, based-tail, read-block, Row, then, blocks, read-row, Frame, then-rows, rows, read-frame, base-cell, block-cells, apply, frame, average, value, hold, sample, sample-kind, decoded}
+use Rattle.rules.specs.V2.{field-widths, header, top, option-1, option-2, option-4, aligned, fresh-row, fresh-mode, scale-steps, rescaled, read-scale, read-motion, Base, given, copied, averaged, repeated, motion-offsets, motion-averages, reference, referred, base, refers-before, base-refusal, lengths-bit, colour, read-length, Moded, length-step, lengths-from, no-lengths, flagged-lengths, read-lengths, position, Differences, difference-step, differences-from, read-differences, Block, number, Tail, tail, based-tail, read-block, Row, then, blocks, read-row, Frame, then-rows, rows, read-frame, base-cell, block-cells, apply, frame, average, value, hold, sample, sample-kind, decoded}
+use Rattle.rules.specs.References.{outside, strays, any-strays, tested-refusal}
 use Rattle.rules.specs.Examples.{Example}
 use Rattle.rules.proofs.Pins.Values.{is, are, Hold, of-bool, minus, of-ℤ, bits, of-bits, of-got, size, words}
 
@@ -201,11 +202,16 @@ examples =
     ∷ is (of-bool (any-strays 335 100 4 32 3 1 1)) 0
     ∷ is (of-bool (any-strays 335 100 4 32 3 1 2)) 1
     ∷ is (of-bool (any-strays 0 100 4 32 3 0 1)) 0
-    -- base-refusal: none for motion 7; 5 before 6; 6 for sample 0 alone (below 0) and for sample 15 alone (at N)
-    ∷ are (base-refusal 0 100 0 32 7 ∷ base-refusal 0 100 1 32 3 ∷ base-refusal 0 100 2 32 3 ∷ []) (0 ∷ 5 ∷ 6 ∷ [])
-    ∷ is (base-refusal 999 3 3 0 0) 6
-    ∷ are (base-refusal 446 100 5 32 3 ∷ base-refusal 447 100 5 32 3 ∷ []) (6 ∷ 0 ∷ [])
-    ∷ is (base-refusal 348 100 4 32 3) 0
+    -- base-refusal: none for motion 7; 5 in rows 0 and 1; 6 where the block refers to before the frame
+    ∷ are (map (λ m. base-refusal 0 32 m) (7 ∷ 3 ∷ []) ++ map (λ m. base-refusal 1 0 m) (7 ∷ 0 ∷ [])) (0 ∷ 5 ∷ 0 ∷ 5 ∷ [])
+    ∷ are (map (λ m. base-refusal 2 0 m) (0 ∷ 1 ∷ 2 ∷ 3 ∷ 7 ∷ [])) (6 ∷ 6 ∷ 6 ∷ 0 ∷ 0 ∷ [])
+    ∷ are (base-refusal 2 16 0 ∷ base-refusal 3 0 0 ∷ []) (0 ∷ 0 ∷ [])
+    -- refers-before: row 2, column 0, motions 0 to 2
+    ∷ are (map (λ m. of-bool (refers-before 2 0 m)) (0 ∷ 2 ∷ 3 ∷ [])) (1 ∷ 1 ∷ 0 ∷ [])
+    ∷ are (of-bool (refers-before 1 0 0) ∷ of-bool (refers-before 3 0 0) ∷ of-bool (refers-before 2 1 0) ∷ []) (0 ∷ 0 ∷ 0 ∷ [])
+    -- tested-refusal: none for motion 7; 5 before 6; 6 for sample 0 alone (below 0) and for sample 15 alone (at N)
+    ∷ are (tested-refusal 0 100 0 32 7 ∷ tested-refusal 0 100 1 32 3 ∷ tested-refusal 0 100 2 32 3 ∷ []) (0 ∷ 5 ∷ 6 ∷ [])
+    ∷ are (tested-refusal 999 3 3 0 0 ∷ tested-refusal 446 100 5 32 3 ∷ tested-refusal 447 100 5 32 3 ∷ tested-refusal 348 100 4 32 3 ∷ []) (6 ∷ 6 ∷ 0 ∷ 0 ∷ [])
     -- lengths-bit: with option 1 nothing is read
     ∷ are (of-got (lengths-bit words (hdr 1) (fresh 0))) (0 ∷ 0 ∷ 0 ∷ 0 ∷ 0 ∷ [])
     ∷ are (of-got (lengths-bit words (hdr 6) (fresh 0))) (1 ∷ 4 ∷ 0xA000_0000 ∷ 31 ∷ 0 ∷ [])
@@ -251,33 +257,33 @@ examples =
     ∷ are (of-tail (tail flag-bytes (hdr 0) 1 (state 3 9) mode (fresh 0))) (0 ∷ 3 ∷ 9 ∷ 12 ∷ 0xFFFF_FFFF ∷ 3 ∷ 1 ∷ 1 ∷ 7 ∷ 4 ∷ 8 ∷ 5 ∷ 6 ∷ minus 1 ∷ minus 1 ∷ minus 1 ∷ 0 ∷ minus 1 ∷ 0 ∷ minus 1 ∷ 0 ∷ minus 1 ∷ 0 ∷ minus 1 ∷ 0 ∷ minus 1 ∷ 63 ∷ minus 1 ∷ minus 1 ∷ [])
     ∷ are (of-outcome (tail flag-bytes (record { depth = 3; options = 0; initial = 0 }) 1 (state 3 9) mode (fresh 0) .outcome)) (7 ∷ 4 ∷ 0x1B3C_0000 ∷ 19 ∷ 0 ∷ [])
     -- based-tail: 5 and 6 read nothing more and remember nothing more
-    ∷ are (of-tail (based-tail flag-bytes (hdr 0) 0 100 1 32 (state 3 9) mode (fresh 0))) (5 ∷ 0 ∷ 0 ∷ 0 ∷ 0 ∷ 1 ∷ 2 ∷ 3 ∷ 9 ∷ 5 ∷ 6 ∷ [])
-    ∷ are (of-tail (based-tail flag-bytes (hdr 0) 0 100 3 32 (state 3 9) mode (fresh 0))) (6 ∷ 0 ∷ 0 ∷ 0 ∷ 0 ∷ 1 ∷ 2 ∷ 3 ∷ 9 ∷ 5 ∷ 6 ∷ [])
-    ∷ are (of-tail (based-tail flag-bytes (hdr 0) 999 100 3 32 (state 3 9) mode (fresh 0))) (0 ∷ 3 ∷ 9 ∷ 12 ∷ 0xFFFF_FFFF ∷ 3 ∷ 1 ∷ 1 ∷ 7 ∷ 4 ∷ 8 ∷ 5 ∷ 6 ∷ minus 1 ∷ minus 1 ∷ minus 1 ∷ 0 ∷ minus 1 ∷ 0 ∷ minus 1 ∷ 0 ∷ minus 1 ∷ 0 ∷ minus 1 ∷ 0 ∷ minus 1 ∷ 63 ∷ minus 1 ∷ minus 1 ∷ [])
+    ∷ are (of-tail (based-tail flag-bytes (hdr 0) 1 32 (state 3 9) mode (fresh 0))) (5 ∷ 0 ∷ 0 ∷ 0 ∷ 0 ∷ 1 ∷ 2 ∷ 3 ∷ 9 ∷ 5 ∷ 6 ∷ [])
+    ∷ are (of-tail (based-tail flag-bytes (hdr 0) 2 0 (state 2 9) mode (fresh 0))) (6 ∷ 0 ∷ 0 ∷ 0 ∷ 0 ∷ 1 ∷ 2 ∷ 3 ∷ 9 ∷ 5 ∷ 6 ∷ [])
+    ∷ are (of-tail (based-tail flag-bytes (hdr 0) 3 32 (state 3 9) mode (fresh 0))) (0 ∷ 3 ∷ 9 ∷ 12 ∷ 0xFFFF_FFFF ∷ 3 ∷ 1 ∷ 1 ∷ 7 ∷ 4 ∷ 8 ∷ 5 ∷ 6 ∷ minus 1 ∷ minus 1 ∷ minus 1 ∷ 0 ∷ minus 1 ∷ 0 ∷ minus 1 ∷ 0 ∷ minus 1 ∷ 0 ∷ minus 1 ∷ 0 ∷ minus 1 ∷ 63 ∷ minus 1 ∷ minus 1 ∷ [])
     -- read-block: scale code 2, motion 3, then as above; the place, scale, bases and differences of the block
-    ∷ are (of-outcome (read-block block-bytes (hdr 0) 999 100 3 64 (fresh 0) (state 7 9) mode .outcome) ++ of-mode (read-block block-bytes (hdr 0) 999 100 3 64 (fresh 0) (state 7 9) mode .mode)) (0 ∷ 3 ∷ 11 ∷ 16 ∷ 0xFFFF_FFFF ∷ 29 ∷ 1 ∷ 1 ∷ 7 ∷ 4 ∷ 8 ∷ 5 ∷ 6 ∷ [])
-    ∷ are (of-block (read-block block-bytes (hdr 0) 999 100 3 64 (fresh 0) (state 7 9) mode .block)) (364 ∷ 11 ∷ 1 ∷ 164 ∷ 1 ∷ 264 ∷ minus 1 ∷ minus 1 ∷ minus 1 ∷ 0 ∷ minus 1 ∷ minus 1 ∷ minus 1 ∷ minus 1 ∷ minus 1 ∷ 41 ∷ minus 1 ∷ minus 1 ∷ minus 1 ∷ minus 1 ∷ minus 1 ∷ minus 1 ∷ [])
+    ∷ are (of-outcome (read-block block-bytes (hdr 0) 100 3 64 (fresh 0) (state 7 9) mode .outcome) ++ of-mode (read-block block-bytes (hdr 0) 100 3 64 (fresh 0) (state 7 9) mode .mode)) (0 ∷ 3 ∷ 11 ∷ 16 ∷ 0xFFFF_FFFF ∷ 29 ∷ 1 ∷ 1 ∷ 7 ∷ 4 ∷ 8 ∷ 5 ∷ 6 ∷ [])
+    ∷ are (of-block (read-block block-bytes (hdr 0) 100 3 64 (fresh 0) (state 7 9) mode .block)) (364 ∷ 11 ∷ 1 ∷ 164 ∷ 1 ∷ 264 ∷ minus 1 ∷ minus 1 ∷ minus 1 ∷ 0 ∷ minus 1 ∷ minus 1 ∷ minus 1 ∷ minus 1 ∷ minus 1 ∷ 41 ∷ minus 1 ∷ minus 1 ∷ minus 1 ∷ minus 1 ∷ minus 1 ∷ minus 1 ∷ [])
     -- then: a block and what follows it; a refusal's block isn't written, and its number and reader stay
     ∷ are (of-row (then (Next (fresh 4) (state 3 9)) (a-block 10) rest)) (3 ∷ 4 ∷ 0 ∷ 0 ∷ 0 ∷ 10 ∷ 20 ∷ [])
     ∷ are (of-row (then (EarlyMotion (fresh 4)) (a-block 10) rest)) (5 ∷ 4 ∷ 0 ∷ 0 ∷ 0 ∷ [])
     ∷ are (of-row (then (Outside (fresh 4)) (a-block 10) rest)) (6 ∷ 4 ∷ 0 ∷ 0 ∷ 0 ∷ [])
     ∷ are (of-row (then (LongDifference (fresh 4)) (a-block 10) rest)) (7 ∷ 4 ∷ 0 ∷ 0 ∷ 0 ∷ [])
     -- blocks: two from column 48 on; the second has the first's state, lengths and reader; none
-    ∷ are (of-row (blocks two-blocks (hdr 0) 999 100 3 2 48 (fresh 0) (state 7 2) mode)) (0 ∷ 12 ∷ 0x9F2F_8DAE ∷ 3 ∷ 0 ∷ 348 ∷ 364 ∷ [])
-    ∷ are (of-block (block-at 1 (blocks two-blocks (hdr 0) 999 100 3 2 48 (fresh 0) (state 7 2) mode .blocks))) (364 ∷ 1768 ∷ 2 ∷ 162 ∷ 164 ∷ 2 ∷ 262 ∷ 264 ∷ 2 ∷ minus 1 ∷ minus 1 ∷ minus 2 ∷ 1 ∷ minus 2 ∷ minus 3 ∷ 1 ∷ 83 ∷ 3 ∷ minus 27 ∷ minus 3 ∷ minus 15 ∷ minus 2 ∷ minus 75 ∷ 3 ∷ [])
-    ∷ are (of-row (blocks two-blocks (hdr 0) 999 100 3 0 48 (fresh 5) (state 7 2) mode)) (0 ∷ 5 ∷ 0 ∷ 0 ∷ 0 ∷ [])
-    ∷ are (of-row (blocks long-second (hdr 0) 999 100 3 2 48 (fresh 0) (state 7 2) mode)) (7 ∷ 4 ∷ 0x5CAD_FF5B ∷ 8 ∷ 0 ∷ 348 ∷ [])
+    ∷ are (of-row (blocks two-blocks (hdr 0) 100 3 2 48 (fresh 0) (state 7 2) mode)) (0 ∷ 12 ∷ 0x9F2F_8DAE ∷ 3 ∷ 0 ∷ 348 ∷ 364 ∷ [])
+    ∷ are (of-block (block-at 1 (blocks two-blocks (hdr 0) 100 3 2 48 (fresh 0) (state 7 2) mode .blocks))) (364 ∷ 1768 ∷ 2 ∷ 162 ∷ 164 ∷ 2 ∷ 262 ∷ 264 ∷ 2 ∷ minus 1 ∷ minus 1 ∷ minus 2 ∷ 1 ∷ minus 2 ∷ minus 3 ∷ 1 ∷ 83 ∷ 3 ∷ minus 27 ∷ minus 3 ∷ minus 15 ∷ minus 2 ∷ minus 75 ∷ 3 ∷ [])
+    ∷ are (of-row (blocks two-blocks (hdr 0) 100 3 0 48 (fresh 5) (state 7 2) mode)) (0 ∷ 5 ∷ 0 ∷ 0 ∷ 0 ∷ [])
+    ∷ are (of-row (blocks long-second (hdr 0) 100 3 2 48 (fresh 0) (state 7 2) mode)) (7 ∷ 4 ∷ 0x5CAD_FF5B ∷ 8 ∷ 0 ∷ 348 ∷ [])
     -- read-row: two whole blocks of 33 columns, at the next multiple of 16
-    ∷ are (of-row (read-row row-bytes (hdr 0) 99 33 2 (bits 7 5 6 false))) (0 ∷ 32 ∷ 0x5922_0A63 ∷ 10 ∷ 0 ∷ 66 ∷ 82 ∷ [])
-    ∷ are (of-block (block-at 0 (read-row row-bytes (hdr 0) 99 33 2 (bits 7 5 6 false) .blocks))) (66 ∷ 0 ∷ 0 ∷ 300 ∷ 0 ∷ 300 ∷ 1 ∷ 3 ∷ 2 ∷ 2 ∷ minus 4 ∷ minus 3 ∷ 0 ∷ 0 ∷ 3 ∷ 0 ∷ 3 ∷ minus 2 ∷ 1 ∷ minus 2 ∷ 0 ∷ 3 ∷ [])
-    ∷ are (of-block (block-at 1 (read-row row-bytes (hdr 0) 99 33 2 (bits 7 5 6 false) .blocks))) (82 ∷ 0 ∷ 1 ∷ 80 ∷ 1 ∷ 81 ∷ minus 1 ∷ 1 ∷ minus 3 ∷ 6 ∷ 2 ∷ 4 ∷ minus 2 ∷ minus 8 ∷ minus 1 ∷ minus 2 ∷ minus 2 ∷ 0 ∷ minus 1 ∷ 0 ∷ minus 3 ∷ minus 2 ∷ [])
+    ∷ are (of-row (read-row row-bytes (hdr 0) 33 2 (bits 7 5 6 false))) (0 ∷ 32 ∷ 0x5922_0A63 ∷ 10 ∷ 0 ∷ 66 ∷ 82 ∷ [])
+    ∷ are (of-block (block-at 0 (read-row row-bytes (hdr 0) 33 2 (bits 7 5 6 false) .blocks))) (66 ∷ 0 ∷ 0 ∷ 300 ∷ 0 ∷ 300 ∷ 1 ∷ 3 ∷ 2 ∷ 2 ∷ minus 4 ∷ minus 3 ∷ 0 ∷ 0 ∷ 3 ∷ 0 ∷ 3 ∷ minus 2 ∷ 1 ∷ minus 2 ∷ 0 ∷ 3 ∷ [])
+    ∷ are (of-block (block-at 1 (read-row row-bytes (hdr 0) 33 2 (bits 7 5 6 false) .blocks))) (82 ∷ 0 ∷ 1 ∷ 80 ∷ 1 ∷ 81 ∷ minus 1 ∷ 1 ∷ minus 3 ∷ 6 ∷ 2 ∷ 4 ∷ minus 2 ∷ minus 8 ∷ minus 1 ∷ minus 2 ∷ minus 2 ∷ 0 ∷ minus 1 ∷ 0 ∷ minus 3 ∷ minus 2 ∷ [])
     -- then-rows: 5 to 7 before 8; 8 keeps the row; else the rows below follow
     ∷ are (of-frame (then-rows 3 (a-row 6 true) below)) (6 ∷ 3 ∷ 10 ∷ [])
     ∷ are (of-frame (then-rows 3 (a-row 0 true) below)) (8 ∷ 3 ∷ 10 ∷ [])
     ∷ are (of-frame (then-rows 3 (a-row 0 false) below)) (9 ∷ 4 ∷ 10 ∷ 30 ∷ [])
     -- rows: each at the next multiple of 16, its own number; read-frame: the header, then all rows
-    ∷ are (of-frame (rows frame-bytes (hdr 0) 51 17 2 1 (fresh 32))) (0 ∷ 0 ∷ 17 ∷ 34 ∷ [])
-    ∷ are (of-frame (rows frame-bytes (hdr 0) 51 17 3 2 (fresh 48))) (8 ∷ 3 ∷ 34 ∷ 51 ∷ [])
+    ∷ are (of-frame (rows frame-bytes (hdr 0) 17 2 1 (fresh 32))) (0 ∷ 0 ∷ 17 ∷ 34 ∷ [])
+    ∷ are (of-frame (rows frame-bytes (hdr 0) 17 3 2 (fresh 48))) (8 ∷ 3 ∷ 34 ∷ 51 ∷ [])
     ∷ are (of-frame (read-frame frame-bytes (size 17 3))) (0 ∷ 0 ∷ 0 ∷ 17 ∷ 34 ∷ [])
     ∷ are (of-frame (read-frame frame-bytes (size 17 4))) (8 ∷ 3 ∷ 0 ∷ 17 ∷ 34 ∷ 51 ∷ [])
     -- base-cell: a number, a cell, an average; 0 past the frame
@@ -297,5 +303,5 @@ examples =
     ∷ []
 
 pub examples-hold : Hold examples
-unfolding fetched held read fields four signed read-signed tabulate of-mode header top aligned fresh-mode rescaled read-scale read-motion repeated reference referred base outside strays any-strays base-refusal lengths-bit colour read-length length-step lengths-from flagged-lengths read-lengths position difference-step differences-from read-differences tail based-tail read-block then blocks read-row then-rows rows read-frame base-cell block-cells apply frame average value hold decoded
+unfolding fetched held read fields four signed read-signed tabulate of-mode header top aligned fresh-mode rescaled read-scale read-motion repeated reference referred base outside strays any-strays tested-refusal refers-before base-refusal lengths-bit colour read-length length-step lengths-from flagged-lengths read-lengths position difference-step differences-from read-differences tail based-tail read-block then blocks read-row then-rows rows read-frame base-cell block-cells apply frame average value hold decoded
 examples-hold = refl

@@ -15,10 +15,14 @@ fn a_frame_over_another() {
     folder.put("next.srw", srw::file(&with_band(&christening(40, 6), 40, 6, 2)));
     let text = "over first.srw: V0, 40 by 6, 408 bytes of stream\ndone\nnext.srw: V0, 40 by 6, 200 bytes of stream\ndone\n\
         80 of 240 samples rest on what the buffer held before\n  rows 0 to 1: 40 of 40 each\n";
-    assert_eq!(folder.run("--over first.srw next.srw --pgm next.pgm --png next.png"), done(text));
+    assert_eq!(folder.run("--over first.srw next.srw --pgm next.pgm --png next.png --planes planes.png"), done(text));
     let pgm = folder.get("next.pgm").expect("samples");
     assert_eq!((&pgm[..13], pgm.len()), (&b"P5\n40 6\n65535"[..], 14 + 480));
-    assert!(folder.get("next.png").expect("a picture").starts_with(b"\x89PNG\r\n\x1a\n"));
+    for (name, width, height) in [("next.png", 40, 6), ("planes.png", 80, 3)] {
+        let picture = folder.get(name).expect("a picture");
+        assert!(picture.starts_with(b"\x89PNG\r\n\x1a\n"));
+        assert_eq!(picture[16..24], [0, 0, 0, width, 0, 0, 0, height], "{name}");
+    }
 }
 
 /// The README shows the picture and the text that `make picture` makes.

@@ -41,7 +41,7 @@ fn a_raw_file_taken_for_the_output_is_kept() {
 #[test]
 fn a_file_that_is_there_is_replaced_by_force_alone() {
     let folder = folder("there");
-    for output in ["--pgm", "--png"] {
+    for output in ["--pgm", "--png", "--planes"] {
         folder.put("old", "old");
         refused(&folder, &format!("a.srw {output} old"), &format!("old: {THERE}"));
         assert!(is_done(&folder.run(&format!("a.srw {output} old --force"))));
@@ -69,7 +69,7 @@ fn an_input_is_never_written_over() {
     symlink("link", folder.0.join("link to a link")).expect("a link");
     fs::hard_link(&own, folder.0.join("second")).expect("a second name");
     for name in ["a.srw", "./a.srw", &own.display().to_string(), "link", "second"] {
-        for output in ["--pgm", "--png"] {
+        for output in ["--pgm", "--png", "--planes"] {
             let fault = format!("{name}: {READ}");
             refused(&folder, &format!("a.srw {output} {name}"), &fault);
             refused(&folder, &format!("a.srw {output} {name} --force"), &fault);

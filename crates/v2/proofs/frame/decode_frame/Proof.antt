@@ -19,7 +19,7 @@ use Rattle.v2.proofs.frame.decode_frame.Tie as tie
 abbrev Inv-loop : tie.InvT-loop
 Inv-loop src out₀ map₀ width height hdr answer₀ bits₀ row state₀ mode₀ col₀ out map answer bits state mode col =
     (length out ≡ width * height) × ((length map ≡ length map₀) × ((answer ≡ answer₀)
-    × RowGoing (top hdr) src hdr (width * height) width row (blocks src hdr (width * height) width row (width / 16) 0 bits₀ state₀ mode₀) out₀ map₀ col bits state mode out map))
+    × RowGoing (top hdr) src hdr width row (blocks src hdr width row (width / 16) 0 bits₀ state₀ mode₀) out₀ map₀ col bits state mode out map))
 
 abbrev μ-loop : tie.MeasureT-loop
 μ-loop src out₀ map₀ width height hdr answer₀ bits₀ row state₀ mode₀ col₀ out map answer bits state mode col = width - col
@@ -27,7 +27,7 @@ abbrev μ-loop : tie.MeasureT-loop
 abbrev Inv-frame : tie.InvT-frame
 Inv-frame src out₀ map₀ width height hdr answer₀ bits₀ row₀ out map answer bits row =
     (row ≤ height) × ((length out ≡ width * height) × ((length map ≡ length map₀) × ((answer ≡ record { number = 0; row = 0 })
-    × FrameGoing (top hdr) src hdr (width * height) width height (rows src hdr (width * height) width height 0 bits₀) out₀ map₀ row bits out map)))
+    × FrameGoing (top hdr) src hdr width height (rows src hdr width height 0 bits₀) out₀ map₀ row bits out map)))
 
 abbrev μ-frame : tie.MeasureT-frame
 μ-frame src out₀ map₀ width height hdr answer₀ bits₀ row₀ out map answer bits row = height - row
@@ -39,7 +39,7 @@ done-requires : tie.Need-done-requires Inv-loop μ-loop Inv-frame μ-frame
 done-requires c κs = search needs
 
 frame-holds : tie.Need-frame-holds Inv-loop μ-loop Inv-frame μ-frame
-frame-holds c = (omega arith, (c .before .before .before .before .before .before .before .pre .samples-lent, (refl, (c .before .done .ensures, frame-starts _ _ _ _ _ _ _ _ _))))
+frame-holds c = (omega arith, (c .before .before .before .before .before .before .before .pre .samples-lent, (refl, (c .before .done .ensures, frame-starts _ _ _ _ _ _ _ _))))
 
 align-requires : tie.Need-align-requires Inv-loop μ-loop Inv-frame μ-frame
 align-requires c κs = search needs
@@ -51,7 +51,7 @@ mode-requires : tie.Need-mode-requires Inv-loop μ-loop Inv-frame μ-frame
 mode-requires c κs = search needs
 
 loop-holds : tie.Need-loop-holds Inv-loop μ-loop Inv-frame μ-frame
-loop-holds c = (c .before .before .before .before .frame .inv .1 .0, (refl, (refl, row-starts _ _ _ _ _ _ _ _ _ _ _ (c .before .fresh .ensures))))
+loop-holds c = (c .before .before .before .before .frame .inv .1 .0, (refl, (refl, row-starts _ _ _ _ _ _ _ _ _ _ (c .before .fresh .ensures))))
 
 add-loop : tie.Need-add-loop Inv-loop μ-loop Inv-frame μ-frame
 add-loop c = search needs
@@ -97,7 +97,7 @@ store-requires c κs = (omega (arith, c .before .first .ensures, room (c .before
 mark-block-requires : tie.Need-mark-block-requires Inv-loop μ-loop Inv-frame μ-frame
 mark-block-requires c κs =
     let l = c .before .before .before .before .before .before .before .before .before .before .before .before .before .before .before .loop in
-    let y = rw (l .inv .0) at (c .before .before .before .before .before .before .before .before .before .before .read-block .ensures) in
+    let y = c .before .before .before .before .before .before .before .before .before .before .read-block .ensures in
     markable _ _ _ _ _ _ _ _ _ _ _ (sym (y .0) ∙ c .before .before .before .before .before .before .before .before .outcome .given .1) (l .inv .1 .1 .1 .motion) (placed (c .before .before .before .before .before .before .before .before .before .before .before .before .before .before)) (room (c .before .before .before .before .before .before .before .before .before .before .before .before .before .before)) (l .inv .1 .0 ∙ c .before .before .before .before .before .before .before .before .before .before .before .before .before .before .before .before .before .before .before .before .frame .inv .1 .1 .0) (c .before .before .before .before .before .before .before .before .before .before .before .before .before .before .before .before .before .before .before .before .before .before .before .before .before .before .before .before .pre .map-lent)
 
 add-col : tie.Need-add-col Inv-loop μ-loop Inv-frame μ-frame
@@ -109,13 +109,13 @@ loop-less c = search needs
 loop-again : tie.Need-loop-again Inv-loop μ-loop Inv-frame μ-frame
 loop-again c =
     let l = c .before .before .before .before .before .before .before .before .before .before .before .before .before .before .before .before .before .before .loop in
-    let y = rw (l .inv .0) at (c .before .before .before .before .before .before .before .before .before .before .before .before .before .read-block .ensures) in (
+    let y = c .before .before .before .before .before .before .before .before .before .before .before .before .before .read-block .ensures in (
       c .before .before .before .before .before .before .store .kept .0 ∙ l .inv .0,
       (
         c .before .before .mark-block .kept .0 ∙ l .inv .1 .0,
         (
           l .inv .1 .1 .0,
-          row-goes _ _ _ _ _ _ _ _ _ _ _ _ _ _ _ (l .inv .1 .1 .1) (c .before .before .before .before .before .before .before .before .before .before .before .before .before .before .before .before .before .loop-test .taken) _ (y .0) _ _ (c .before .before .before .before .before .before .before .before .before .before .before .outcome .given .1) _ (y .1 .0) _ _ _ _ _ (c .before .before .before .before .before .before .before .before .first .ensures) (y .1 .1) (c .before .before .before .before .before .before .store .ensures) (c .before .before .mark-block .ensures _),
+          row-goes _ _ _ _ _ _ _ _ _ _ _ _ _ _ (l .inv .1 .1 .1) (c .before .before .before .before .before .before .before .before .before .before .before .before .before .before .before .before .before .loop-test .taken) _ (y .0) _ _ (c .before .before .before .before .before .before .before .before .before .before .before .outcome .given .1) _ (y .1 .0) _ _ _ _ _ (c .before .before .before .before .before .before .before .before .first .ensures) (y .1 .1) (c .before .before .before .before .before .before .store .ensures) (c .before .before .mark-block .ensures _),
         ),
       ),
     )
@@ -134,7 +134,7 @@ frame-again c =
     let i = c .before .before .loop .inv in
     let j = c .before .before .before .before .before .before .before .frame .inv in
     let t = c .before .before .before .before .before .before .frame-test .taken in
-    let e = row-ends _ _ _ _ _ _ _ _ _ _ _ _ _ _ _ (i .1 .1 .1) (c .before .loop-test .left) in (
+    let e = row-ends _ _ _ _ _ _ _ _ _ _ _ _ _ _ (i .1 .1 .1) (c .before .loop-test .left) in (
       omega (arith, t),
       (
         i .0,
@@ -142,7 +142,7 @@ frame-again c =
           i .1 .0 ∙ j .1 .1 .0,
           (
             i .1 .1 .0 ∙ j .1 .1 .1 .0,
-            frame-goes _ _ _ _ _ _ _ _ _ _ _ _ _ (j .1 .1 .1 .1) t _ (whole-row _ _ _ _ _ _ _ _ _ (c .before .before .before .before .before .align .ensures) (c .before .before .before .before .fresh .ensures) (c .before .before .before .mode .ensures)) _ _ (e .1 .1) _ (e .0) (e .1 .0) (c .if1 .left),
+            frame-goes _ _ _ _ _ _ _ _ _ _ _ _ (j .1 .1 .1 .1) t _ (whole-row _ _ _ _ _ _ _ _ (c .before .before .before .before .before .align .ensures) (c .before .before .before .before .fresh .ensures) (c .before .before .before .mode .ensures)) _ _ (e .1 .1) _ (e .0) (e .1 .0) (c .if1 .left),
           ),
         ),
       ),
@@ -157,7 +157,7 @@ same-length-2 c = c .before .frame .inv .1 .1 .0
 returns : tie.Need-returns Inv-loop μ-loop Inv-frame μ-frame
 returns c =
     let i = c .before .frame .inv in
-    let e = frame-ends _ _ _ _ _ _ _ _ _ _ _ _ _ (i .1 .1 .1 .1) (c .frame-test .left) in
+    let e = frame-ends _ _ _ _ _ _ _ _ _ _ _ _ (i .1 .1 .1 .1) (c .frame-test .left) in
     frame-is _ _ _ _ _ _ _ _ (c .before .before .before .before .before .read-header .ensures) (e .0 ∙ sym (i .1 .1 .1 .0), e .1)
 
 same-length-3 : tie.Need-same-length-3 Inv-loop μ-loop Inv-frame μ-frame
@@ -169,11 +169,11 @@ same-length-4 c = c .before .before .before .before .before .before .before .loo
 returns-2 : tie.Need-returns-2 Inv-loop μ-loop Inv-frame μ-frame
 returns-2 c =
     let l = c .before .before .before .before .before .before .before .loop in
-    let y = rw (l .inv .0) at (c .before .before .read-block .ensures) in
+    let y = c .before .before .read-block .ensures in
     let no-next : (b : Bits) (st : V2Row) → c .before .before .read-block .result ≡ Next b st → ⊥ = (λ b st q. ⊎-elim (λ e. omega arith) (⊎-elim (λ e. omega arith) (λ e. omega arith)) (rw q at (c .before .match .keys2))) in
-    let x = row-stops _ _ _ _ _ _ _ _ _ _ _ _ _ _ _ (l .inv .1 .1 .1) (c .before .before .before .before .before .before .loop-test .taken) _ (y .0) no-next in
+    let x = row-stops _ _ _ _ _ _ _ _ _ _ _ _ _ _ (l .inv .1 .1 .1) (c .before .before .before .before .before .before .loop-test .taken) _ (y .0) no-next in
     frame-is _ _ _ _ _ _ _ _ (c .before .before .before .before .before .before .before .before .before .before .before .before .before .before .before .before .read-header .ensures)
-    (frame-refuses _ _ _ _ _ _ _ _ _ _ _ _ _ (c .before .before .before .before .before .before .before .before .before .before .before .before .frame .inv .1 .1 .1 .1) (c .before .before .before .before .before .before .before .before .before .before .before .frame-test .taken) _ (whole-row _ _ _ _ _ _ _ _ _ (c .before .before .before .before .before .before .before .before .before .before .align .ensures) (c .before .before .before .before .before .before .before .before .before .fresh .ensures) (c .before .before .before .before .before .before .before .before .mode .ensures)) _ _ (x .1) _ (x .0 ∙ sym (c .number .ensures)) (rw (c .number .ensures) (refusal-number _ no-next)))
+    (frame-refuses _ _ _ _ _ _ _ _ _ _ _ _ (c .before .before .before .before .before .before .before .before .before .before .before .before .frame .inv .1 .1 .1 .1) (c .before .before .before .before .before .before .before .before .before .before .before .frame-test .taken) _ (whole-row _ _ _ _ _ _ _ _ (c .before .before .before .before .before .before .before .before .before .before .align .ensures) (c .before .before .before .before .before .before .before .before .before .fresh .ensures) (c .before .before .before .before .before .before .before .before .mode .ensures)) _ _ (x .1) _ (x .0 ∙ sym (c .number .ensures)) (rw (c .number .ensures) (refusal-number _ no-next)))
 
 same-length-5 : tie.Need-same-length-5 Inv-loop μ-loop Inv-frame μ-frame
 same-length-5 c = c .before .before .loop .inv .0 ∙ sym (c .before .before .before .before .before .before .before .before .before .before .before .before .before .before .before .pre .samples-lent)
@@ -183,9 +183,9 @@ same-length-6 c = c .before .before .loop .inv .1 .0 ∙ c .before .before .befo
 
 returns-3 : tie.Need-returns-3 Inv-loop μ-loop Inv-frame μ-frame
 returns-3 c =
-    let e = row-ends _ _ _ _ _ _ _ _ _ _ _ _ _ _ _ (c .before .before .loop .inv .1 .1 .1) (c .before .loop-test .left) in
+    let e = row-ends _ _ _ _ _ _ _ _ _ _ _ _ _ _ (c .before .before .loop .inv .1 .1 .1) (c .before .loop-test .left) in
     frame-is _ _ _ _ _ _ _ _ (c .before .before .before .before .before .before .before .before .before .before .before .read-header .ensures)
-    (frame-overruns _ _ _ _ _ _ _ _ _ _ _ _ _ (c .before .before .before .before .before .before .before .frame .inv .1 .1 .1 .1) (c .before .before .before .before .before .before .frame-test .taken) _ (whole-row _ _ _ _ _ _ _ _ _ (c .before .before .before .before .before .align .ensures) (c .before .before .before .before .fresh .ensures) (c .before .before .before .mode .ensures)) _ _ (e .1 .1) (e .0) (rw (e .1 .0) (c .if1 .taken)))
+    (frame-overruns _ _ _ _ _ _ _ _ _ _ _ _ (c .before .before .before .before .before .before .before .frame .inv .1 .1 .1 .1) (c .before .before .before .before .before .before .frame-test .taken) _ (whole-row _ _ _ _ _ _ _ _ (c .before .before .before .before .before .align .ensures) (c .before .before .before .before .fresh .ensures) (c .before .before .before .mode .ensures)) _ _ (e .1 .1) (e .0) (rw (e .1 .0) (c .if1 .taken)))
 
 pub decode-frame-spec : {M : Type 1} → statement M
 decode-frame-spec =

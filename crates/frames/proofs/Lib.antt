@@ -1,0 +1,2 @@
+-- What the entries' proofs share.
+pub mod MovedLaws
