@@ -1,4 +1,4 @@
-.PHONY: run test refuse compare compare-long bench memcheck fuzz frames picture soak fmt
+.PHONY: run test refuse mutate compare compare-long bench memcheck fuzz frames picture soak fmt
 
 archive = target/staticlib/librazvolk.a
 cargo_run = cd rust && cargo run --release --offline --locked
@@ -20,6 +20,14 @@ refuse:
 	for crate in edits/*/; do to=target/refuse/crates/$${crate#edits/}must-fail; mkdir -p $$to; cp $$crate*.edit $$to/; done
 	cd target/refuse && rt must-fail
 
+# The definitions of CRATE (of its specs/FILE.antt alone, or COUNT changes that SEED picks), changed one place at a time: prints
+# every change that still proves (docs/TESTING.md). Whole, at a low priority beside other work, it takes an hour or two.
+CRATE = rules
+FILE =
+COUNT = 0
+mutate:
+	RT_JOBS=1 nice -n 19 python3 tests/mutate.py --crate $(CRATE) --file '$(FILE)' --count $(COUNT) --seed $(SEED)
+
 # The long comparison with the Rust, ten to twenty minutes.
 compare:
 	$(cargo_run) -p compare -- long
@@ -33,7 +41,7 @@ compare-long:
 	$(cargo_run) -p compare -- v2 100_000 $(SEED)
 	$(cargo_run) -p compare -- write 200_000 $(SEED)
 
-# Razvolk and the Rust timed in turn on the same frames, two or three minutes.
+# Razvolk and the Rust timed in turn on the same frames, three to four minutes.
 bench:
 	$(cargo_run) -p bench
 

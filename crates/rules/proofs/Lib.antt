@@ -2,6 +2,7 @@
 -- and the claim that no earlier frame reaches a sample marked 0.
 pub mod Cells
 pub mod Examples
+pub mod Pins
 pub mod ReaderLaws
 pub mod Tests
 pub mod Refusals

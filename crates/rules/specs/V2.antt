@@ -288,9 +288,9 @@ unfoldable pub then : V2Block → Block → (Bits → V2Row → Row) → Row
 then (Next b st) block rest =
     let q = rest b st in
     record { blocks = block ∷ q .blocks; number = q .number; bits = q .bits }
-then (EarlyMotion b) block rest = record { blocks = []; number = 5; bits = b }
-then (Outside b) block rest = record { blocks = []; number = 6; bits = b }
-then (LongDifference b) block rest = record { blocks = []; number = 7; bits = b }
+then (EarlyMotion b) block rest = record { blocks = []; number = number (EarlyMotion b); bits = b }
+then (Outside b) block rest = record { blocks = []; number = number (Outside b); bits = b }
+then (LongDifference b) block rest = record { blocks = []; number = number (LongDifference b); bits = b }
 
 -- k blocks from a column on.
 unfoldable pub blocks : List ℕ → V2Hdr → ℕ → ℕ → ℕ → ℕ → Bits → V2Row → List (List ℕ) → Row

@@ -55,8 +55,3 @@ fn the_record_is_what_the_rust_does() {
     assert!([0, 2, 3, 5, 6, 7, 8].iter().all(|&i| numbers[2][i] > 0), "{numbers:?}");
     assert!(numbers[1][0] > 100 && [1, 3, 9, 10].iter().all(|&i| numbers[1][i] > 0), "{numbers:?}");
 }
-
-#[test]
-fn the_record_is_the_same_each_time() {
-    assert!(file() == file());
-}
