@@ -49,11 +49,11 @@ module _ (w h : ℕ) (from to : List ℕ) (k : ℕ) (e : k ≡ refusal (size w h
 
   pub refused-after : (moved : Size → List ℕ → List ℕ) → (k ≡ 0 → ⊥) → to ≡ after moved w h from to
   unfolding after
-  refused-after moved n = rw (← e) (go (eqb k 0) refl)
+  refused-after moved n = rw (← e) (go (eqb k 0) refl _)
     where
-      go : (t : Bool) → eqb k 0 ≡ t → to ≡ cond t (moved (size w h) (take (w * h) from) ++ drop (w * h) to) to
-      go true q = absurd (n (eqb-true k 0 q))
-      go false q = refl
+      go : (t : Bool) → eqb k 0 ≡ t → (new : List ℕ) → to ≡ cond t new to
+      go true q new = absurd (n (eqb-true k 0 q))
+      go false q new = refl
 
   module _ (ok : k ≡ 0) where
     pub lent : Lends (size w h) (take (w * h) from) (take (w * h) to)
