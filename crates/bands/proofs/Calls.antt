@@ -9,17 +9,27 @@ use native.Mathlib.Omega.{arith}
 use lib.Dec.{eqb}
 use lib.ListN.{length, take, drop}
 use lib.Seq.{length-take-le}
-use borrow.Author.Tests.{eqb-true, eq-eqb, ne-eqb}
+use borrow.Author.Tests.{eqb-true, eqb-false, ne-eqb}
 use Rattle.rules.specs.declared.answer.Answer.{Answer}
 use Rattle.rules.specs.Frame.{cells}
 use Rattle.rules.specs.Phases.{scratch}
 use Rattle.rules.specs.Answer as Plain
 use Rattle.rules.proofs.Refusals.{samples-enough}
-use Rattle.bands.specs.Bands.{fits, good, in-bands}
+use Rattle.bands.specs.Bands.{Cut, fits, good, in-bands}
 use Rattle.bands.specs.Call.{Call, plain, buffers, lengths, list-refusal, refusal, answer, samples-after, scratch-after, Yields}
 use Rattle.bands.proofs.AnySequence.{in-bands-two-phase}
 
 -- ── Numbers ──
+
+-- A list that isn't refused is good, of a cut that fits.
+pub list-passed : (c : Cut) (steps : List ℕ) → list-refusal c steps ≡ 0 → (fits c ≡ true) × (good c steps ≡ true)
+unfolding list-refusal
+list-passed c steps e = go (fits c) refl (good c steps) refl
+  where
+    go : (u : Bool) → fits c ≡ u → (v : Bool) → good c steps ≡ v → (fits c ≡ true) × (good c steps ≡ true)
+    go true q true q′ = (q, q′)
+    go true q false q′ = let z : _≡_ {A = ℕ} 12 0 = rw (q, q′) at e in absurd (omega arith)
+    go false q v q′ = let z : _≡_ {A = ℕ} 11 0 = rw q at e in absurd (omega arith)
 
 -- A call that is done passed 1 to 4, its cut fits, and its list is good.
 pub record Passed (c : Call) : Type 0 where
@@ -28,20 +38,17 @@ pub record Passed (c : Call) : Type 0 where
   pub list-good : good (c .cut) (c .steps) ≡ true
 
 pub passed : (c : Call) → refusal c ≡ 0 → Passed c
-unfolding refusal list-refusal
-passed c e = go (eqb p 0) refl (fits (c .cut)) refl (good (c .cut) (c .steps)) refl
+unfolding refusal
+passed c e = go (eqb p 0) refl
   where
     p : ℕ
     p = Plain.refusal (plain c) (lengths c)
 
-    clash : {k : ℕ} → k ≢ 0 → k ≡ 0 → Passed c
-    clash ne q = absurd (ne q)
-
-    go : (t : Bool) → eqb p 0 ≡ t → (u : Bool) → fits (c .cut) ≡ u → (v : Bool) → good (c .cut) (c .steps) ≡ v → Passed c
-    go true e₁ true e₂ true e₃ = record { plain-passed = eqb-true p 0 e₁; cut-fits = e₂; list-good = e₃ }
-    go true e₁ true e₂ false e₃ = clash {k = 12} (λ q. omega arith) (rw (e₁, e₂, e₃) at e)
-    go true e₁ false e₂ v e₃ = clash {k = 11} (λ q. omega arith) (rw (e₁, e₂) at e)
-    go false e₁ u e₂ v e₃ = let q : p ≡ 0 = rw e₁ at e in let z : true ≡ false = sym (eq-eqb p 0 q) ∙ e₁ in absurd (let y : _≡_ {A = ℕ} 0 1 = cc in omega arith)
+    go : (t : Bool) → eqb p 0 ≡ t → Passed c
+    go true q =
+        let l = list-passed (c .cut) (c .steps) (rw q at e) in
+        record { plain-passed = eqb-true p 0 q; cut-fits = l .0; list-good = l .1 }
+    go false q = let z : p ≡ 0 = rw q at e in let m = eqb-false p 0 q in absurd (omega arith)
 
 -- A number of the plain call's is this call's; else the list decides.
 module _ (c : Call) where

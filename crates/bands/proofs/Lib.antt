@@ -6,3 +6,5 @@ pub mod AnySequence
 pub mod Sequences
 pub mod CheckLaws
 pub mod Calls
+pub mod Lists
+pub mod Examples
