@@ -1,4 +1,4 @@
-.PHONY: run test refuse compare compare-long bench memcheck fuzz frames picture soak fmt
+.PHONY: run test refuse mutate compare compare-long bench memcheck fuzz frames picture soak fmt
 
 archive = target/staticlib/librazvolk.a
 cargo_run = cd rust && cargo run --release --offline --locked
@@ -20,18 +20,28 @@ refuse:
 	for crate in edits/*/; do to=target/refuse/crates/$${crate#edits/}must-fail; mkdir -p $$to; cp $$crate*.edit $$to/; done
 	cd target/refuse && rt must-fail
 
+# The definitions of CRATE (of its specs/FILE.antt alone, or COUNT changes that SEED picks), changed one place at a time: prints
+# every change that still proves (docs/TESTING.md). Whole, at a low priority beside other work, it takes an hour or two.
+CRATE = rules
+FILE =
+COUNT = 0
+mutate:
+	RT_JOBS=1 nice -n 19 python3 tests/mutate.py --crate $(CRATE) --file '$(FILE)' --count $(COUNT) --seed $(SEED)
+
 # The long comparison with the Rust, ten to twenty minutes.
 compare:
 	$(cargo_run) -p compare -- long
 
-# As many calls as docs/TESTING.md tells: ten million of V0, a hundred thousand streams of V2, pairs of lists. SEED picks others.
+# As many calls as docs/TESTING.md tells: ten million of V0, a hundred thousand streams of V2, pairs of lists, two hundred thousand
+# frames written. SEED picks others.
 SEED = 1
 compare-long:
 	$(cargo_run) -p compare -- v0 1_250_000 $(SEED)
 	$(cargo_run) -p compare -- lists 20_000 $(SEED)
 	$(cargo_run) -p compare -- v2 100_000 $(SEED)
+	$(cargo_run) -p compare -- write 200_000 $(SEED)
 
-# Razvolk and the Rust timed in turn on the same frames, two or three minutes.
+# Razvolk and the Rust timed in turn on the same frames, three to four minutes.
 bench:
 	$(cargo_run) -p bench
 
@@ -42,10 +52,11 @@ $(made)/%: %.c include/razvolk.h $(archive)
 	mkdir -p $(dir $@)
 	$(CC) -O1 -g -std=c99 -Wall -Wextra -pedantic -Werror -Iinclude $< -x none $(archive) -o $@
 
-# The C example and hostile calls under valgrind, which must have nothing to report.
-memcheck: $(made)/examples/decode $(made)/tests/header $(made)/tests/hostile
-	valgrind -q --error-exitcode=9 $(made)/examples/decode > $(made)/decode.txt
-	diff examples/decode.txt $(made)/decode.txt
+# The C examples and hostile calls under valgrind, which must have nothing to report.
+memcheck: $(made)/examples/decode $(made)/examples/write $(made)/tests/header $(made)/tests/hostile
+	for name in decode write; do \
+		valgrind -q --error-exitcode=9 $(made)/examples/$$name > $(made)/$$name.txt && \
+		diff examples/$$name.txt $(made)/$$name.txt || exit 1; done
 	valgrind -q --error-exitcode=9 $(made)/tests/header
 	valgrind -q --error-exitcode=9 $(made)/tests/hostile heap 400 $(SEED)
 

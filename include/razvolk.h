@@ -1,4 +1,4 @@
-/* Razvolk: Samsung raw decoders in Rattle, for C and C++ on x86-64 Linux. Link target/staticlib/librazvolk.a.
+/* Razvolk: Samsung raw decoders and a writer in Rattle, for C and C++ on x86-64 Linux. Link target/staticlib/librazvolk.a.
  *
  * Every function is proved to return on every input. A slice is a pointer and a length in elements: the pointer must be good
  * for that many elements, and not null, also where the length is 0 and nothing is read. Slices that are written must overlap
@@ -14,7 +14,7 @@
 extern "C" {
 #endif
 
-/* What a decoder answers. N below is width times height; scratch needs RAZVOLK_SCRATCH bytes.
+/* What a decoder or a writer answers. N below is width times height; scratch needs RAZVOLK_SCRATCH bytes.
  *
  *   number                                                                left behind
  *   0  done                                                               the frame, in the first N samples
@@ -26,9 +26,11 @@ extern "C" {
  *   6  V2: a block predicts from outside the frame                        the blocks before it are written
  *   7  V2: a difference is longer than the depth allows                   the blocks before it are written
  *   8  V2: the stream ended                                               that row and those before it are written
+ *   9  a sample to be written is above 16,383                             every buffer as it was
+ *  10  the stream or the offsets to be written do not fit their buffer    every buffer as it was
  *
- * 1 to 4 are tested in this order; then the stream decides. `row` is the row at fault of 5 to 8, else 0. Samples and map
- * bytes from N on never change. */
+ * 1 to 4 are tested in this order; then the stream decides. 9 and 10 are a writer's, which tests 1, 3, 9 and 10. `row` is the
+ * row at fault of 5 to 8, else 0. Samples and map bytes from N on never change. */
 typedef struct {
     uint32_t number;
     uint32_t row;
@@ -84,6 +86,32 @@ razvolk_answer razvolk_decode_v2(const uint8_t *src, size_t src_len, size_t widt
  *             it was, or rests on one */
 razvolk_answer razvolk_decode_v2_map(const uint8_t *src, size_t src_len, size_t width, size_t height, uint16_t *samples,
                                      size_t samples_len, uint8_t *map, size_t map_len);
+
+/* Colour planes, for storage: a frame's samples out of one buffer into another, first all of even rows and even columns, then
+ * even and odd, odd and even, odd and odd, each in reading order and without gaps; and the way back. Each undoes the other.
+ * 0     the first N of the buffer written are the planes, or the frame's samples; what lies past them is as it was
+ * 1, 3  nothing is written; 3 if either buffer has fewer than N samples */
+razvolk_answer razvolk_to_planes(const uint16_t *samples, size_t samples_len, size_t width, size_t height, uint16_t *planes,
+                                 size_t planes_len);
+razvolk_answer razvolk_from_planes(const uint16_t *planes, size_t planes_len, size_t width, size_t height,
+                                   uint16_t *samples, size_t samples_len);
+/* What a writer answers, and how many bytes of stream it has written: 0 unless it is done. */
+typedef struct {
+    razvolk_answer answer;
+    uint64_t length;
+} razvolk_written;
+
+/* The most bytes of stream that a V0 frame within the limits can take: of each row, 265 bits a block of 16 columns, in whole
+ * words. A buffer of so many bytes is always long enough. */
+#define RAZVOLK_V0_MOST(width, height) ((((size_t)(width) + 15) / 16 * 265 + 31) / 32 * 4 * (size_t)(height))
+
+/* Writes the first N samples as V0: rows in order, from byte 0 of the stream on and without gaps, and in offsets[r] where row r
+ * starts. Each razvolk_decode_v0.. gives the samples back, over any buffer, with no map byte 1, whatever lies past the stream
+ * and the offsets. The samples are only read; those from N on do not matter.
+ * 0            the first `length` bytes of stream and the first `height` offsets are the frame's; those past them are as before
+ * 1, 3, 9, 10  nothing is written, neither stream nor offsets, and `length` is 0. 3 is of the samples alone */
+razvolk_written razvolk_write_v0(const uint16_t *samples, size_t samples_len, size_t width, size_t height, uint8_t *stream,
+                                 size_t stream_len, uint32_t *offsets, size_t offsets_len);
 
 /* A bit reader's state. The stream is words of 4 bytes, lowest byte first, and a word's highest bit is read first. A reader
  * that starts at a byte position is { position, 0, 0, false }. */

@@ -113,11 +113,62 @@ static void v2(void) {
     free(marked);
 }
 
+static void planes(void) {
+    static const uint16_t frame[7] = {0, 1, 2, 10, 11, 12, 5}, apart[6] = {0, 2, 1, 10, 12, 11};
+    uint16_t to[7] = {9, 9, 9, 9, 9, 9, 9}, back[7] = {8, 8, 8, 8, 8, 8, 8};
+    razvolk_answer answer = razvolk_to_planes(frame, 7, 3, 2, to, 7);
+    expect(answer.number == 0 && memcmp(to, apart, sizeof apart) == 0 && to[6] == 9, "to_planes");
+    answer = razvolk_from_planes(to, 7, 3, 2, back, 7);
+    expect(answer.number == 0 && memcmp(back, frame, 6 * sizeof *frame) == 0 && back[6] == 8, "from_planes");
+    answer = razvolk_to_planes(frame, 7, 3, 2, to, 5);
+    expect(answer.number == 3 && answer.row == 0, "5 samples for the planes of 6 are refused by 3");
+    answer = razvolk_from_planes(to, 5, 16385, 1, back, 7);
+    expect(answer.number == 1 && answer.row == 0, "a width of 16,385 is refused by 1");
+}
+
+/* A frame of 3 by 2 that is written, and read back. The seventh sample, the last two bytes of stream and the third offset lie
+ * past it. */
+static const uint16_t image[7] = {0, 16383, 127, 128, 5, 16000, 65535};
+static const uint8_t coded[26] = {0x40, 0x00, 0xc0, 0x7f, 0x00, 0x00, 0x80, 0x7f, 0x3f, 0x40, 0xf8, 0x7f, 0x00,
+                                  0x00, 0x7c, 0x7f, 0x28, 0x04, 0x00, 0x00, 0x00, 0x00, 0x00, 0x00, 0x09, 0x09};
+static uint8_t bytes[26];
+static uint32_t rows[3];
+
+static void nothing_written(razvolk_written written, uint32_t number, const char *what) {
+    expect(written.answer.number == number && written.answer.row == 0 && written.length == 0, what);
+    for (size_t i = 0; i < sizeof bytes; i++)
+        expect(bytes[i] == 9, "a refusal writes no byte");
+    expect(rows[0] == 9 && rows[1] == 9 && rows[2] == 9, "a refusal writes no offset");
+}
+
+static void write_v0(void) {
+    razvolk_written written;
+    razvolk_answer answer;
+    memset(bytes, 9, sizeof bytes);
+    rows[0] = rows[1] = rows[2] = 9;
+    nothing_written(razvolk_write_v0(image, 7, 16385, 0, bytes, 26, rows, 3), 1, "a width of 16,385 is refused by 1");
+    nothing_written(razvolk_write_v0(image, 5, 3, 2, bytes, 26, rows, 3), 3, "5 samples for 6 are refused by 3");
+    nothing_written(razvolk_write_v0(image, 7, 7, 1, bytes, 0, rows, 0), 9, "a sample above 16,383 is refused by 9");
+    nothing_written(razvolk_write_v0(image, 7, 3, 2, bytes, 23, rows, 3), 10, "23 bytes for 24 are refused by 10");
+    nothing_written(razvolk_write_v0(image, 7, 3, 2, bytes, 26, rows, 1), 10, "1 offset for 2 is refused by 10");
+    written = razvolk_write_v0(image, 7, 3, 2, bytes, 26, rows, 3);
+    expect(written.answer.number == 0 && written.answer.row == 0 && written.length == 24, "write_v0");
+    expect(memcmp(bytes, coded, sizeof bytes) == 0, "the stream, and what lies past it as it was");
+    expect(rows[0] == 0 && rows[1] == 8 && rows[2] == 9, "the offsets, and what lies past them as it was");
+    before();
+    answer = razvolk_decode_v0_reference_map(bytes, 26, rows, 3, 3, 2, samples, 7, map, 7);
+    expect(answer.number == 0 && memcmp(samples, image, 6 * sizeof *image) == 0, "decoded, it is the frame again");
+    expect(map[0] == 0 && map[5] == 0 && map[6] == 9 && samples[6] == 77, "with no map byte 1");
+    expect(RAZVOLK_V0_MOST(3, 2) == 72 && RAZVOLK_V0_MOST(16384, 16384) == 555745280, "RAZVOLK_V0_MOST");
+}
+
 int main(void) {
     reader();
     v0_reference();
     v0();
     v2();
+    planes();
+    write_v0();
     puts(failed ? "header: FAILED" : "header: ok");
     return failed;
 }

@@ -1,12 +1,14 @@
 /* Calls every decoder with streams that are random, written or damaged, with right and with short buffers, and holds it to what
  * can be told without a second decoder: the refusal among 1 to 4, what each answer leaves, that the entries of one decoder and
- * both V0 decoders agree, and that a sample marked 0 is the same over any old samples.
+ * both V0 decoders agree, and that a sample marked 0 is the same over any old samples. Calls the writer with any samples, sizes
+ * and buffers, and holds it to its refusal, to the length that is worked out apart, and to the decoders, which must give the
+ * samples back.
  *
  *     hostile [pages|heap [COUNT[s] [SEED]]]      COUNT rounds, or COUNT seconds; by itself: pages, 300 rounds
  *
  * With pages each lent slice touches a page that can't be read or written, at its end or at its start, and what is only read
- * can't be written: a decoder that leaves its slices ends the program. With heap each comes from malloc, and what map and
- * scratch hold at entry is not set, for valgrind. */
+ * can't be written: a function that leaves its slices ends the program. With heap each comes from malloc, and what map, scratch
+ * and written stream hold at entry is not set, for valgrind. */
 #define _DEFAULT_SOURCE
 #include "razvolk.h"
 
@@ -17,8 +19,8 @@
 #include <time.h>
 #include <unistd.h>
 
-/* The highest number that a decoder answers. */
-#define MOST_NUMBER 8
+/* The highest number that is answered. */
+#define MOST_NUMBER 10
 
 static bool heap = false;
 static unsigned long rounds = 0, calls = 0, numbers[MOST_NUMBER + 1];
@@ -442,8 +444,208 @@ static void play_reader(void) {
     give_back(src);
 }
 
+/* ---- Colour planes: samples moved out of one slice into another, and back. */
+
+typedef razvolk_answer (*mover)(slice from, size_t width, size_t height, slice to);
+
+static razvolk_answer to_planes(slice from, size_t width, size_t height, slice to) {
+    return razvolk_to_planes(SAMPLES(from), width, height, SAMPLES(to));
+}
+
+static razvolk_answer from_planes(slice from, size_t width, size_t height, slice to) {
+    return razvolk_from_planes(SAMPLES(from), width, height, SAMPLES(to));
+}
+
+static void move_and_back(mover there, mover back, size_t width, size_t height, size_t read, size_t written_to) {
+    size_t n = width <= 16384 && height <= 16384 ? width * height : 0;
+    uint32_t refused = width > 16384 || height > 16384 ? 1 : read < n || written_to < n ? 3 : 0;
+    slice from = lend(2 * read), to = lend(2 * written_to), again = lend(2 * read);
+    scatter(from.data, from.bytes);
+    filled(to, heap && refused == 0 ? 2 * n : 0);
+    filled(again, heap && refused == 0 ? 2 * n : 0);
+    close_for_writing(from);
+    razvolk_answer answer = there(from, width, height, to);
+    calls++;
+    numbers[answer.number <= MOST_NUMBER ? answer.number : 0]++;
+    expect(answer.number == refused && answer.row == 0, "planes are refused by 1 or 3");
+    for (size_t i = refused == 0 ? 2 * n : 0; i < to.bytes; i++)
+        expect(to.data[i] == 9, "what lies past the planes stays");
+    if (refused == 0) {
+        answer = back(to, width, height, again);
+        expect(answer.number == 0 && memcmp(again.data, from.data, 2 * n) == 0, "each way undoes the other");
+        for (size_t i = 2 * n; i < again.bytes; i++)
+            expect(again.data[i] == 9, "what lies past the frame stays");
+    }
+    give_back(from);
+    give_back(to);
+    give_back(again);
+}
+
+static void play_planes(void) {
+    size_t width = below(60) == 0 ? (size_t)number() : below(24), height = below(60) == 0 ? (size_t)number() : below(24);
+    size_t n = width < 24 && height < 24 ? width * height : 0;
+    size_t read = n + below(3), written_to = n + below(3);
+    if (below(4) == 0)
+        read -= below(read + 1);
+    if (below(4) == 0)
+        written_to -= below(written_to + 1);
+    move_and_back(to_planes, from_planes, width, height, read, written_to);
+    move_and_back(from_planes, to_planes, width, height, read, written_to);
+}
+
+/* ---- The writer. */
+
+typedef struct {
+    slice samples, stream, offsets;
+    size_t width, height;
+} to_write;
+
+#define READ_SAMPLES(lent) (const uint16_t *)(const void *)(lent).data, (lent).bytes / 2
+#define WRITTEN_OFFSETS(lent) (uint32_t *)(void *)(lent).data, (lent).bytes / 4
+
+static uint16_t sample_at(const to_write *w, size_t i) {
+    uint16_t sample;
+    memcpy(&sample, w->samples.data + 2 * i, 2);
+    return sample;
+}
+
+/* A sample of the frame after the exchange of places. */
+static int32_t exchanged(const to_write *w, size_t row, size_t col) {
+    bool right = row % 2 == 0 && col % 2 == 1 && row + 1 < w->height;
+    bool below = row % 2 == 1 && col % 2 == 0 && col + 1 < w->width;
+    return sample_at(w, right ? (row + 1) * w->width + col - 1 : below ? (row - 1) * w->width + col + 1 : row * w->width + col);
+}
+
+/* The bits that a block takes: nine to open it, four lengths of 4, and four residuals of each. */
+static size_t block_bits(const to_write *w, size_t row, size_t col) {
+    size_t bits = 9;
+    for (size_t group = 0; group < 4; group++) {
+        size_t length = 0;
+        for (size_t c = group % 2 * 8 + group / 2; c < group % 2 * 8 + 8 && col + c < w->width; c += 2) {
+            int32_t residual = exchanged(w, row, col + c) - (col == 0 ? 128 : exchanged(w, row, col - 2 + c % 2));
+            while (length == 0 ? residual != 0 : residual < -(1 << (length - 1)) || residual > (1 << (length - 1)) - 1)
+                length++;
+        }
+        bits += 4 + 4 * length;
+    }
+    return bits;
+}
+
+/* The bytes that the frame takes; each row is whole words. */
+static size_t stream_bytes(const to_write *w) {
+    size_t words = 0;
+    for (size_t row = 0; row < w->height; row++) {
+        size_t bits = 0;
+        for (size_t col = 0; col < w->width; col += 16)
+            bits += block_bits(w, row, col);
+        words += (bits + 31) / 32;
+    }
+    return 4 * words;
+}
+
+/* The refusal among 1, 3 and 9, or 0. */
+static uint32_t unwritable(const to_write *w) {
+    if (w->width > 16384 || w->height > 16384)
+        return 1;
+    if (w->samples.bytes / 2 < w->width * w->height)
+        return 3;
+    for (size_t i = 0; i < w->width * w->height; i++)
+        if (sample_at(w, i) > 16383)
+            return 9;
+    return 0;
+}
+
+/* A size, and samples that are of up to 14 bits, mostly: any, near one another, or black and white. */
+static to_write any_frame(void) {
+    to_write w = {{0}, {0}, {0}, below(70), below(12)};
+    switch (below(40)) {
+    case 0:
+        w.width = 16384, w.height = below(3);
+        break;
+    case 1:
+        w.width = below(3), w.height = 16384;
+        break;
+    case 2:
+        w.width = below(2) == 0 ? 16385 : SIZE_MAX - below(9);
+        break;
+    case 3:
+        w.height = SIZE_MAX - below(2);
+        break;
+    }
+    bool large = w.width > 16384 || w.height > 16384;
+    size_t n = large ? below(50) : w.width * w.height, lent = n + (below(3) == 0 ? below(9) : 0);
+    if (n > 0 && below(16) == 0)
+        lent = below(n);
+    w.samples = lend(2 * lent);
+    uint16_t least = (uint16_t)below(12000), most = (uint16_t)(1 << below(13));
+    size_t kind = below(4);
+    for (size_t i = 0; i < lent; i++) {
+        uint16_t sample = (uint16_t)(kind == 0 ? below(16384) : kind == 1 ? 16383 * below(2) : least + below(most));
+        memcpy(w.samples.data + 2 * i, &sample, 2);
+    }
+    if (lent > 0 && below(8) == 0) {
+        uint16_t bright = (uint16_t)(16384 + (below(2) == 0 ? 0 : below(49152)));
+        memcpy(w.samples.data + 2 * below(lent), &bright, 2);
+    }
+    close_for_writing(w.samples);
+    return w;
+}
+
+/* What was written gives the samples back by each V0 entry, and no map byte is 1. */
+static void decodes_back(const to_write *w) {
+    size_t n = w->width * w->height;
+    ask a = {false, w->stream, w->offsets, w->width, w->height, n, n, RAZVOLK_SCRATCH(w->width, w->height)};
+    slice old = lend(2 * n);
+    scatter(old.data, old.bytes);
+    for (const entry *e = entries; e < entries_end; e++) {
+        if (e->v2)
+            continue;
+        outcome out = run(&a, e, old.data);
+        expect(out.answer.number == 0, "what is written is decoded");
+        expect(memcmp(out.samples.data, w->samples.data, 2 * n) == 0, "what is written decodes to the samples");
+        for (size_t i = 0; e->with_map && i < n; i++)
+            expect(out.map.data[i] == 0, "what is written decodes with no map byte 1");
+        end(out);
+    }
+    give_back(old);
+}
+
+/* Writes a frame into buffers that are just long enough, longer or short, and checks what is answered and left. */
+static void play_writer(void) {
+    to_write w = any_frame();
+    uint32_t refused = unwritable(&w);
+    size_t bytes = refused == 0 ? stream_bytes(&w) : below(200), rows = refused == 0 ? w.height : below(20);
+    size_t stream_len = bytes + (below(2) == 0 ? 0 : below(40)), offsets_len = rows + (below(2) == 0 ? 0 : below(4));
+    if (bytes > 0 && below(8) == 0)
+        stream_len = bytes - 1 - (below(2) == 0 ? 0 : below(bytes));
+    if (rows > 0 && below(8) == 0)
+        offsets_len = rows - 1;
+    if (refused == 0 && (stream_len < bytes || offsets_len < rows))
+        refused = 10;
+    if (refused > 0)
+        bytes = 0, rows = 0;
+    w.stream = lend(stream_len), w.offsets = lend(4 * offsets_len);
+    filled(w.stream, heap ? bytes : 0);
+    filled(w.offsets, heap ? 4 * rows : 0);
+    razvolk_written out =
+        razvolk_write_v0(READ_SAMPLES(w.samples), w.width, w.height, BYTES(w.stream), WRITTEN_OFFSETS(w.offsets));
+    calls++;
+    expect(out.answer.number == refused && out.answer.row == 0, "the writer's refusal");
+    numbers[refused]++;
+    expect(out.length == bytes, "the length is the stream's, or 0");
+    for (size_t i = bytes; i < w.stream.bytes; i++)
+        expect(w.stream.data[i] == 9, "bytes past the stream stay");
+    for (size_t i = 4 * rows; i < w.offsets.bytes; i++)
+        expect(w.offsets.data[i] == 9, "offsets past the rows stay");
+    if (refused == 0)
+        decodes_back(&w);
+    give_back(w.samples);
+    give_back(w.stream);
+    give_back(w.offsets);
+}
+
 /* What is played in each round. Functions of a new kind are a row here. */
-static void (*const plays[])(void) = {play_decoders, play_reader};
+static void (*const plays[])(void) = {play_decoders, play_reader, play_planes, play_writer};
 
 int main(int argc, char **argv) {
     const char *count = argc > 2 ? argv[2] : "300";

@@ -1,4 +1,4 @@
-//! What a decoder answers.
+//! What a decoder or a writer answers.
 
 use std::{error, fmt};
 
@@ -17,6 +17,21 @@ impl Answer {
     }
 }
 
+/// A writer's answer: how many bytes of stream it has written, 0 unless it is done.
+#[repr(C)]
+#[derive(Clone, Copy)]
+pub(crate) struct Written {
+    answer: Answer,
+    length: u64,
+}
+
+impl Written {
+    pub(crate) fn result(self) -> Result<usize, Refusal> {
+        // The archive is for x86-64 alone.
+        self.answer.result().map(|()| self.length as usize)
+    }
+}
+
 /// Why a frame was refused.
 ///
 /// N is width times height; scratch needs [`crate::scratch_len`] bytes.
@@ -31,8 +46,10 @@ impl Answer {
 /// | 6 | V2: a block predicts from outside the frame | the blocks before it are written |
 /// | 7 | V2: a difference is longer than the depth allows | the blocks before it are written |
 /// | 8 | V2: the stream ended | that row and those before it are written |
+/// | 9 | a sample to be written is above 16,383 | every buffer as it was |
+/// | 10 | the stream or the offsets to be written do not fit their buffer | every buffer as it was |
 ///
-/// 1 to 4 are tested in this order. After 5 to 8 the map describes the samples as they are left; the row in which the stream
+/// A decoder tests 1 to 4 in this order, a writer 1, 3, 9 and 10. After 5 to 8 the map describes the samples as they are left; the row in which the stream
 /// ended has ones in place of the missing bits.
 ///
 /// ```
@@ -73,6 +90,8 @@ impl fmt::Display for Refusal {
             6 => write!(f, "row {row} predicts from outside the frame"),
             7 => write!(f, "row {row} has a difference longer than the depth allows"),
             8 => write!(f, "the stream ends in row {row}"),
+            9 => write!(f, "a sample is above 16,383"),
+            10 => write!(f, "the buffer for the stream or the offsets is too short"),
             _ => write!(f, "refusal {number} in row {row}"),
         }
     }
@@ -86,9 +105,9 @@ mod tests {
 
     #[test]
     fn each_refusal_has_a_message_of_its_own() {
-        let texts: Vec<String> = (1..=9).map(|number| Refusal { number, row: 7 }.to_string()).collect();
+        let texts: Vec<String> = (1..=11).map(|number| Refusal { number, row: 7 }.to_string()).collect();
         for (i, text) in texts.iter().enumerate() {
-            assert_eq!(text.contains("row 7"), i >= 4, "{text}");
+            assert_eq!(text.contains("row 7"), matches!(i + 1, 5..=8 | 11), "{text}");
             assert!(!texts[..i].contains(text), "{text}");
         }
         let error: Box<dyn error::Error> = Box::new(Refusal { number: 8, row: 435 });
@@ -99,5 +118,8 @@ mod tests {
     fn number_0_is_done() {
         assert_eq!(Answer { number: 0, row: 0 }.result(), Ok(()));
         assert_eq!(Answer { number: 5, row: 1 }.result(), Err(Refusal { number: 5, row: 1 }));
+        let written = |number| Written { answer: Answer { number, row: 0 }, length: 24 };
+        assert_eq!(written(0).result(), Ok(24));
+        assert_eq!(written(10).result(), Err(Refusal { number: 10, row: 0 }));
     }
 }

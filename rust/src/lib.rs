@@ -17,8 +17,8 @@
 //! # Ok::<(), razvolk::Refusal>(())
 //! ```
 //!
-//! The functions lend every buffer by hand; they are what `include/razvolk.h` declares, made safe. [`Ph1Bits`] is the bit
-//! reader. Who comes from `samsung.rs` finds each call in `docs/MIGRATION.md`.
+//! The functions lend every buffer by hand; they are what `include/razvolk.h` declares, made safe. [`write_v0`] writes samples
+//! as V0, for storage; [`write_v0_to_vecs`] asks for the memory, too. [`Ph1Bits`] is the bit reader. Who comes from `samsung.rs` finds each call in `docs/MIGRATION.md`.
 #![warn(missing_docs)]
 #![deny(unsafe_code)]
 
@@ -29,15 +29,19 @@ mod decoder;
 mod ffi;
 mod marks;
 mod ph1bits;
+mod planes;
 mod v0;
 mod v2;
+mod write;
 
 pub use answer::Refusal;
 pub use decoder::{Decoder, MAX_SIDE};
 pub use marks::Marks;
 pub use ph1bits::Ph1Bits;
+pub use planes::{from_planes, to_planes};
 pub use v0::{decode_v0, decode_v0_map, decode_v0_reference, decode_v0_reference_map, scratch_len};
 pub use v2::{decode_v2, decode_v2_map};
+pub use write::{most_v0_bytes, write_v0, write_v0_to_vecs};
 
 /// The examples of the migration page are run with the others.
 #[cfg(doctest)]

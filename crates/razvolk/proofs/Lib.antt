@@ -1,3 +1,4 @@
 -- The claims of the exports, and the first of them at work.
 pub mod AtWork
 pub mod Isolation
+pub mod RoundTrip

@@ -26,7 +26,7 @@ pub fn refused(number: u32) -> Answer
 }
 
 // 1: the size is above the limit.
-fn is_too_large(size: Size) -> bool
+pub fn is_too_large(size: Size) -> bool
     ensures { λ r. ⌜ r ≡ too-large size ⌝ }
 {
     Size::MOST < size.width || Size::MOST < size.height

@@ -2,8 +2,11 @@
 ghost use mathlib.Core.Path.{_≡_};
 ghost use Prim.Native.Nat.{_≤_, _<_};
 ghost use lib.ListN.{length, take};
+use super::samples::dim;
 use super::samples::fill;
 use super::samples::sum;
+use super::samples::sum_bytes;
+use super::samples::sum_offsets;
 use rules::Answer;
 
 const SAMPLES: usize = 290_000;
@@ -11,6 +14,10 @@ const SAMPLES: usize = 290_000;
 const OFFSETS: usize = 300;
 
 const SCRATCH: usize = 4_096;
+
+const WRITTEN: usize = 30_000;
+
+const WRITE: u32 = 1;
 
 const V2: u32 = 2;
 
@@ -143,8 +150,30 @@ fn is_other(call: &[u8], answer: Answer) -> bool {
     row != answer.row
 }
 
+// Whether the answer, or what is written of some samples, is other than recorded.
+fn differs_written(call: &[u8], samples: &[u16]) -> bool {
+    let mut stream = [9u8; WRITTEN];
+    let mut offsets = [9u32; OFFSETS];
+    let width = word(call, 4);
+    let height = word(call, 8);
+    let written = frames::write_v0(samples, width, height, &mut stream, &mut offsets);
+    if is_other(call, written.answer) {
+        return true;
+    }
+    let bytes = sum_bytes(written.length as usize, &stream);
+    sum_offsets(bytes, &offsets) != recorded_sum(call)
+}
+
+fn differs_dimmed(call: &[u8], samples: &mut [u16]) -> bool {
+    dim(samples, recorded_seed(call));
+    differs_written(call, samples)
+}
+
 fn differs_over(call: &[u8], out: &mut [u16], phases: bool) -> bool {
     fill(out, recorded_seed(call));
+    if number(call, 0) == WRITE {
+        return differs_dimmed(call, out);
+    }
     let answer = decode_call(call, out, phases);
     if is_other(call, answer) {
         return true;

@@ -1,4 +1,4 @@
-// The old samples of a call, made from its seed, and the sum of those that it leaves.
+// The samples of a call, made from its seed, and the sum of what it leaves.
 ghost use Prim.Native.Nat.{_<_};
 
 fn next_old(x: usize) -> usize
@@ -17,15 +17,61 @@ pub(crate) fn fill(samples: &mut [u16], seed: usize) {
     }
 }
 
-fn next_sum(sum: usize, sample: u16) -> usize {
-    (31 * (sum % 4_294_967_296) + sample as usize) % 4_294_967_296
+fn dimmed(sample: u16, seed: usize) -> u16 {
+    if seed % 2 == 0 {
+        return sample / 4;
+    }
+    sample
+}
+
+// A quarter of each sample where the seed is even, so that none is above 16,383.
+pub(crate) fn dim(samples: &mut [u16], seed: usize) {
+    let mut i: usize = 0;
+    while i < samples.len() {
+        samples[i] = dimmed(samples[i], seed);
+        i += 1;
+    }
+}
+
+fn next_sum(sum: usize, number: u32) -> usize {
+    (31 * (sum % 4_294_967_296) + number as usize) % 4_294_967_296
+}
+
+fn next_by_sample(sum: usize, sample: u16) -> usize {
+    next_sum(sum, sample as u32)
+}
+
+fn next_by_byte(sum: usize, byte: u8) -> usize {
+    next_sum(sum, byte as u32)
 }
 
 pub(crate) fn sum(samples: &[u16]) -> usize {
     let mut sum = 0;
     let mut i: usize = 0;
     while i < samples.len() {
-        sum = next_sum(sum, samples[i]);
+        sum = next_by_sample(sum, samples[i]);
+        i += 1;
+    }
+    sum
+}
+
+// The sum goes on over bytes, ..
+pub(crate) fn sum_bytes(first: usize, bytes: &[u8]) -> usize {
+    let mut sum = first;
+    let mut i: usize = 0;
+    while i < bytes.len() {
+        sum = next_by_byte(sum, bytes[i]);
+        i += 1;
+    }
+    sum
+}
+
+// .. and over offsets.
+pub(crate) fn sum_offsets(first: usize, offsets: &[u32]) -> usize {
+    let mut sum = first;
+    let mut i: usize = 0;
+    while i < offsets.len() {
+        sum = next_sum(sum, offsets[i]);
         i += 1;
     }
     sum

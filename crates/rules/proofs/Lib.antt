@@ -2,6 +2,7 @@
 -- and the claim that no earlier frame reaches a sample marked 0.
 pub mod Cells
 pub mod Examples
+pub mod Pins
 pub mod ReaderLaws
 pub mod Tests
 pub mod Refusals
@@ -18,6 +19,7 @@ pub mod TwoPhase
 pub mod V0NoMarks
 pub mod V2Cells
 pub mod V2Places
+pub mod V2References
 pub mod V2Bounds
 pub mod V2Position
 pub mod V2Rows

@@ -215,13 +215,13 @@ pub data Ending (height : ℕ) (a : Answer) : Type 0 where
   stopped : 5 ≤ a .number → a .number ≤ 8 → a .row < height → Ending height a
 
 -- A row that is refused is refused with 5, 6 or 7.
-blocks-number : (s : List ℕ) (h : V2Hdr) (n w row k col : ℕ) (b : Bits) (st : V2Row) (mode : List (List ℕ))
-    → (let q = blocks s h n w row k col b st mode in q .number ≢ 0 → (5 ≤ q .number) × (q .number ≤ 7))
+blocks-number : (s : List ℕ) (h : V2Hdr) (w row k col : ℕ) (b : Bits) (st : V2Row) (mode : List (List ℕ))
+    → (let q = blocks s h w row k col b st mode in q .number ≢ 0 → (5 ≤ q .number) × (q .number ≤ 7))
 unfolding blocks then
-blocks-number s h n w row zero col b st mode = λ e. absurd (e refl)
-blocks-number s h n w row (suc k) col b st mode =
-    let p = read-block s h n w row col b st mode in
-    go (p .outcome) (p .block) _ (λ b′ st′. blocks-number s h n w row k (col + 16) b′ st′ (p .mode))
+blocks-number s h w row zero col b st mode = λ e. absurd (e refl)
+blocks-number s h w row (suc k) col b st mode =
+    let p = read-block s h w row col b st mode in
+    go (p .outcome) (p .block) _ (λ b′ st′. blocks-number s h w row k (col + 16) b′ st′ (p .mode))
   where
     go : (o : V2Block) (x : Block) (rest : Bits → V2Row → Row) → ((b : Bits) (st : V2Row) → rest b st .number ≢ 0 → (5 ≤ rest b st .number) × (rest b st .number ≤ 7))
         → then o x rest .number ≢ 0 → (5 ≤ then o x rest .number) × (then o x rest .number ≤ 7)
@@ -230,15 +230,15 @@ blocks-number s h n w row (suc k) col b st mode =
     go (Outside b) x rest r e = (lit≤ tt, lit≤ tt)
     go (LongDifference b) x rest r e = (lit≤ tt, lit≤ tt)
 
-rows-ending : (s : List ℕ) (h : V2Hdr) (n w k row : ℕ) (b : Bits) → Ending (row + k) (rows s h n w k row b .answer)
+rows-ending : (s : List ℕ) (h : V2Hdr) (w k row : ℕ) (b : Bits) → Ending (row + k) (rows s h w k row b .answer)
 unfolding rows read-row
-rows-ending s h n w zero row b = accepted refl
-rows-ending s h n w (suc k) row b =
-    let q = read-row s h n w row b in
+rows-ending s h w zero row b = accepted refl
+rows-ending s h w (suc k) row b =
+    let q = read-row s h w row b in
     let below : row < row + suc k = omega arith in
-    then-rows-cases (λ x. Ending (row + suc k) (x .answer)) row q (rows s h n w k (suc row) (q .bits))
-    (λ e. refused (blocks-number s h n w row (w / 16) 0 (aligned b) fresh-row (fresh-mode row) e)) (λ e. stopped (lit≤ tt) (lit≤ tt) below)
-    (λ e. later (rows-ending s h n w k (suc row) (q .bits)))
+    then-rows-cases (λ x. Ending (row + suc k) (x .answer)) row q (rows s h w k (suc row) (q .bits))
+    (λ e. refused (blocks-number s h w row (w / 16) 0 (aligned b) fresh-row (fresh-mode row) e)) (λ e. stopped (lit≤ tt) (lit≤ tt) below)
+    (λ e. later (rows-ending s h w k (suc row) (q .bits)))
   where
     refused : {m : ℕ} → (5 ≤ m) × (m ≤ 7) → Ending (row + suc k) (record { number = m; row = row })
     refused p = stopped (p .0) (omega arith) (omega arith)
@@ -252,7 +252,7 @@ unfolding read-frame
 v2-ending s z =
     let x = header s in
     let e : 0 + z .height ≡ z .height = omega arith in
-    rw e at (rows-ending s (x .hdr) (cells z) (z .width) (z .height) 0 (x .bits))
+    rw e at (rows-ending s (x .hdr) (z .width) (z .height) 0 (x .bits))
 
 -- The answer of a call that was not refused is done, or in V2 one of 5 to 8 with a row of the frame.
 pub stream-ending : (k : Decoder) (s : List ℕ) (z : Size) → Ending (z .height) (stream-answer k s z)

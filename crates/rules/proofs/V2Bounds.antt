@@ -1,8 +1,8 @@
 -- The ranges that the V2 rules keep: they say which types hold a decoder's numbers.
-use Prim.Native.Nat.{ℕ, zero, suc, _+_, _-_, _*_, _/_, _%_, _^_, _≤_, _<_, min}
+use Prim.Native.Nat.{ℕ, zero, suc, _+_, _-_, _*_, _/_, _%_, _≤_, _<_}
 use mathlib.Core.Path.{_≡_, refl, sym, ap, _∙_}
 use mathlib.Core.Bool.{Bool, true, false, not, _&&_, cond}
-use mathlib.Core.List.{List, [], _∷_}
+use mathlib.Core.List.{List, []}
 use native.Mathlib.Nat.{mul-le-mul}
 use native.Mathlib.Omega.{arith}
 use lib.Dec.{eqb, ltb, lit≤, lit<}
@@ -20,20 +20,14 @@ use Rattle.rules.specs.declared.v2.V2Scale.{V2Scale}
 use Rattle.rules.specs.declared.v2.V2Block.{V2Block}
 use Rattle.rules.specs.declared.v2.V2Block.the-variants.{Next, EarlyMotion, Outside, LongDifference}
 use Rattle.rules.specs.Frame.{cells}
-use Rattle.rules.specs.Reader.{fresh, read, fields, four}
+use Rattle.rules.specs.Reader.{fresh, read, four}
 use Rattle.rules.specs.Ranges.{Between, not-above, not-below, ScaleAt, Small, Fits}
-use Rattle.rules.specs.V2.{field-widths, header, top, option-2, option-4, scale-steps, rescaled, read-scale, read-motion, Base, given, copied, averaged, repeated, referred, base, motion-averages, any-strays, base-refusal, lengths-bit, Moded, length-step, lengths-from, no-lengths, flagged-lengths, read-lengths, position, Differences, difference-step, differences-from, read-differences, Tail, tail, based-tail, Block, Parsed, read-block, Row, then, blocks, fresh-row, fresh-mode, aligned, read-row, rows, read-frame, base-cell, average, value, sample-kind}
+use Rattle.rules.specs.V2.{field-widths, header, top, option-2, option-4, scale-steps, rescaled, read-scale, read-motion, Base, given, copied, averaged, repeated, referred, base, motion-averages, refers-before, base-refusal, lengths-bit, Moded, length-step, lengths-from, no-lengths, flagged-lengths, read-lengths, position, Differences, difference-step, differences-from, read-differences, Tail, tail, based-tail, Block, Parsed, read-block, Row, then, blocks, fresh-row, fresh-mode, aligned, read-row, rows, read-frame, base-cell, average, value, sample-kind}
 use Rattle.rules.proofs.Cells.{All, nil, more, all-append, all-get, all-map, each-of, all-of, each-set}
-use Rattle.rules.proofs.ReaderLaws.{read-below, fields-none, fields-more, read-signed-mag}
+use Rattle.rules.proofs.ReaderLaws.{read-below, fields-below, read-signed-mag}
 use Rattle.rules.proofs.V2Rows.{then-rows-cases}
 
 -- ── The header ──
-
--- A field of n bits is below 2^n.
-pub field-below : (s ns : List ℕ) (b : Bits) (i : ℕ) → getD (fields s ns b .values) i 0 < 2 ^ min (getD ns i 0) 32
-field-below s [] b i = rw (fields-none s b) (pow-pos 0)
-field-below s (n ∷ ns) b zero = rw (fields-more s n ns b) (read-below s b n)
-field-below s (n ∷ ns) b (suc i) = rw (fields-more s n ns b) (field-below s ns (read s b n .bits) i)
 
 -- The depth is 1 to 16.
 pub depth-least : (s : List ℕ) → 1 ≤ header s .hdr .depth
@@ -42,12 +36,12 @@ depth-least s = omega arith
 
 pub depth-most : (s : List ℕ) → header s .hdr .depth ≤ 16
 unfolding header
-depth-most s = omega (arith, field-below s field-widths (fresh 0) 2)
+depth-most s = omega (arith, fields-below s field-widths (fresh 0) 2)
 
 -- The initial sample is below 2^14.
 pub initial-below : (s : List ℕ) → header s .hdr .initial < 16_384
 unfolding header
-initial-below s = omega (arith, field-below s field-widths (fresh 0) 12)
+initial-below s = omega (arith, fields-below s field-widths (fresh 0) 12)
 
 -- Top fits 16 bits.
 pub top-below : (h : V2Hdr) → h .depth ≤ 16 → top h < 65_536
@@ -191,7 +185,7 @@ differences-small s row ls b m = differences-from-small s row ls m 16 0 _ (all-r
 
 -- ── A block that goes on ──
 
-module _ (s : List ℕ) (h : V2Hdr) (n w row col : ℕ) (mode : List (List ℕ)) (b b′ : Bits) (st st′ : V2Row) where
+module _ (s : List ℕ) (h : V2Hdr) (row col : ℕ) (mode : List (List ℕ)) (b b′ : Bits) (st st′ : V2Row) where
   tail-next : tail s h row st mode b .outcome ≡ Next b′ st′ → (st′ ≡ st) × (read-lengths s h row mode b .lengths .long ≡ false)
   unfolding tail
   tail-next = go (read-lengths s h row mode b .lengths .long) _ _
@@ -200,10 +194,10 @@ module _ (s : List ℕ) (h : V2Hdr) (n w row col : ℕ) (mode : List (List ℕ))
       go true x y e = (cc, cc)
       go false x y e = (cc, refl)
 
-  based-next : based-tail s h n w row col st mode b .outcome ≡ Next b′ st′
-      → (base-refusal n w row col (st .motion) ≡ 0) × (based-tail s h n w row col st mode b ≡ tail s h row st mode b)
+  based-next : based-tail s h row col st mode b .outcome ≡ Next b′ st′
+      → (base-refusal row col (st .motion) ≡ 0) × (based-tail s h row col st mode b ≡ tail s h row st mode b)
   unfolding based-tail base-refusal
-  based-next = go (eqb (st .motion) 7) (ltb row 2) (any-strays n w row col (st .motion) 16 0)
+  based-next = go (eqb (st .motion) 7) (ltb row 2) (refers-before row col (st .motion))
     where
       go : (t u v : Bool) → (let r : ℕ = cond t 0 (cond u 5 (cond v 6 0)) in
           let x = cond {A = Tail} (eqb r 5) (record { outcome = EarlyMotion b; mode = mode; differences = [] })
@@ -214,8 +208,8 @@ module _ (s : List ℕ) (h : V2Hdr) (n w row col : ℕ) (mode : List (List ℕ))
       go false false true e = let z : _≡_ {A = ℕ} 0 1 = cc in absurd (omega arith)
       go false false false e = (refl, refl)
 
-module _ (s : List ℕ) (h : V2Hdr) (n w row col : ℕ) (b : Bits) (st : V2Row) (mode : List (List ℕ)) (b′ : Bits) (st′ : V2Row)
-    (e : read-block s h n w row col b st mode .outcome ≡ Next b′ st′) where
+module _ (s : List ℕ) (h : V2Hdr) (w row col : ℕ) (b : Bits) (st : V2Row) (mode : List (List ℕ)) (b′ : Bits) (st′ : V2Row)
+    (e : read-block s h w row col b st mode .outcome ≡ Next b′ st′) where
   abbrev Scaled : V2Scale
   Scaled = read-scale s h col (st .scale) b
 
@@ -225,20 +219,20 @@ module _ (s : List ℕ) (h : V2Hdr) (n w row col : ℕ) (b : Bits) (st : V2Row) 
   abbrev State : V2Row
   State = record { motion = Moved .value; scale = Scaled .scale }
 
-  unrefused : (base-refusal n w row col (Moved .value) ≡ 0) × (based-tail s h n w row col State mode (Moved .bits) ≡ tail s h row State mode (Moved .bits))
+  unrefused : (base-refusal row col (Moved .value) ≡ 0) × (based-tail s h row col State mode (Moved .bits) ≡ tail s h row State mode (Moved .bits))
   unfolding read-block
-  unrefused = based-next s h n w row col mode (Moved .bits) b′ State st′ e
+  unrefused = based-next s h row col mode (Moved .bits) b′ State st′ e
 
   followed : (st′ ≡ State) × (read-lengths s h row mode (Moved .bits) .lengths .long ≡ false)
   unfolding read-block
-  followed = tail-next s h n w row col mode (Moved .bits) b′ State st′ (sym (ap (λ x. x .outcome) (unrefused .1)) ∙ e)
+  followed = tail-next s h row col mode (Moved .bits) b′ State st′ (sym (ap (λ x. x .outcome) (unrefused .1)) ∙ e)
 
   -- It hands its own motion and scale on.
   pub next-state : st′ ≡ record { motion = Moved .value; scale = Scaled .scale }
   next-state = followed .0
 
   -- Its base met no refusal.
-  pub next-unrefused : base-refusal n w row col (st′ .motion) ≡ 0
+  pub next-unrefused : base-refusal row col (st′ .motion) ≡ 0
   next-unrefused = rw next-state (unrefused .0)
 
   -- Its motion and scale are in their ranges.
@@ -249,7 +243,7 @@ module _ (s : List ℕ) (h : V2Hdr) (n w row col : ℕ) (b : Bits) (st : V2Row) 
   next-scale p = rw next-state (scale-read s h b p)
 
   -- Its lengths are at most 17, and its differences at most 65,536 in magnitude.
-  pub next-differences : h .depth ≤ 16 → All Small (read-block s h n w row col b st mode .block .differences)
+  pub next-differences : h .depth ≤ 16 → All Small (read-block s h w row col b st mode .block .differences)
   unfolding read-block tail
   next-differences deep =
       rw (unrefused .1)
@@ -279,45 +273,45 @@ pub record Sound (x : Block) : Type 0 where
   pub base : (i : ℕ) → Given (x .base i)
   pub differences : All Small (x .differences)
 
-module _ (s : List ℕ) (h : V2Hdr) (n w : ℕ) (deep : h .depth ≤ 16) (small : h .initial < 65_536) (limit : w ≤ 16_384) where
+module _ (s : List ℕ) (h : V2Hdr) (w : ℕ) (deep : h .depth ≤ 16) (small : h .initial < 65_536) (limit : w ≤ 16_384) where
   block-sound : (row col : ℕ) (b : Bits) (st : V2Row) (mode : List (List ℕ)) (b′ : Bits) (st′ : V2Row)
-      → read-block s h n w row col b st mode .outcome ≡ Next b′ st′ → ScaleAt col (st .scale) → col + 16 ≤ w → Sound (read-block s h n w row col b st mode .block)
+      → read-block s h w row col b st mode .outcome ≡ Next b′ st′ → ScaleAt col (st .scale) → col + 16 ≤ w → Sound (read-block s h w row col b st mode .block)
   unfolding read-block
   block-sound row col b st mode b′ st′ e p l =
       record {
         scale = scale-within (scale-read s h b p) (omega arith);
         base = given-small h small w row col _;
-        differences = next-differences s h n w row col b st mode b′ st′ e deep;
+        differences = next-differences s h w row col b st mode b′ st′ e deep;
       }
 
   blocks-sound : (row k col : ℕ) (b : Bits) (st : V2Row) (mode : List (List ℕ)) → ScaleAt col (st .scale) → col + 16 * k ≤ w
-      → All Sound (blocks s h n w row k col b st mode .blocks)
+      → All Sound (blocks s h w row k col b st mode .blocks)
   unfolding blocks then
   blocks-sound row zero col b st mode p l = nil
   blocks-sound row (suc k) col b st mode p l =
       go (x .outcome) refl (λ b′ st′ q. blocks-sound row k (col + 16) b′ st′ (x .mode) q (omega arith))
     where
       x : Parsed
-      x = read-block s h n w row col b st mode
+      x = read-block s h w row col b st mode
 
       rest : Bits → V2Row → Row
-      rest b′ st′ = blocks s h n w row k (col + 16) b′ st′ (x .mode)
+      rest b′ st′ = blocks s h w row k (col + 16) b′ st′ (x .mode)
 
       go : (o : V2Block) → x .outcome ≡ o → ((b′ : Bits) (st′ : V2Row) → ScaleAt (col + 16) (st′ .scale) → All Sound (rest b′ st′ .blocks))
           → All Sound (then o (x .block) rest .blocks)
       go (Next b′ st′) e r =
-          more (block-sound row col b st mode b′ st′ e p (omega arith)) (r b′ st′ (next-scale s h n w row col b st mode b′ st′ e p))
+          more (block-sound row col b st mode b′ st′ e p (omega arith)) (r b′ st′ (next-scale s h w row col b st mode b′ st′ e p))
       go (EarlyMotion b′) e r = nil
       go (Outside b′) e r = nil
       go (LongDifference b′) e r = nil
 
-  rows-sound : (k row : ℕ) (b : Bits) → All Sound (rows s h n w k row b .blocks)
+  rows-sound : (k row : ℕ) (b : Bits) → All Sound (rows s h w k row b .blocks)
   unfolding rows read-row
   rows-sound zero row b = nil
   rows-sound (suc k) row b =
-      let q = read-row s h n w row b in
+      let q = read-row s h w row b in
       let this : All Sound (q .blocks) = blocks-sound row (w / 16) 0 (aligned b) fresh-row (fresh-mode row) scale-starts (omega arith) in
-      then-rows-cases (λ x. All Sound (x .blocks)) row q (rows s h n w k (suc row) (q .bits)) (λ e. this) (λ e. this)
+      then-rows-cases (λ x. All Sound (x .blocks)) row q (rows s h w k (suc row) (q .bits)) (λ e. this) (λ e. this)
       (λ e. all-append Sound this (rows-sound k (suc row) (q .bits)))
 
 -- Each block of a frame of width at most 16,384 has its scale in −512..4,605 and its differences in −65,536..65,535.
@@ -325,7 +319,7 @@ pub frame-sound : (s : List ℕ) (z : Size) → z .width ≤ 16_384 → All Soun
 unfolding read-frame
 frame-sound s z limit =
     let x = header s in
-    rows-sound s (x .hdr) (cells z) (z .width) (depth-most s) (omega (arith, initial-below s)) limit (z .height) 0 (x .bits)
+    rows-sound s (x .hdr) (z .width) (depth-most s) (omega (arith, initial-below s)) limit (z .height) 0 (x .bits)
 
 -- ── 6. samples ──
 

@@ -19,14 +19,14 @@ use Rattle.rules.specs.declared.v2.V2Row.{V2Row}
 use Rattle.rules.specs.declared.v2.V2Block.{V2Block}
 use Rattle.rules.specs.declared.v2.V2Block.the-variants.{Next, EarlyMotion, Outside, LongDifference}
 use Rattle.rules.specs.Frame.{cells, tabulate}
-use Rattle.rules.specs.V2.{Base, given, copied, averaged, motion-averages, repeated, referred, base, strays, any-strays, base-refusal, Block, Parsed, read-block, Row, then, blocks, fresh-row, fresh-mode, aligned, read-row, rows, read-frame, header, base-cell, block-cells, apply, frame}
+use Rattle.rules.specs.V2.{Base, given, copied, averaged, motion-averages, repeated, referred, base, refers-before, base-refusal, Block, Parsed, read-block, Row, then, blocks, fresh-row, fresh-mode, aligned, read-row, rows, read-frame, header, base-cell, block-cells, apply, frame}
 use Rattle.rules.specs.Map.{v2-marks, v2-map, all-old}
 use Rattle.rules.specs.Answer.{v2, Ask, Lent, stream-answer, answer, frame-marks, marks}
 use Rattle.rules.specs.Ranges.{reference-5}
 use Rattle.rules.proofs.Refusals.{passed, answer-passed, v2-size-least}
-use Rattle.rules.proofs.Tests.{neither}
 use Rattle.rules.proofs.V2Rows.{then-rows-cases}
-use Rattle.rules.proofs.V2Places.{further, reference-is, reference-before, inside}
+use Rattle.rules.proofs.V2Places.{further, reference-is, reference-before}
+use Rattle.rules.proofs.V2References.{reference-least}
 use Rattle.rules.proofs.V2Bounds.{next-state, next-unrefused}
 
 -- ── Blocks one after another ──
@@ -84,31 +84,18 @@ chain-zero (link {n = n} {b = b} at before c) f l z =
 
 -- ── A block reads before itself ──
 
-no-strays : (n w row col motion k i j : ℕ) → any-strays n w row col motion k i ≡ false → i ≤ j → j < i + k → strays n w row col motion j ≡ false
-unfolding any-strays
-no-strays n w row col motion zero i j e l h = absurd (omega arith)
-no-strays n w row col motion (suc k) i j e l h =
-    go (neither _ _ e) (ℕ-discrete j i) (λ f g. no-strays n w row col motion k (suc i) j f g (omega arith))
-  where
-    go : (strays n w row col motion i ≡ false) × (any-strays n w row col motion k (suc i) ≡ false) → Dec (j ≡ i)
-        → (any-strays n w row col motion k (suc i) ≡ false → suc i ≤ j → strays n w row col motion j ≡ false) → strays n w row col motion j ≡ false
-    go q (yes r) rest = rw r (q .0)
-    go q (no r) rest = rest (q .1) (omega arith)
-
 module _ (w row col motion i : ℕ) (wide : 20 ≤ w) (two : 2 ≤ row) (l : i < 16) where
-  referred-before : (n : ℕ) → strays n w row col motion i ≡ false → Before (row * w + col) (referred w row col motion i)
-  unfolding strays referred
-  referred-before n e =
-      let r = reference-5 w row col motion i in
-      let k = inside n (further motion) r (rw (reference-is w row col motion i) at e) in
-      rw (reference-is w row col motion i, le-ltb r 5 (k .0)) (go (getD motion-averages motion false) refl (k .0))
+  referred-before : 5 ≤ reference-5 w row col motion i → Before (row * w + col) (referred w row col motion i)
+  unfolding referred
+  referred-before k =
+      rw (reference-is w row col motion i, le-ltb (reference-5 w row col motion i) 5 k) (go (getD motion-averages motion false) refl k)
     where
       go : (t : Bool) → getD motion-averages motion false ≡ t → 5 ≤ reference-5 w row col motion i → (let p = reference-5 w row col motion i - 5 in
           Before (row * w + col) (cond t (averaged p (p + 2)) (copied p)))
       go true f k = let q = rw f at (reference-before w row col motion i two l wide) in (omega arith, omega arith)
       go false f k = let q = rw f at (reference-before w row col motion i two l wide) in omega arith
 
-module _ (h : V2Hdr) (n w row col : ℕ) (wide : 20 ≤ w) (column : col % 16 ≡ 0) where
+module _ (h : V2Hdr) (w row col : ℕ) (wide : 20 ≤ w) (column : col % 16 ≡ 0) where
   repeated-before : (i : ℕ) → Before (row * w + col) (repeated h w row col i)
   unfolding repeated
   repeated-before i = go (eqb col 0) refl
@@ -118,46 +105,46 @@ module _ (h : V2Hdr) (n w row col : ℕ) (wide : 20 ≤ w) (column : col % 16 �
       go false e = let q = eqb-false col 0 e in omega arith
 
   -- A base that met no refusal reads before its block.
-  base-before : (motion i : ℕ) → i < 16 → base-refusal n w row col motion ≡ 0 → Before (row * w + col) (base h w row col motion i)
+  base-before : (motion i : ℕ) → i < 16 → base-refusal row col motion ≡ 0 → Before (row * w + col) (base h w row col motion i)
   unfolding base base-refusal
-  base-before motion i l = go (eqb motion 7) (ltb row 2) refl (any-strays n w row col motion 16 0) refl
+  base-before motion i l = go (eqb motion 7) (ltb row 2) refl (refers-before row col motion) refl
     where
-      go : (t u : Bool) → ltb row 2 ≡ u → (v : Bool) → any-strays n w row col motion 16 0 ≡ v → cond {A = ℕ} t 0 (cond u 5 (cond v 6 0)) ≡ 0
+      go : (t u : Bool) → ltb row 2 ≡ u → (v : Bool) → refers-before row col motion ≡ v → cond {A = ℕ} t 0 (cond u 5 (cond v 6 0)) ≡ 0
           → Before (row * w + col) (cond t (repeated h w row col i) (referred w row col motion i))
       go true u e v f r = repeated-before i
       go false true e v f r = absurd (let q : 5 ≡ 0 = r in omega arith)
       go false false e true f r = absurd (let q : 6 ≡ 0 = r in omega arith)
       go false false e false f r =
-          referred-before w row col motion i wide (ltb-false row 2 e) l n (no-strays n w row col motion 16 0 i f (omega arith) (omega arith))
+          referred-before w row col motion i wide (ltb-false row 2 e) l (reference-least w row col motion (ltb-false row 2 e) (omega arith) column f i)
 
 -- ── Rows and frames ──
 
-module _ (s : List ℕ) (h : V2Hdr) (n w : ℕ) (wide : 20 ≤ w) where
+module _ (s : List ℕ) (h : V2Hdr) (w : ℕ) (wide : 20 ≤ w) where
   module _ (row col : ℕ) (b : Bits) (st : V2Row) (mode : List (List ℕ)) where
-    place-is : read-block s h n w row col b st mode .block .place ≡ row * w + col
+    place-is : read-block s h w row col b st mode .block .place ≡ row * w + col
     unfolding read-block
     place-is = refl
 
-    next-before : (b′ : Bits) (st′ : V2Row) → col % 16 ≡ 0 → read-block s h n w row col b st mode .outcome ≡ Next b′ st′
-        → (i : ℕ) → i < 16 → Before (row * w + col) (read-block s h n w row col b st mode .block .base i)
+    next-before : (b′ : Bits) (st′ : V2Row) → col % 16 ≡ 0 → read-block s h w row col b st mode .outcome ≡ Next b′ st′
+        → (i : ℕ) → i < 16 → Before (row * w + col) (read-block s h w row col b st mode .block .base i)
     unfolding read-block
     next-before b′ st′ c e i l =
-        base-before h n w row col wide c _ i l
-        (rw (next-state s h n w row col b st mode b′ st′ e) at (next-unrefused s h n w row col b st mode b′ st′ e))
+        base-before h w row col wide c _ i l
+        (rw (next-state s h w row col b st mode b′ st′ e) at (next-unrefused s h w row col b st mode b′ st′ e))
 
   -- The blocks of a row that was not refused.
-  blocks-chain : (row k col : ℕ) (b : Bits) (st : V2Row) (mode : List (List ℕ)) → col % 16 ≡ 0 → blocks s h n w row k col b st mode .number ≡ 0
-      → Chain (row * w + col) (blocks s h n w row k col b st mode .blocks) (row * w + col + 16 * k)
+  blocks-chain : (row k col : ℕ) (b : Bits) (st : V2Row) (mode : List (List ℕ)) → col % 16 ≡ 0 → blocks s h w row k col b st mode .number ≡ 0
+      → Chain (row * w + col) (blocks s h w row k col b st mode .blocks) (row * w + col + 16 * k)
   unfolding blocks then
   blocks-chain row zero col b st mode c e = rw (add-zero (row * w + col)) stop
   blocks-chain row (suc k) col b st mode c e =
       go (p .outcome) refl (λ b′ st′. blocks-chain row k (col + 16) b′ st′ (p .mode) (omega arith)) e
     where
       p : Parsed
-      p = read-block s h n w row col b st mode
+      p = read-block s h w row col b st mode
 
       rest : Bits → V2Row → Row
-      rest b′ st′ = blocks s h n w row k (col + 16) b′ st′ (p .mode)
+      rest b′ st′ = blocks s h w row k (col + 16) b′ st′ (p .mode)
 
       go : (o : V2Block) → p .outcome ≡ o
           → ((b′ : Bits) (st′ : V2Row) → rest b′ st′ .number ≡ 0 → Chain (row * w + (col + 16)) (rest b′ st′ .blocks) (row * w + (col + 16) + 16 * k))
@@ -171,22 +158,22 @@ module _ (s : List ℕ) (h : V2Hdr) (n w : ℕ) (wide : 20 ≤ w) where
       go (LongDifference b′) q r e = absurd (let z : 7 ≡ 0 = e in omega arith)
 
   -- The blocks of rows that were accepted, where the width is a multiple of 16.
-  rows-chain : w % 16 ≡ 0 → (k row : ℕ) (b : Bits) → rows s h n w k row b .answer .number ≡ 0
-      → Chain (row * w) (rows s h n w k row b .blocks) ((row + k) * w)
+  rows-chain : w % 16 ≡ 0 → (k row : ℕ) (b : Bits) → rows s h w k row b .answer .number ≡ 0
+      → Chain (row * w) (rows s h w k row b .blocks) ((row + k) * w)
   unfolding rows read-row
   rows-chain whole zero row b = λ e. rw (add-zero row) stop
   rows-chain whole (suc k) row b =
-      let q = read-row s h n w row b in
-      then-rows-cases (λ x. x .answer .number ≡ 0 → Chain (row * w) (x .blocks) ((row + suc k) * w)) row q (rows s h n w k (suc row) (q .bits))
+      let q = read-row s h w row b in
+      then-rows-cases (λ x. x .answer .number ≡ 0 → Chain (row * w) (x .blocks) ((row + suc k) * w)) row q (rows s h w k (suc row) (q .bits))
       (λ r e. absurd (r e)) (λ r e. absurd (let z : 8 ≡ 0 = e in omega arith))
       (λ r e. rw on (chain-append (this r) (rows-chain whole k (suc row) (q .bits) e)))
     where
       on : row + suc k ≡ suc row + k
       on = omega arith
 
-      this : read-row s h n w row b .number ≡ 0 → Chain (row * w) (read-row s h n w row b .blocks) (suc row * w)
+      this : read-row s h w row b .number ≡ 0 → Chain (row * w) (read-row s h w row b .blocks) (suc row * w)
       this e =
-          subst₂ (λ x y. Chain x (read-row s h n w row b .blocks) y) (omega arith) (omega arith)
+          subst₂ (λ x y. Chain x (read-row s h w row b .blocks) y) (omega arith) (omega arith)
           (blocks-chain row (w / 16) 0 (aligned b) fresh-row (fresh-mode row) refl e)
 
 -- An accepted V2 frame of a width divisible by 16, from 32 on, has no 1.
@@ -195,7 +182,7 @@ pub v2-unmarked : (s : List ℕ) (z : Size) → 20 ≤ z .width → z .width % 1
 unfolding v2-map frame read-frame
 v2-unmarked s z wide whole done i l =
     let x = header s in
-    chain-zero (rows-chain s (x .hdr) (cells z) (z .width) wide whole (z .height) 0 (x .bits) done) (all-old z)
+    chain-zero (rows-chain s (x .hdr) (z .width) wide whole (z .height) 0 (x .bits) done) (all-old z)
     (rw length-replicate (omega (arith, mul-comm (z .width) (z .height)))) (λ j h. absurd (omega arith)) i (omega (arith, mul-comm (z .width) (z .height)))
 
 -- So every V2 call that is accepted at such a width has no 1: refusal 2 keeps smaller frames out.

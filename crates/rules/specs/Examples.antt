@@ -60,12 +60,16 @@ no-bytes = V2.header [] .hdr
 abbrev one-less : ℕ → ℕ
 one-less depth =
     V2.number
-    (V2.read-block (0x00 ∷ 0x00 ∷ 0x00 ∷ 0x40 ∷ []) (record { depth = depth; options = 7; initial = 0 }) 281_656 646 0 0
+    (V2.read-block (0x00 ∷ 0x00 ∷ 0x00 ∷ 0x40 ∷ []) (record { depth = depth; options = 7; initial = 0 }) 646 0 0
     (fresh 0) V2.fresh-row (replicate 3 (replicate 2 0)) .outcome)
 
--- The list, over old samples v.
-unfoldable pub examples : ℕ → List Example
-examples v =
+-- A header of depth 8.
+abbrev depth-8 : V2Hdr
+depth-8 = record { depth = 8; options = 0; initial = 0 }
+
+-- The list, over old samples a, b, c and d.
+unfoldable pub examples : ℕ → ℕ → ℕ → ℕ → List Example
+examples a b c d =
     record { given = fields (0x78 ∷ 0x56 ∷ 0x34 ∷ 0x12 ∷ []) (4 ∷ 4 ∷ 4 ∷ []) (fresh 0) .values; stated = 1 ∷ 2 ∷ 3 ∷ [] }
     ∷ record {
       given = one-of-three .value ∷ of-bool (one-of-three .bits .overrun) ∷ one-of-three .bits .pos ∷ [];
@@ -74,25 +78,26 @@ examples v =
     ∷ record { given = V0.decoded job-stream (0 ∷ 4 ∷ []) (size 2 2) (7 ∷ 8 ∷ 9 ∷ 10 ∷ []); stated = 7 ∷ 131 ∷ 8 ∷ 126 ∷ [] }
     ∷ record { given = Map.v0-map job-stream (0 ∷ 4 ∷ []) (size 2 2); stated = 1 ∷ 0 ∷ 1 ∷ 0 ∷ [] }
     ∷ record {
-      given = V0.decoded spill-stream (0 ∷ 8 ∷ []) (size 2 2) (replicate 4 v);
+      given = V0.decoded spill-stream (0 ∷ 8 ∷ []) (size 2 2) (a ∷ b ∷ c ∷ d ∷ []);
       stated = 131 ∷ 132 ∷ 126 ∷ 128 ∷ [];
     }
     ∷ record { given = Map.v0-map spill-stream (0 ∷ 8 ∷ []) (size 2 2); stated = 0 ∷ 0 ∷ 0 ∷ 0 ∷ [] }
     ∷ record {
       given = Answer.answer one-by-one one-lent .number
-          ∷ Answer.samples-after one-by-one one-lent (v ∷ []) ++ Answer.map-after one-by-one one-lent (0 ∷ []);
-      stated = 0 ∷ v ∷ 1 ∷ [];
+          ∷ Answer.answer one-by-one one-lent .row
+          ∷ Answer.samples-after one-by-one one-lent (a ∷ []) ++ Answer.map-after one-by-one one-lent (0 ∷ []);
+      stated = 0 ∷ 0 ∷ a ∷ 1 ∷ [];
     }
     ∷ record { given = no-bytes .depth ∷ no-bytes .options ∷ no-bytes .initial ∷ []; stated = 16 ∷ 15 ∷ 16_383 ∷ [] }
     ∷ record { given = of-ℤ (read-signed (0 ∷ 0 ∷ 0 ∷ 0b1000_0000 ∷ []) (fresh 0) 4 .value); stated = 1 ∷ 8 ∷ [] }
     ∷ record {
-      given = V2.sample-kind 255 .adjust (pos 2) (pos 3) 100
-          ∷ V2.sample-kind 255 .adjust (pos 2) (pos 3) 250
-          ∷ V2.sample-kind 255 .adjust (negsuc 1) (negsuc 1) 3
+      given = V2.sample-kind (V2.top depth-8) .adjust (pos 2) (pos 3) 100
+          ∷ V2.sample-kind (V2.top depth-8) .adjust (pos 2) (pos 3) 250
+          ∷ V2.sample-kind (V2.top depth-8) .adjust (negsuc 1) (negsuc 1) 3
           ∷ [];
       stated = 117 ∷ 255 ∷ 7 ∷ [];
     }
-    ∷ record { given = V2.sample-kind 255 .average 4 7 ∷ []; stated = 6 ∷ [] }
+    ∷ record { given = V2.sample-kind (V2.top depth-8) .average 4 7 ∷ []; stated = 6 ∷ [] }
     ∷ record { given = tabulate 16 1 one-less; stated = replicate 16 7 }
     ∷ []
 

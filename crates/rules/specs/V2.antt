@@ -1,11 +1,11 @@
 -- Document 01, "V2 header and row state": what the stream says of each block of a frame, with no sample's value, and what that
 -- does to the frame's cells. A frame is read block by block up to the first refusal; the blocks before it are what is written.
 use Prim.Native.Nat.{ℕ, zero, suc, _+_, _-_, _*_, _/_, _%_, _^_, min}
-use mathlib.Core.Bool.{Bool, true, false, not, _||_, _&&_, cond}
+use mathlib.Core.Bool.{Bool, true, false, not, _&&_, cond}
 use mathlib.Core.List.{List, [], _∷_, _++_}
 use lib.ListN.{getD, set, replicate}
 use lib.Seq.{sets}
-use lib.Dec.{ltb, leb, eqb}
+use lib.Dec.{ltb, eqb}
 use lib.IntN.{ℤ, pos, negsuc, natAbs, _+ℤ_, _*ℤ_}
 use Rattle.rules.specs.declared.answer.Answer.{Answer}
 use Rattle.rules.specs.declared.answer.Size.{Size}
@@ -19,7 +19,7 @@ use Rattle.rules.specs.declared.v2.V2Lengths.{V2Lengths}
 use Rattle.rules.specs.declared.v2.V2Block.{V2Block}
 use Rattle.rules.specs.declared.v2.V2Block.the-variants.{Next, EarlyMotion, Outside, LongDifference}
 use Rattle.rules.specs.Reader.{fresh, reset-at, read, fields, four, read-signed}
-use Rattle.rules.specs.Frame.{cells, tabulate}
+use Rattle.rules.specs.Frame.{tabulate}
 
 -- ── The header ──
 
@@ -128,24 +128,14 @@ referred w row col motion i =
 unfoldable pub base : V2Hdr → ℕ → ℕ → ℕ → ℕ → ℕ → Base
 base h w row col motion i = cond (eqb motion 7) (repeated h w row col i) (referred w row col motion i)
 
--- Whether a position, or the one `more` places on, is outside a frame of n cells.
-unfoldable pub outside : ℕ → ℕ → ℤ → Bool
-outside n more (pos p) = leb n (p + more)
-outside n more (negsuc p) = true
+-- Whether a block refers to before the frame's first sample: row 2, column 0, motion 0, 1 or 2. No other reference is outside
+-- the frame (References.antt).
+unfoldable pub refers-before : ℕ → ℕ → ℕ → Bool
+refers-before row col motion = eqb row 2 && (eqb col 0 && ltb motion 3)
 
--- Whether the reference of sample i is outside; averaging counts.
-unfoldable pub strays : ℕ → ℕ → ℕ → ℕ → ℕ → ℕ → Bool
-strays n w row col motion i = outside n (cond (getD motion-averages motion false) 2 0) (reference w row col motion i)
-
--- Whether one of k references from sample i on is outside.
-unfoldable pub any-strays : ℕ → ℕ → ℕ → ℕ → ℕ → ℕ → ℕ → Bool
-any-strays n w row col motion zero i = false
-any-strays n w row col motion (suc k) i = strays n w row col motion i || any-strays n w row col motion k (suc i)
-
--- The refusal that the base meets, or 0: 5 for a motion other than 7 in row 0 or 1, 6 for a reference outside the frame.
-unfoldable pub base-refusal : ℕ → ℕ → ℕ → ℕ → ℕ → ℕ
-base-refusal n w row col motion =
-    cond (eqb motion 7) 0 (cond (ltb row 2) 5 (cond (any-strays n w row col motion 16 0) 6 0))
+-- The refusal that the base meets, or 0: 5 for a motion other than 7 in row 0 or 1, 6 for a reference before the frame.
+unfoldable pub base-refusal : ℕ → ℕ → ℕ → ℕ
+base-refusal row col motion = cond (eqb motion 7) 0 (cond (ltb row 2) 5 (cond (refers-before row col motion) 6 0))
 
 -- ── 4. lengths ──
 
@@ -267,18 +257,18 @@ tail s h row st mode b =
     }
 
 -- The same, unless the base meets refusal 5 or 6: then not even the lengths bit is read.
-unfoldable pub based-tail : List ℕ → V2Hdr → ℕ → ℕ → ℕ → ℕ → V2Row → List (List ℕ) → Bits → Tail
-based-tail s h n w row col st mode b =
-    let refusal = base-refusal n w row col (st .motion) in
+unfoldable pub based-tail : List ℕ → V2Hdr → ℕ → ℕ → V2Row → List (List ℕ) → Bits → Tail
+based-tail s h row col st mode b =
+    let refusal = base-refusal row col (st .motion) in
     cond (eqb refusal 5) (record { outcome = EarlyMotion b; mode = mode; differences = [] })
     (cond (eqb refusal 6) (record { outcome = Outside b; mode = mode; differences = [] }) (tail s h row st mode b))
 
--- The block at a column of a row, in a frame of n cells, w to a row.
-unfoldable pub read-block : List ℕ → V2Hdr → ℕ → ℕ → ℕ → ℕ → Bits → V2Row → List (List ℕ) → Parsed
-read-block s h n w row col b st mode =
+-- The block at a column of a row, in a frame of w cells to a row.
+unfoldable pub read-block : List ℕ → V2Hdr → ℕ → ℕ → ℕ → Bits → V2Row → List (List ℕ) → Parsed
+read-block s h w row col b st mode =
     let c = read-scale s h col (st .scale) b in
     let m = read-motion s h (st .motion) (c .bits) in
-    let x = based-tail s h n w row col (record { motion = m .value; scale = c .scale }) mode (m .bits) in
+    let x = based-tail s h row col (record { motion = m .value; scale = c .scale }) mode (m .bits) in
     record {
       outcome = x .outcome;
       mode = x .mode;
@@ -298,20 +288,20 @@ unfoldable pub then : V2Block → Block → (Bits → V2Row → Row) → Row
 then (Next b st) block rest =
     let q = rest b st in
     record { blocks = block ∷ q .blocks; number = q .number; bits = q .bits }
-then (EarlyMotion b) block rest = record { blocks = []; number = 5; bits = b }
-then (Outside b) block rest = record { blocks = []; number = 6; bits = b }
-then (LongDifference b) block rest = record { blocks = []; number = 7; bits = b }
+then (EarlyMotion b) block rest = record { blocks = []; number = number (EarlyMotion b); bits = b }
+then (Outside b) block rest = record { blocks = []; number = number (Outside b); bits = b }
+then (LongDifference b) block rest = record { blocks = []; number = number (LongDifference b); bits = b }
 
 -- k blocks from a column on.
-unfoldable pub blocks : List ℕ → V2Hdr → ℕ → ℕ → ℕ → ℕ → ℕ → Bits → V2Row → List (List ℕ) → Row
-blocks s h n w row zero col b st mode = record { blocks = []; number = 0; bits = b }
-blocks s h n w row (suc k) col b st mode =
-    let p = read-block s h n w row col b st mode in
-    then (p .outcome) (p .block) (λ b′ st′. blocks s h n w row k (col + 16) b′ st′ (p .mode))
+unfoldable pub blocks : List ℕ → V2Hdr → ℕ → ℕ → ℕ → ℕ → Bits → V2Row → List (List ℕ) → Row
+blocks s h w row zero col b st mode = record { blocks = []; number = 0; bits = b }
+blocks s h w row (suc k) col b st mode =
+    let p = read-block s h w row col b st mode in
+    then (p .outcome) (p .block) (λ b′ st′. blocks s h w row k (col + 16) b′ st′ (p .mode))
 
 -- Only whole blocks are read: the last (width mod 16) samples of a row are not written.
-unfoldable pub read-row : List ℕ → V2Hdr → ℕ → ℕ → ℕ → Bits → Row
-read-row s h n w row b = blocks s h n w row (w / 16) 0 (aligned b) fresh-row (fresh-mode row)
+unfoldable pub read-row : List ℕ → V2Hdr → ℕ → ℕ → Bits → Row
+read-row s h w row b = blocks s h w row (w / 16) 0 (aligned b) fresh-row (fresh-mode row)
 
 -- A frame: the blocks that are written, and the answer.
 pub record Frame : Type 0 where
@@ -328,16 +318,16 @@ then-rows row q rest =
     (record { blocks = q .blocks; answer = record { number = q .number; row = row } })
 
 -- k rows from a row on.
-unfoldable pub rows : List ℕ → V2Hdr → ℕ → ℕ → ℕ → ℕ → Bits → Frame
-rows s h n w zero row b = record { blocks = []; answer = record { number = 0; row = 0 } }
-rows s h n w (suc k) row b =
-    let q = read-row s h n w row b in
-    then-rows row q (rows s h n w k (suc row) (q .bits))
+unfoldable pub rows : List ℕ → V2Hdr → ℕ → ℕ → ℕ → Bits → Frame
+rows s h w zero row b = record { blocks = []; answer = record { number = 0; row = 0 } }
+rows s h w (suc k) row b =
+    let q = read-row s h w row b in
+    then-rows row q (rows s h w k (suc row) (q .bits))
 
 unfoldable pub read-frame : List ℕ → Size → Frame
 read-frame s z =
     let x = header s in
-    rows s (x .hdr) (cells z) (z .width) (z .height) 0 (x .bits)
+    rows s (x .hdr) (z .width) (z .height) 0 (x .bits)
 
 -- ── Cells ──
 

@@ -34,6 +34,12 @@ impl Answer {
     // V2: a row is finished and the reader has overrun.
     pub const OVERRUN: u32 = 8;
 
+    // The writer: a sample is above 16,383.
+    pub const TOO_BRIGHT: u32 = 9;
+
+    // The writer: the buffer for the stream or for the offsets is too short.
+    pub const SHORT_OUTPUT: u32 = 10;
+
     // In bands: a number of bands or a block width that the frame can't be cut by.
     pub const BAD_CUT: u32 = 11;
 

@@ -5,7 +5,7 @@ ghost use lib.ListN.{length};
 ghost use Rattle.rules.specs.Frame.{cells};
 ghost use Rattle.rules.specs.V0.{decoded};
 ghost use Rattle.rules.specs.Map.{v0-map};
-ghost use Rattle.v0.specs.Limits.{Lends};
+ghost use Rattle.v0_direct.specs.Lent.{Lends};
 ghost use Rattle.rules.specs.Answer.{direct, ask, buffers, Yields};
 use refusals::Lending;
 use refusals::mark_old;
@@ -13,7 +13,7 @@ use refusals::refuse;
 use refusals::refused;
 use rules::Answer;
 use rules::Size;
-use v0::frame::decode_frame;
+use v0_direct::frame::decode_frame;
 
 // Decodes a V0 frame over what `out` holds. Refusals 1 and 3.
 pub fn decode_v0_reference(

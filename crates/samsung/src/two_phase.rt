@@ -7,14 +7,14 @@ ghost use Rattle.rules.specs.Frame.{cells};
 ghost use Rattle.rules.specs.Phases as Phases;
 ghost use Rattle.rules.specs.Map.{two-phase-map};
 ghost use Rattle.rules.specs.Answer.{two-phase, ask, buffers, Yields};
-ghost use Rattle.v0_phases.specs.Lent.{Lends};
+ghost use Rattle.v0_two_phase.specs.Lent.{Lends};
 use refusals::Lending;
 use refusals::mark_old;
 use refusals::refuse;
 use refusals::refused;
 use rules::Answer;
 use rules::Size;
-use v0_phases::frame::decode_frame;
+use v0_two_phase::frame::decode_frame;
 
 // Decodes a V0 frame over what `out` holds, its directions in `scratch`. Refusals 1, 3 and 4.
 pub fn decode_v0(

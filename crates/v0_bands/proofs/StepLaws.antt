@@ -16,7 +16,7 @@ use Rattle.bands.specs.Bands.{Cut, cut, sized, late-rows, band-start, blocks-pe
 use Rattle.bands.proofs.AnySequence.{Fitting, fitting, start-up, start-last}
 use Rattle.bands.proofs.CheckLaws.{bands-most}
 use Rattle.bands.proofs.Counters.{Both, both, some-block, Stands, stands, Turns, end, next, turns}
-use Rattle.v0_phases.specs.Lent.{LateRow}
+use Rattle.v0_two_phase.specs.Lent.{LateRow}
 use Rattle.v0_bands.specs.Lent.{BandLent, StepsLent}
 
 -- ── A block of a band ──

@@ -11,9 +11,9 @@ use bands::blocks_in_band;
 use bands::late_rows;
 use rules::Size;
 use rules::V0Row;
-use v0::exchange::exchange;
-use v0_phases::frame::store_rows;
-use v0_phases::predictions::add_part;
+use v0_cells::exchange::exchange;
+use v0_two_phase::frame::store_rows;
+use v0_two_phase::predictions::add_part;
 
 // The smaller of two numbers.
 fn least(a: usize, b: usize) -> usize

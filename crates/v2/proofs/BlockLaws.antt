@@ -17,7 +17,7 @@ use Rattle.rules.specs.declared.v2.V2Lengths.{V2Lengths}
 use Rattle.rules.specs.declared.v2.V2Row.{V2Row}
 use Rattle.rules.specs.declared.v2.V2Scale.{V2Scale}
 use Rattle.rules.specs.Frame.{tabulate}
-use Rattle.rules.specs.V2.{read-scale, read-motion, Base, given, copied, averaged, base, any-strays, base-refusal, Moded, read-lengths, Differences, differences-from, read-differences, tail, based-tail, read-block, top, base-cell, block-cells, sample, sample-kind}
+use Rattle.rules.specs.V2.{read-scale, read-motion, Base, given, copied, averaged, base, refers-before, base-refusal, Moded, read-lengths, Differences, differences-from, read-differences, tail, based-tail, read-block, top, base-cell, block-cells, sample, sample-kind}
 use Rattle.rules.specs.Ranges.{Between, Small}
 use Rattle.rules.proofs.Cells.{all-get}
 use Rattle.rules.proofs.V2Bounds.{between-abs, mag-abs, scale-read, scale-within, motion-most, lengths-small, differences-small}
@@ -104,35 +104,35 @@ base-any t f (given v) = refl
 base-any t f (copied p) = refl
 base-any t f (averaged p q) = refl
 
-module _ (s : List ℕ) (h : V2Hdr) (n w row col : ℕ) (b : Bits) (st : V2Row) (mode : List (List ℕ)) (c : V2Scale) (ec : c ≡ read-scale s h col (st .scale) b)
-    (m : Got) (em : m ≡ read-motion s h (st .motion) (c .bits)) (k : ℕ) (ek : k ≡ base-refusal n w row col (m .value)) where
-  pub block-early : k ≡ 5 → (EarlyMotion (m .bits) ≡ read-block s h n w row col b st mode .outcome) × (mode ≡ read-block s h n w row col b st mode .mode)
+module _ (s : List ℕ) (h : V2Hdr) (w row col : ℕ) (b : Bits) (st : V2Row) (mode : List (List ℕ)) (c : V2Scale) (ec : c ≡ read-scale s h col (st .scale) b)
+    (m : Got) (em : m ≡ read-motion s h (st .motion) (c .bits)) (k : ℕ) (ek : k ≡ base-refusal row col (m .value)) where
+  pub block-early : k ≡ 5 → (EarlyMotion (m .bits) ≡ read-block s h w row col b st mode .outcome) × (mode ≡ read-block s h w row col b st mode .mode)
   unfolding read-block based-tail
   block-early e = (rw (← ec, ← em, ← ek, e), rw (← ec, ← em, ← ek, e))
 
-  pub block-outside : k ≡ 6 → (Outside (m .bits) ≡ read-block s h n w row col b st mode .outcome) × (mode ≡ read-block s h n w row col b st mode .mode)
+  pub block-outside : k ≡ 6 → (Outside (m .bits) ≡ read-block s h w row col b st mode .outcome) × (mode ≡ read-block s h w row col b st mode .mode)
   unfolding read-block based-tail
   block-outside e = (rw (← ec, ← em, ← ek, e), rw (← ec, ← em, ← ek, e))
 
   module _ (e5 : eqb k 5 ≡ false) (e6 : eqb k 6 ≡ false) where
-    pub block-outcome : read-block s h n w row col b st mode .outcome ≡ tail s h row (record { motion = m .value; scale = c .scale }) mode (m .bits) .outcome
+    pub block-outcome : read-block s h w row col b st mode .outcome ≡ tail s h row (record { motion = m .value; scale = c .scale }) mode (m .bits) .outcome
     unfolding read-block based-tail
     block-outcome = rw (← ec, ← em, ← ek, e5, e6)
 
-    pub block-mode : read-block s h n w row col b st mode .mode ≡ tail s h row (record { motion = m .value; scale = c .scale }) mode (m .bits) .mode
+    pub block-mode : read-block s h w row col b st mode .mode ≡ tail s h row (record { motion = m .value; scale = c .scale }) mode (m .bits) .mode
     unfolding read-block based-tail
     block-mode = rw (← ec, ← em, ← ek, e5, e6)
 
     pub block-samples : (f bases : List ℕ) → bases ≡ tabulate 16 0 (λ i. base-cell (sample-kind 0) f (base h w row col (m .value) i))
         → tabulate 16 0 (λ i. sample (top h) (c .scale) (getD (tail s h row (record { motion = m .value; scale = c .scale }) mode (m .bits) .differences) i (pos 0)) (getD bases i 0))
-        ≡ block-cells (sample-kind (top h)) f (read-block s h n w row col b st mode .block)
+        ≡ block-cells (sample-kind (top h)) f (read-block s h w row col b st mode .block)
     unfolding read-block based-tail block-cells tabulate
     block-samples f bases eb = rw (← ec, ← em, ← ek, e5, e6, eb) (simp (base-any (top h)))
 
 -- A refusal that is neither 5 nor 6 is 0.
-pub refusal-zero : (n w row col motion k : ℕ) → k ≡ base-refusal n w row col motion → (k ≡ 5 → ⊥) → (k ≡ 6 → ⊥) → k ≡ 0
+pub refusal-zero : (row col motion k : ℕ) → k ≡ base-refusal row col motion → (k ≡ 5 → ⊥) → (k ≡ 6 → ⊥) → k ≡ 0
 unfolding base-refusal
-refusal-zero n w row col motion k e a b = go (eqb motion 7) (ltb row 2) (any-strays n w row col motion 16 0) e
+refusal-zero row col motion k e a b = go (eqb motion 7) (ltb row 2) (refers-before row col motion) e
   where
     go : (t u v : Bool) → k ≡ cond t 0 (cond u 5 (cond v 6 0)) → k ≡ 0
     go true u v q = q

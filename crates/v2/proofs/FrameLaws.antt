@@ -62,22 +62,22 @@ comes-block t x rest f g f′ g′ ef eg = record { samples = rw (← ef); marks
 
 -- ── A row ──
 
-abbrev Left : List ℕ → V2Hdr → ℕ → ℕ → ℕ → ℕ → Bits → V2Row → List (List ℕ) → Row
-Left s h n w row col b st mode = blocks s h n w row (w / 16 - col / 16) col b st mode
+abbrev Left : List ℕ → V2Hdr → ℕ → ℕ → ℕ → Bits → V2Row → List (List ℕ) → Row
+Left s h w row col b st mode = blocks s h w row (w / 16 - col / 16) col b st mode
 
 -- A row at a column.
-pub record RowGoing (t : ℕ) (s : List ℕ) (h : V2Hdr) (n w row : ℕ) (whole : Row) (f₀ g₀ : List ℕ) (col : ℕ) (b : Bits) (st : V2Row) (mode : List (List ℕ)) (f g : List ℕ) : Type 0 where
+pub record RowGoing (t : ℕ) (s : List ℕ) (h : V2Hdr) (w row : ℕ) (whole : Row) (f₀ g₀ : List ℕ) (col : ℕ) (b : Bits) (st : V2Row) (mode : List (List ℕ)) (f g : List ℕ) : Type 0 where
   pub within : col ≤ w
   pub whole-blocks : col % 16 ≡ 0
   pub motion : st .motion ≤ 7
   pub scale : ScaleAt col (st .scale)
-  pub number-is : whole .number ≡ Left s h n w row col b st mode .number
-  pub bits-are : whole .bits ≡ Left s h n w row col b st mode .bits
-  pub comes : Comes t (whole .blocks) f₀ g₀ (Left s h n w row col b st mode .blocks) f g
+  pub number-is : whole .number ≡ Left s h w row col b st mode .number
+  pub bits-are : whole .bits ≡ Left s h w row col b st mode .bits
+  pub comes : Comes t (whole .blocks) f₀ g₀ (Left s h w row col b st mode .blocks) f g
 
-pub row-starts : (t : ℕ) (s : List ℕ) (h : V2Hdr) (n w row : ℕ) (b : Bits) (st : V2Row) (mode : List (List ℕ)) (f g : List ℕ) → st ≡ fresh-row
-    → RowGoing t s h n w row (blocks s h n w row (w / 16) 0 b st mode) f g 0 b st mode f g
-row-starts t s h n w row b st mode f g e =
+pub row-starts : (t : ℕ) (s : List ℕ) (h : V2Hdr) (w row : ℕ) (b : Bits) (st : V2Row) (mode : List (List ℕ)) (f g : List ℕ) → st ≡ fresh-row
+    → RowGoing t s h w row (blocks s h w row (w / 16) 0 b st mode) f g 0 b st mode f g
+row-starts t s h w row b st mode f g e =
     let all : w / 16 - 0 / 16 ≡ w / 16 = omega arith in
     record {
       within = omega arith;
@@ -98,10 +98,10 @@ refused (EarlyMotion b) no-next x rest = (refl, refl)
 refused (Outside b) no-next x rest = (refl, refl)
 refused (LongDifference b) no-next x rest = (refl, refl)
 
-module _ (t : ℕ) (s : List ℕ) (h : V2Hdr) (n w row : ℕ) (whole : Row) (f₀ g₀ : List ℕ) (col : ℕ) (b : Bits) (st : V2Row) (mode : List (List ℕ)) (f g : List ℕ)
-    (r : RowGoing t s h n w row whole f₀ g₀ col b st mode f g) where
+module _ (t : ℕ) (s : List ℕ) (h : V2Hdr) (w row : ℕ) (whole : Row) (f₀ g₀ : List ℕ) (col : ℕ) (b : Bits) (st : V2Row) (mode : List (List ℕ)) (f g : List ℕ)
+    (r : RowGoing t s h w row whole f₀ g₀ col b st mode f g) where
   abbrev This : Row
-  This = Left s h n w row col b st mode
+  This = Left s h w row col b st mode
 
   -- Where no whole block is left, the row has come to its end.
   pub row-ends : w < col + 16 → (whole .number ≡ 0) × ((whole .bits ≡ b) × Comes t (whole .blocks) f₀ g₀ [] f g)
@@ -111,57 +111,57 @@ module _ (t : ℕ) (s : List ℕ) (h : V2Hdr) (n w row : ℕ) (whole : Row) (f�
       let e : This ≡ record { blocks = []; number = 0; bits = b } = rw z in
       (r .number-is ∙ ap (λ (x : Row). x .number) e, (r .bits-are ∙ ap (λ (x : Row). x .bits) e, comes-on (r .comes) (comes-same _ (ap (λ (x : Row). x .blocks) e))))
 
-  module _ (l : col + 16 ≤ w) (o : V2Block) (eo : o ≡ read-block s h n w row col b st mode .outcome) where
-    first-block : This ≡ then o (read-block s h n w row col b st mode .block) (λ b′ st′. Left s h n w row (col + 16) b′ st′ (read-block s h n w row col b st mode .mode))
+  module _ (l : col + 16 ≤ w) (o : V2Block) (eo : o ≡ read-block s h w row col b st mode .outcome) where
+    first-block : This ≡ then o (read-block s h w row col b st mode .block) (λ b′ st′. Left s h w row (col + 16) b′ st′ (read-block s h w row col b st mode .mode))
     unfolding blocks
     first-block = let z : w / 16 - col / 16 ≡ suc (w / 16 - (col + 16) / 16) = omega (arith, r .whole-blocks) in rw (z, ← eo)
 
     -- At a refusal the row has come to its end, without the block.
     pub row-stops : ((b′ : Bits) (st′ : V2Row) → o ≡ Next b′ st′ → ⊥) → (whole .number ≡ number o) × Comes t (whole .blocks) f₀ g₀ [] f g
     row-stops no-next =
-        let q = refused o no-next (read-block s h n w row col b st mode .block) (λ b′ st′. Left s h n w row (col + 16) b′ st′ (read-block s h n w row col b st mode .mode)) in
+        let q = refused o no-next (read-block s h w row col b st mode .block) (λ b′ st′. Left s h w row (col + 16) b′ st′ (read-block s h w row col b st mode .mode)) in
         (r .number-is ∙ ap (λ (x : Row). x .number) first-block ∙ q .0, comes-on (r .comes) (comes-same _ (ap (λ (x : Row). x .blocks) first-block ∙ q .1)))
 
-    module _ (b′ : Bits) (st′ : V2Row) (en : o ≡ Next b′ st′) (mode′ : List (List ℕ)) (em : mode′ ≡ read-block s h n w row col b st mode .mode) where
+    module _ (b′ : Bits) (st′ : V2Row) (en : o ≡ Next b′ st′) (mode′ : List (List ℕ)) (em : mode′ ≡ read-block s h w row col b st mode .mode) where
       block-next : This ≡ record {
-        blocks = read-block s h n w row col b st mode .block ∷ Left s h n w row (col + 16) b′ st′ mode′ .blocks;
-        number = Left s h n w row (col + 16) b′ st′ mode′ .number;
-        bits = Left s h n w row (col + 16) b′ st′ mode′ .bits;
+        blocks = read-block s h w row col b st mode .block ∷ Left s h w row (col + 16) b′ st′ mode′ .blocks;
+        number = Left s h w row (col + 16) b′ st′ mode′ .number;
+        bits = Left s h w row (col + 16) b′ st′ mode′ .bits;
       }
       unfolding then
       block-next = first-block ∙ rw (en, em)
 
-      marks-are : (h′ : List ℕ) → block-cells v2-marks h′ (read-block s h n w row col b st mode .block) ≡ tabulate 16 0 (λ i. base-cell v2-marks h′ (base h w row col (st′ .motion) i))
+      marks-are : (h′ : List ℕ) → block-cells v2-marks h′ (read-block s h w row col b st mode .block) ≡ tabulate 16 0 (λ i. base-cell v2-marks h′ (base h w row col (st′ .motion) i))
       unfolding read-block block-cells
-      marks-are h′ = rw (next-state s h n w row col b st mode b′ st′ (sym eo ∙ en))
+      marks-are h′ = rw (next-state s h w row col b st mode b′ st′ (sym eo ∙ en))
 
       -- Its samples and marks are written at its place.
-      comes-first : (rest : List Block) (old new f′ g′ : List ℕ) (p : ℕ) → p ≡ row * w + col → new ≡ written o (block-cells (sample-kind t) f (read-block s h n w row col b st mode .block)) old
+      comes-first : (rest : List Block) (old new f′ g′ : List ℕ) (p : ℕ) → p ≡ row * w + col → new ≡ written o (block-cells (sample-kind t) f (read-block s h w row col b st mode .block)) old
           → f′ ≡ sets f p new → g′ ≡ sets g (row * w + col) (tabulate 16 0 (λ i. base-cell v2-marks g (base h w row col (st′ .motion) i)))
-          → Comes t (read-block s h n w row col b st mode .block ∷ rest) f g rest f′ g′
+          → Comes t (read-block s h w row col b st mode .block ∷ rest) f g rest f′ g′
       unfolding read-block written
       comes-first rest old new f′ g′ p ep ev ef eg =
-          comes-block t (read-block s h n w row col b st mode .block) rest f g f′ g′ (ef ∙ ap₂ (λ (x : ℕ) (v : List ℕ). sets f x v) ep (rw en at ev))
+          comes-block t (read-block s h w row col b st mode .block) rest f g f′ g′ (ef ∙ ap₂ (λ (x : ℕ) (v : List ℕ). sets f x v) ep (rw en at ev))
           (eg ∙ ap (λ (v : List ℕ). sets g (row * w + col) v) (sym (marks-are g)))
 
       -- The row goes on after a block that goes on.
-      pub row-goes : (old new f′ g′ : List ℕ) (p : ℕ) → p ≡ row * w + col → new ≡ written o (block-cells (sample-kind t) f (read-block s h n w row col b st mode .block)) old
+      pub row-goes : (old new f′ g′ : List ℕ) (p : ℕ) → p ≡ row * w + col → new ≡ written o (block-cells (sample-kind t) f (read-block s h w row col b st mode .block)) old
           → f′ ≡ sets f p new → g′ ≡ sets g (row * w + col) (tabulate 16 0 (λ i. base-cell v2-marks g (base h w row col (st′ .motion) i)))
-          → RowGoing t s h n w row whole f₀ g₀ (col + 16) b′ st′ mode′ f′ g′
+          → RowGoing t s h w row whole f₀ g₀ (col + 16) b′ st′ mode′ f′ g′
       row-goes old new f′ g′ p ep ev ef eg = record {
         within = l;
         whole-blocks = omega (arith, r .whole-blocks);
-        motion = next-motion s h n w row col b st mode b′ st′ (sym eo ∙ en) (r .motion);
-        scale = next-scale s h n w row col b st mode b′ st′ (sym eo ∙ en) (r .scale);
+        motion = next-motion s h w row col b st mode b′ st′ (sym eo ∙ en) (r .motion);
+        scale = next-scale s h w row col b st mode b′ st′ (sym eo ∙ en) (r .scale);
         number-is = r .number-is ∙ ap (λ (x : Row). x .number) block-next;
         bits-are = r .bits-are ∙ ap (λ (x : Row). x .bits) block-next;
         comes = comes-on (r .comes) (comes-on (comes-same _ (ap (λ (x : Row). x .blocks) block-next)) (comes-first _ old new f′ g′ p ep ev ef eg));
       }
 
-pub whole-row : (s : List ℕ) (h : V2Hdr) (n w row : ℕ) (b b₀ : Bits) (st : V2Row) (mode : List (List ℕ)) → b₀ ≡ aligned b → st ≡ fresh-row → mode ≡ fresh-mode row
-    → read-row s h n w row b ≡ blocks s h n w row (w / 16) 0 b₀ st mode
+pub whole-row : (s : List ℕ) (h : V2Hdr) (w row : ℕ) (b b₀ : Bits) (st : V2Row) (mode : List (List ℕ)) → b₀ ≡ aligned b → st ≡ fresh-row → mode ≡ fresh-mode row
+    → read-row s h w row b ≡ blocks s h w row (w / 16) 0 b₀ st mode
 unfolding read-row
-whole-row s h n w row b b₀ st mode eb es em = rw (← eb, ← es, ← em)
+whole-row s h w row b b₀ st mode eb es em = rw (← eb, ← es, ← em)
 
 -- A refusal's number is not 0.
 pub refusal-number : (o : V2Block) → ((b : Bits) (st : V2Row) → o ≡ Next b st → ⊥) → eqb (number o) 0 ≡ false
@@ -173,22 +173,22 @@ refusal-number (LongDifference b) no-next = refl
 -- ── A frame ──
 
 -- A frame at a row.
-pub record FrameGoing (t : ℕ) (s : List ℕ) (h : V2Hdr) (n w height : ℕ) (whole : Frame) (f₀ g₀ : List ℕ) (row : ℕ) (b : Bits) (f g : List ℕ) : Type 0 where
-  pub answer-is : whole .answer ≡ rows s h n w (height - row) row b .answer
-  pub comes : Comes t (whole .blocks) f₀ g₀ (rows s h n w (height - row) row b .blocks) f g
+pub record FrameGoing (t : ℕ) (s : List ℕ) (h : V2Hdr) (w height : ℕ) (whole : Frame) (f₀ g₀ : List ℕ) (row : ℕ) (b : Bits) (f g : List ℕ) : Type 0 where
+  pub answer-is : whole .answer ≡ rows s h w (height - row) row b .answer
+  pub comes : Comes t (whole .blocks) f₀ g₀ (rows s h w (height - row) row b .blocks) f g
 
-pub frame-starts : (t : ℕ) (s : List ℕ) (h : V2Hdr) (n w height : ℕ) (b : Bits) (f g : List ℕ)
-    → FrameGoing t s h n w height (rows s h n w height 0 b) f g 0 b f g
-frame-starts t s h n w height b f g = record { answer-is = rw sub-zero; comes = rw sub-zero (comes-same _ refl) }
+pub frame-starts : (t : ℕ) (s : List ℕ) (h : V2Hdr) (w height : ℕ) (b : Bits) (f g : List ℕ)
+    → FrameGoing t s h w height (rows s h w height 0 b) f g 0 b f g
+frame-starts t s h w height b f g = record { answer-is = rw sub-zero; comes = rw sub-zero (comes-same _ refl) }
 
-module _ (t : ℕ) (s : List ℕ) (h : V2Hdr) (n w height : ℕ) (whole : Frame) (f₀ g₀ : List ℕ) (row : ℕ) (b : Bits) (f g : List ℕ)
-    (r : FrameGoing t s h n w height whole f₀ g₀ row b f g) where
+module _ (t : ℕ) (s : List ℕ) (h : V2Hdr) (w height : ℕ) (whole : Frame) (f₀ g₀ : List ℕ) (row : ℕ) (b : Bits) (f g : List ℕ)
+    (r : FrameGoing t s h w height whole f₀ g₀ row b f g) where
   -- The answer, and all blocks applied.
   abbrev Ended : Answer → List ℕ → List ℕ → Type 0
   Ended a f′ g′ = (whole .answer ≡ a) × Comes t (whole .blocks) f₀ g₀ [] f′ g′
 
   abbrev These : Frame
-  These = rows s h n w (height - row) row b
+  These = rows s h w (height - row) row b
 
   pub frame-ends : height ≤ row → Ended (record { number = 0; row = 0 }) f g
   unfolding rows
@@ -196,8 +196,8 @@ module _ (t : ℕ) (s : List ℕ) (h : V2Hdr) (n w height : ℕ) (whole : Frame)
       let e : These ≡ record { blocks = []; answer = record { number = 0; row = 0 } } = rw (left-none height row l) in
       (r .answer-is ∙ ap (λ (x : Frame). x .answer) e, comes-on (r .comes) (comes-same _ (ap (λ (x : Frame). x .blocks) e)))
 
-  module _ (l : row < height) (q : Row) (eq : read-row s h n w row b ≡ q) (f′ g′ : List ℕ) (d : Comes t (q .blocks) f g [] f′ g′) where
-    first-row : These ≡ then-rows row q (rows s h n w (height - (row + 1)) (row + 1) (q .bits))
+  module _ (l : row < height) (q : Row) (eq : read-row s h w row b ≡ q) (f′ g′ : List ℕ) (d : Comes t (q .blocks) f g [] f′ g′) where
+    first-row : These ≡ then-rows row q (rows s h w (height - (row + 1)) (row + 1) (q .bits))
     unfolding rows
     first-row = rw (left-suc height row l, eq, add-one)
 
@@ -214,10 +214,10 @@ module _ (t : ℕ) (s : List ℕ) (h : V2Hdr) (n w height : ℕ) (whole : Frame)
     frame-overruns ek z = ended (record { number = 8; row = row }) (first-row ∙ rw (ek, z))
 
     -- The frame goes on after a row without a refusal.
-    pub frame-goes : (b′ : Bits) → q .number ≡ 0 → q .bits ≡ b′ → b′ .overrun ≡ false → FrameGoing t s h n w height whole f₀ g₀ (row + 1) b′ f′ g′
+    pub frame-goes : (b′ : Bits) → q .number ≡ 0 → q .bits ≡ b′ → b′ .overrun ≡ false → FrameGoing t s h w height whole f₀ g₀ (row + 1) b′ f′ g′
     unfolding then-rows
     frame-goes b′ ek eb z =
-        let rest = rows s h n w (height - (row + 1)) (row + 1) b′ in
+        let rest = rows s h w (height - (row + 1)) (row + 1) b′ in
         let e : These ≡ record { blocks = q .blocks ++ rest .blocks; answer = rest .answer } = first-row ∙ rw (ek, eb, z) in
         record {
           answer-is = r .answer-is ∙ ap (λ (x : Frame). x .answer) e;
@@ -229,13 +229,13 @@ depth-is s x e = rw e (depth-most s)
 
 -- A block that goes on can be marked, in a map of the whole frame or in an empty one.
 pub markable : (s : List ℕ) (h : V2Hdr) (n k m : ℕ) (at : Place) (b : Bits) (st : V2Row) (mode : List (List ℕ)) (b′ : Bits) (st′ : V2Row)
-    → read-block s h n (at .width) (at .row) (at .col) b st mode .outcome ≡ Next b′ st′ → st .motion ≤ 7 → Placed at → at .row * at .width + at .col + 16 ≤ n
+    → read-block s h (at .width) (at .row) (at .col) b st mode .outcome ≡ Next b′ st′ → st .motion ≤ 7 → Placed at → at .row * at .width + at .col + 16 ≤ n
     → k ≡ m → (m ≡ n) ⊎ (m ≡ 0) → Markable k at (st′ .motion)
 markable s h n k m at b st mode b′ st′ e small placed room ek lent = record {
   placed = placed;
-  small = next-motion s h n (at .width) (at .row) (at .col) b st mode b′ st′ e small;
+  small = next-motion s h (at .width) (at .row) (at .col) b st mode b′ st′ e small;
   inside = λ filled. record { placed = placed; room = omega (arith, whole filled) };
-  unrefused = λ filled. rw (whole filled) (next-unrefused s h n (at .width) (at .row) (at .col) b st mode b′ st′ e);
+  unrefused = next-unrefused s h (at .width) (at .row) (at .col) b st mode b′ st′ e;
 }
   where
     whole : (k ≡ 0 → ⊥) → k ≡ n
@@ -243,8 +243,8 @@ markable s h n k m at b st mode b′ st′ e small placed room ek lent = record 
 
 -- The frame's answer, samples and marks, from its header.
 pub frame-is : (s : List ℕ) (z : Size) (f g f′ g′ : List ℕ) (x : V2Start) (a : Answer) → x ≡ header s
-    → (rows s (x .hdr) (cells z) (z .width) (z .height) 0 (x .bits) .answer ≡ a)
-    × Comes (top (x .hdr)) (rows s (x .hdr) (cells z) (z .width) (z .height) 0 (x .bits) .blocks) f g [] f′ g′
+    → (rows s (x .hdr) (z .width) (z .height) 0 (x .bits) .answer ≡ a)
+    × Comes (top (x .hdr)) (rows s (x .hdr) (z .width) (z .height) 0 (x .bits) .blocks) f g [] f′ g′
     → (a ≡ read-frame s z .answer) × ((f′ ≡ decoded s z f) × (g′ ≡ frame v2-marks s z g))
 unfolding read-frame decoded frame apply
 frame-is s z f g f′ g′ x a e (ea, c) = (rw (← e) (sym ea), (rw (← e) (sym (c .samples)), rw (← e) (sym (c .marks))))

@@ -62,15 +62,15 @@ pub fn read_block(
     samples: &mut [u16; 16],
 ) -> V2Block
     requires { ⌜ Ready hdr (length (now out)) at state × (length (now samples) ≡ 16) ⌝ }
-    ensures { λ r. ⌜ r ≡ read-block (now (src .entry)) hdr (length (now (out .entry))) (at .width) (at .row) (at .col) bits state (now (mode .entry)) .outcome ⌝ }
-    ensures { λ r. ⌜ now (mode .exit) ≡ read-block (now (src .entry)) hdr (length (now (out .entry))) (at .width) (at .row) (at .col) bits state (now (mode .entry)) .mode ⌝ }
-    ensures { λ r. ⌜ now (samples .exit) ≡ written r (block-cells (sample-kind (top hdr)) (now (out .entry)) (read-block (now (src .entry)) hdr (length (now (out .entry))) (at .width) (at .row) (at .col) bits state (now (mode .entry)) .block)) (now (samples .entry)) ⌝ }
+    ensures { λ r. ⌜ r ≡ read-block (now (src .entry)) hdr (at .width) (at .row) (at .col) bits state (now (mode .entry)) .outcome ⌝ }
+    ensures { λ r. ⌜ now (mode .exit) ≡ read-block (now (src .entry)) hdr (at .width) (at .row) (at .col) bits state (now (mode .entry)) .mode ⌝ }
+    ensures { λ r. ⌜ now (samples .exit) ≡ written r (block-cells (sample-kind (top hdr)) (now (out .entry)) (read-block (now (src .entry)) hdr (at .width) (at .row) (at .col) bits state (now (mode .entry)) .block)) (now (samples .entry)) ⌝ }
 {
     let c = next_scale(src, hdr, at.col, state.scale, bits);
     let b1 = c.bits;
     let m = next_motion(src, hdr, state.motion, b1);
     let b2 = m.bits;
-    let refusal = refusal_of(out.len(), at, m.value);
+    let refusal = refusal_of(at, m.value);
     if refusal == 5 {
         return V2Block::EarlyMotion(b2);
     }

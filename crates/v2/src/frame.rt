@@ -33,7 +33,7 @@ pub fn decode_frame(src: &[u8], size: Size, out: &mut [u16], map: &mut [u8]) -> 
         let mut state = V2Row::fresh();
         let mut mode = V2Row::mode(row);
         let mut col: usize = 0;
-        'row: while col + V2Row::BLOCK <= width {
+        while col + V2Row::BLOCK <= width {
             let at = Place { width, row, col };
             let mut samples = [0u16; 16];
             let outcome = read_block(src, hdr, at, &out[..], bits, state, &mut mode, &mut samples);

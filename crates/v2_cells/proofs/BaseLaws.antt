@@ -1,29 +1,33 @@
 -- A block's base: references from the first two, which refusal it meets, and its cells, of any kind.
-use mathlib.Core.Bool.{Bool, true, false, cond, _||_}
+use mathlib.Core.Bool.{Bool, true, false, cond}
 use mathlib.Core.List.{List}
 use mathlib.Core.Path.{_≡_, refl, sym, _∙_}
-use Prim.Native.Nat.{ℕ, zero, suc, _+_, _*_, _-_, _%_, _≤_, _<_}
-use native.Mathlib.Decide.{ℕ-discrete}
+use Prim.Native.Nat.{ℕ, _+_, _*_, _-_, _%_, _≤_, _<_}
 use native.Mathlib.Nat.{mul-le-mul}
 use native.Mathlib.Omega.{arith}
-use lib.Dec.{ltb, leb, eqb, lit≤}
-use lib.IntN.{pos, subℕ, _+ℤ_}
+use lib.Dec.{ltb, eqb, lit≤}
+use lib.IntN.{pos, _+ℤ_}
 use lib.ListN.{getD}
 use lib.Signed.{mag}
 use mir.Syntax.{w64}
 use mir.Val.{toZ, ofZ}
 use mir.ValLaws.{toZ-ofZ}
-use borrow.Author.Tests.{lt-ltb, le-ltb, lt-leb, le-leb, ltb-true, ltb-false, leb-true, leb-false, eqb-true, eqb-false}
+use borrow.Author.Tests.{lt-ltb, le-ltb, ltb-false, eqb-true, eqb-false, ne-eqb}
 use Rattle.rules.specs.declared.v2.V2Hdr.{V2Hdr}
 use Rattle.rules.specs.Frame.{tabulate}
-use Rattle.rules.specs.V2.{motion-offsets, motion-averages, outside, strays, any-strays, base-refusal, averaged, copied, repeated, referred, base, Kind, base-cell}
+use Rattle.rules.specs.V2.{motion-offsets, motion-averages, refers-before, base-refusal, averaged, copied, repeated, referred, base, Kind, base-cell}
 use Rattle.rules.specs.Ranges.{offset-4, reference-5}
 use Rattle.rules.proofs.Cells.{All, nil, more, all-get}
-use Rattle.rules.proofs.V2Places.{further, offset-is, offset-most, reference-is, inside}
-use Rattle.v2_cells.specs.Places.{along, Runs, run-outside, cell-from}
+use Rattle.rules.proofs.V2Places.{further, offset-is, offset-most, reference-is}
+use Rattle.rules.proofs.V2References.{reference-inside}
+use Rattle.v2_cells.specs.Places.{along, Runs, cell-from}
 use Rattle.v2_cells.proofs.Fill.{tabulate-same}
 
 -- ── References ──
+
+-- Each reference of a block is a place among n samples, and so is the one that averaging reads.
+abbrev pub In : ℕ → ℕ → ℕ → ℕ → ℕ → Type 0
+In n w row col motion = (i : ℕ) → i < 16 → (5 ≤ reference-5 w row col motion i) × (reference-5 w row col motion i - 5 + further motion < n)
 
 -- A row within the limits, and the rows above it, have their places below 2^28.
 pub rows-room : (row w : ℕ) → row < 16_384 → w ≤ 16_384
@@ -89,118 +93,52 @@ along-5 a b i h k = go (eqb (i % 2) 0) refl
     go true e = omega arith
     go false e = let n : i % 2 ≡ 0 → ⊥ = eqb-false (i % 2) 0 e in omega arith
 
--- ── Which references are outside ──
-
-module _ (n w row col motion : ℕ) where
-  pub stray-found : (k i j : ℕ) → i ≤ j → j < i + k → strays n w row col motion j ≡ true → any-strays n w row col motion k i ≡ true
-  unfolding any-strays
-  stray-found zero i j l h e = absurd (omega arith)
-  stray-found (suc k) i j l h e = go (ℕ-discrete j i) (λ m. stray-found k (suc i) j m (omega arith) e)
-    where
-      or-true : (t : Bool) → t || true ≡ true
-      or-true true = refl
-      or-true false = refl
-
-      go : Dec (j ≡ i) → (suc i ≤ j → any-strays n w row col motion k (suc i) ≡ true) → strays n w row col motion i || any-strays n w row col motion k (suc i) ≡ true
-      go (yes p) rest = rw (← p, e)
-      go (no p) rest = let q : suc i ≤ j = omega arith in rw (rest q) (or-true (strays n w row col motion i))
-
-  none-strays : (k i : ℕ) → ((j : ℕ) → j < i + k → strays n w row col motion j ≡ false) → any-strays n w row col motion k i ≡ false
-  unfolding any-strays
-  none-strays zero i h = refl
-  none-strays (suc k) i h = rw (h i (omega arith)) (none-strays k (suc i) (λ j l. h j (omega arith)))
-
-  strays-is : (i : ℕ) → strays n w row col motion i ≡ outside n (further motion) (subℕ (reference-5 w row col motion i) 5)
-  unfolding strays
-  strays-is i = rw (reference-is w row col motion i)
-
-  stray-low : (i : ℕ) → reference-5 w row col motion i < 5 → strays n w row col motion i ≡ true
-  unfolding outside
-  stray-low i l = rw (strays-is i, lt-ltb (reference-5 w row col motion i) 5 l)
-
-  stray-test : (i : ℕ) → 5 ≤ reference-5 w row col motion i → strays n w row col motion i ≡ leb n (reference-5 w row col motion i - 5 + further motion)
-  unfolding outside
-  stray-test i l = rw (strays-is i, le-ltb (reference-5 w row col motion i) 5 l)
-
-  -- Where no reference is outside, each is inside.
-  pub inside-each : any-strays n w row col motion 16 0 ≡ false → (i : ℕ) → i < 16
-      → (5 ≤ reference-5 w row col motion i) × (reference-5 w row col motion i - 5 + further motion < n)
-  inside-each e i h = inside n (further motion) (reference-5 w row col motion i) (sym (strays-is i) ∙ go (strays n w row col motion i) refl)
-    where
-      go : (t : Bool) → strays n w row col motion i ≡ t → t ≡ false
-      go true p = let f = stray-found 16 0 i (omega arith) (omega arith) p in let z : _≡_ {A = ℕ} 0 1 = cc in cc
-      go false p = refl
-
-  -- The test of the two runs of eight: the first reference of a run is its least, the last its greatest.
-  run-found : (i : ℕ) → i < 2 → run-outside n (further motion) (reference-5 w row col motion i) ≡ true → any-strays n w row col motion 16 0 ≡ true
-  run-found i h = go (ltb (reference-5 w row col motion i) 5) refl
-    where
-      go : (t : Bool) → ltb (reference-5 w row col motion i) 5 ≡ t
-          → t || leb n (reference-5 w row col motion i - 5 + 14 + further motion) ≡ true → any-strays n w row col motion 16 0 ≡ true
-      go true l e = stray-found 16 0 i (omega arith) (omega arith) (stray-low i (ltb-true (reference-5 w row col motion i) 5 l))
-      go false l e =
-          let k = ltb-false (reference-5 w row col motion i) 5 l in
-          let p = same-parity w row col motion i 14 refl in
-          let q = leb-true n (reference-5 w row col motion i - 5 + 14 + further motion) e in
-          stray-found 16 0 (i + 14) (omega arith) (omega arith) (stray-test (i + 14) (omega arith) ∙ le-leb n (reference-5 w row col motion (i + 14) - 5 + further motion) (omega arith))
-
-run-inside : (n on r : ℕ) → run-outside n on r ≡ false → (5 ≤ r) × (r - 5 + 14 + on < n)
-run-inside n on r = go (ltb r 5) refl
-  where
-    go : (t : Bool) → ltb r 5 ≡ t → t || leb n (r - 5 + 14 + on) ≡ false → (5 ≤ r) × (r - 5 + 14 + on < n)
-    go true l e = let z : _≡_ {A = ℕ} 0 1 = cc in absurd (omega arith)
-    go false l e = (ltb-false r 5 l, leb-false n (r - 5 + 14 + on) e)
-
-along-between : (n on a b i : ℕ) → i < 16 → (5 ≤ a) × (a - 5 + 14 + on < n) → (5 ≤ b) × (b - 5 + 14 + on < n)
-    → (5 ≤ along a b i) × (along a b i - 5 + on < n)
-along-between n on a b i h p q = go (eqb (i % 2) 0) refl
-  where
-    go : (t : Bool) → eqb (i % 2) 0 ≡ t → (5 ≤ cond t (a + i) (b + i - 1)) × (cond t (a + i) (b + i - 1) - 5 + on < n)
-    go true e = let m : i % 2 ≡ 0 = eqb-true (i % 2) 0 e in (omega arith, omega arith)
-    go false e = let m : i % 2 ≡ 0 → ⊥ = eqb-false (i % 2) 0 e in (omega arith, omega arith)
-
-module _ (n w row col motion : ℕ) (on : ℕ) (em : on ≡ further motion) (a : ℕ) (ea : a ≡ reference-5 w row col motion 0) where
-  pub first-outside : run-outside n on a ≡ true → true ≡ any-strays n w row col motion 16 0
-  first-outside e = sym (run-found n w row col motion 0 (omega arith) (rw (em, ea) at e))
-
-  pub second-outside : run-outside n on a ≡ false → (b : ℕ) → b ≡ reference-5 w row col motion 1 → (t : Bool) → t ≡ run-outside n on b
-      → t ≡ any-strays n w row col motion 16 0
-  second-outside e b eb true et = sym (run-found n w row col motion 1 (omega arith) (rw (em, eb) at (sym et)))
-  second-outside e b eb false et =
-      let p = run-inside n (further motion) (reference-5 w row col motion 0) (rw (em, ea) at e) in
-      let q = run-inside n (further motion) (reference-5 w row col motion 1) (rw (em, eb) at (sym et)) in
-      sym (none-strays n w row col motion 16 0 (λ j h.
-      let r = rw (along-is w row col motion j) at (along-between n (further motion) (reference-5 w row col motion 0) (reference-5 w row col motion 1) j h p q) in
-      stray-test n w row col motion j (r .0) ∙ lt-leb n (reference-5 w row col motion j - 5 + further motion) (r .1)))
-
 -- ── Which refusal the base meets ──
 
-module _ (n w row col motion : ℕ) where
-  pub refusal-7 : motion ≡ 7 → 0 ≡ base-refusal n w row col motion
+module _ (row col motion : ℕ) where
+  pub other-row : (row ≡ 2 → ⊥) → false ≡ refers-before row col motion
+  unfolding refers-before
+  other-row n = rw (ne-eqb row 2 n)
+
+  pub first-column : row ≡ 2 → col ≡ 0 → ltb motion 3 ≡ refers-before row col motion
+  unfolding refers-before
+  first-column er ec = rw (er, ec)
+
+  pub other-column : row ≡ 2 → (col ≡ 0 → ⊥) → eqb col 0 ≡ refers-before row col motion
+  unfolding refers-before
+  other-column er n = rw (er, ne-eqb col 0 n)
+
+  pub refusal-7 : motion ≡ 7 → 0 ≡ base-refusal row col motion
   unfolding base-refusal
   refusal-7 e = rw e
 
   module _ (e : eqb motion 7 ≡ false) where
-    pub refusal-5 : row < 2 → 5 ≡ base-refusal n w row col motion
+    pub refusal-5 : row < 2 → 5 ≡ base-refusal row col motion
     unfolding base-refusal
     refusal-5 h = rw (e, lt-ltb row 2 h)
 
-    pub refusal-6 : 2 ≤ row → any-strays n w row col motion 16 0 ≡ true → 6 ≡ base-refusal n w row col motion
+    pub refusal-6 : 2 ≤ row → refers-before row col motion ≡ true → 6 ≡ base-refusal row col motion
     unfolding base-refusal
     refusal-6 h s = rw (e, le-ltb row 2 h, s)
 
-    pub refusal-none : 2 ≤ row → any-strays n w row col motion 16 0 ≡ false → 0 ≡ base-refusal n w row col motion
+    pub refusal-none : 2 ≤ row → refers-before row col motion ≡ false → 0 ≡ base-refusal row col motion
     unfolding base-refusal
     refusal-none h s = rw (e, le-ltb row 2 h, s)
 
-    pub unrefused : base-refusal n w row col motion ≡ 0 → (2 ≤ row) × (any-strays n w row col motion 16 0 ≡ false)
+    unrefused : base-refusal row col motion ≡ 0 → (2 ≤ row) × (refers-before row col motion ≡ false)
     unfolding base-refusal
-    unrefused r = go (ltb row 2) refl (any-strays n w row col motion 16 0) (rw e at r)
+    unrefused r = go (ltb row 2) refl (refers-before row col motion) (rw e at r)
       where
         go : (t : Bool) → ltb row 2 ≡ t → (u : Bool) → _≡_ {A = ℕ} (cond t 5 (cond u 6 0)) 0 → (2 ≤ row) × (u ≡ false)
         go true p u q = absurd (omega arith)
         go false p true q = absurd (omega arith)
         go false p false q = (ltb-false row 2 p, refl)
+
+    -- A base that meets none has all its references, averaging counted, among the n samples that hold its block.
+    pub references-in : base-refusal row col motion ≡ 0 → (n w : ℕ) → col + 16 ≤ w → col % 16 ≡ 0 → row * w + col + 16 ≤ n → (2 ≤ row) × In n w row col motion
+    references-in r n w fits column room =
+        let q = unrefused r in
+        (q .0, λ i l. reference-inside w row col motion (q .0) (omega arith) column (q .1) n i l fits room)
 
 -- ── The base's cells ──
 
@@ -212,20 +150,20 @@ along-inside n even odd i t r h = go (eqb (i % 2) 0) refl
     go true e = let m : i % 2 ≡ 0 = eqb-true (i % 2) 0 e in omega (arith, r .even-end)
     go false e = omega (arith, r .odd-end)
 
--- The runs from the references of samples 0 and 1, where none is outside.
-module _ (n w row col motion : ℕ) (none : any-strays n w row col motion 16 0 ≡ false) (even odd : ℕ)
+-- The runs from the references of samples 0 and 1.
+module _ (n w row col motion : ℕ) (each : In n w row col motion) (even odd : ℕ)
     (ee : even ≡ reference-5 w row col motion 0 - 5) (eo : odd ≡ reference-5 w row col motion 1 - 5)
     (t : Bool) (et : t ≡ getD motion-averages motion false) where
   pub runs : Runs n even odd t
   runs = record {
-    even-end = rw (ee, et) (omega (arith, inside-each n w row col motion none 14 (omega arith), same-parity w row col motion 0 14 refl, inside-each n w row col motion none 0 (omega arith)));
-    odd-end = rw (eo, et) (omega (arith, inside-each n w row col motion none 15 (omega arith), same-parity w row col motion 1 14 refl, inside-each n w row col motion none 1 (omega arith)));
+    even-end = rw (ee, et) (omega (arith, each 14 (omega arith), same-parity w row col motion 0 14 refl, each 0 (omega arith)));
+    odd-end = rw (eo, et) (omega (arith, each 15 (omega arith), same-parity w row col motion 1 14 refl, each 1 (omega arith)));
   }
 
   place-is : (i : ℕ) → along even odd i + 5 ≡ reference-5 w row col motion i
   place-is i =
       rw (ee, eo)
-      (along-5 (reference-5 w row col motion 0) (reference-5 w row col motion 1) i (inside-each n w row col motion none 0 (omega arith) .0) (inside-each n w row col motion none 1 (omega arith) .0)
+      (along-5 (reference-5 w row col motion 0) (reference-5 w row col motion 1) i (each 0 (omega arith) .0) (each 1 (omega arith) .0)
       ∙ along-is w row col motion i)
 
   -- A sample's cell is the one at its place on the runs.
@@ -248,13 +186,9 @@ module _ (K : Kind ℕ) (f : List ℕ) where
     unfolding base
     bases-7 e el = simp e el
 
-    pub bases-referred : eqb motion 7 ≡ false → (n : ℕ) → any-strays n w row col motion 16 0 ≡ false → (even odd : ℕ)
+    pub bases-referred : eqb motion 7 ≡ false → (n : ℕ) → In n w row col motion → (even odd : ℕ)
         → even ≡ reference-5 w row col motion 0 - 5 → odd ≡ reference-5 w row col motion 1 - 5 → (t : Bool) → t ≡ getD motion-averages motion false
         → l ≡ tabulate 16 0 (λ i. cell-from K f t (along even odd i)) → l ≡ tabulate 16 0 (λ i. base-cell K f (base h w row col motion i))
     unfolding base
-    bases-referred e n none even odd ee eo t et el =
-        simp e (el ∙ tabulate-same 16 0 (λ i. cell-from K f t (along even odd i)) (λ i. base-cell K f (referred w row col motion i)) (referred-is n w row col motion none even odd ee eo t et K f))
-
-pub two-small : (t : Bool) → cond t 2 0 ≤ 2
-two-small true = omega arith
-two-small false = omega arith
+    bases-referred e n each even odd ee eo t et el =
+        simp e (el ∙ tabulate-same 16 0 (λ i. cell-from K f t (along even odd i)) (λ i. base-cell K f (referred w row col motion i)) (referred-is n w row col motion each even odd ee eo t et K f))

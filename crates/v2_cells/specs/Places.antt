@@ -1,9 +1,9 @@
 -- Places in a frame within the limits, and references as the code has them: 5 more than they are, so that none is below 0.
 use Prim.Native.Nat.{ℕ, _+_, _-_, _*_, _%_, _≤_, _<_}
 use mathlib.Core.Path.{_≡_}
-use mathlib.Core.Bool.{Bool, _||_, cond}
+use mathlib.Core.Bool.{Bool, cond}
 use mathlib.Core.List.{List}
-use lib.Dec.{ltb, leb, eqb}
+use lib.Dec.{eqb}
 use lib.ListN.{getD}
 use Rattle.rules.specs.V2.{base-refusal, Kind}
 use Rattle.v2_cells.specs.declared.Place.{Place}
@@ -25,7 +25,7 @@ pub record Markable (n : ℕ) (at : Place) (motion : ℕ) : Type 0 where
   pub placed : Placed at
   pub small : motion ≤ 7
   pub inside : (n ≡ 0 → ⊥) → Inside n at
-  pub unrefused : (n ≡ 0 → ⊥) → base-refusal n (at .width) (at .row) (at .col) motion ≡ 0
+  pub unrefused : base-refusal (at .row) (at .col) motion ≡ 0
 
 -- Sample i refers as far on from sample 0 or 1, whichever has its parity, as it stands on from that one.
 abbrev pub along : ℕ → ℕ → ℕ → ℕ
@@ -35,10 +35,6 @@ along even odd i = cond (eqb (i % 2) 0) (even + i) (odd + i - 1)
 pub record Runs (n even odd : ℕ) (averaging : Bool) : Type 0 where
   pub even-end : even + 14 + cond averaging 2 0 < n
   pub odd-end : odd + 14 + cond averaging 2 0 < n
-
--- Whether one of eight references, two apart, is outside a frame of n samples, where the first is r less 5.
-abbrev pub run-outside : ℕ → ℕ → ℕ → Bool
-run-outside n more r = ltb r 5 || leb n (r - 5 + 14 + more)
 
 -- The cell at p, or its average with the one two places on.
 abbrev pub cell-from : Kind ℕ → List ℕ → Bool → ℕ → ℕ

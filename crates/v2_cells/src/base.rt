@@ -4,9 +4,9 @@ ghost use mathlib.Core.Bool.{false, cond};
 ghost use Prim.Native.Nat.{_+_, _^_, _≤_, _<_};
 ghost use lib.ListN.{length, getD};
 ghost use Rattle.rules.specs.Frame.{tabulate};
-ghost use Rattle.rules.specs.V2.{motion-averages, average, any-strays, base-refusal, base-cell, sample-kind, repeated, base};
+ghost use Rattle.rules.specs.V2.{motion-averages, average, refers-before, base-refusal, base-cell, sample-kind, repeated, base};
 ghost use Rattle.rules.specs.Ranges.{offset-4, reference-5};
-ghost use Rattle.v2_cells.specs.Places.{Placed, Inside, along, Runs, run-outside, cell-from};
+ghost use Rattle.v2_cells.specs.Places.{Placed, Inside, along, Runs, cell-from};
 use super::Place;
 use rules::V2Hdr;
 use rules::V2Row;
@@ -51,37 +51,19 @@ pub fn along_from(even: usize, odd: usize, i: usize) -> usize
     if i % 2 == 0 { even + i } else { odd + i - 1 }
 }
 
-// How many places on averaging reads.
-fn two_on(averaging: bool) -> usize
-    ensures { λ r. ⌜ r ≡ cond averaging 2 0 ⌝ }
+// Whether the block refers to before the frame's first sample: no other reference is outside the frame.
+fn refers_before(at: Place, motion: u32) -> bool
+    ensures { λ r. ⌜ r ≡ refers-before (at .row) (at .col) motion ⌝ }
 {
-    if averaging { 2 } else { 0 }
-}
-
-// Whether the first of eight references, two apart, is below 0, or the last, or the place `more` on, is at n or above.
-fn leaves(plus_5: usize, more: usize, n: usize) -> bool
-    requires { ⌜ (plus_5 < 536_870_912) × (more ≤ 2) ⌝ }
-    ensures { λ r. ⌜ r ≡ run-outside n more plus_5 ⌝ }
-{
-    plus_5 < 5 || n <= plus_5 - 5 + 14 + more
-}
-
-// Whether one of the sixteen references is outside the frame.
-fn any_outside(n: usize, at: Place, motion: u32) -> bool
-    requires { ⌜ Placed at × ((motion < 7) × (2 ≤ at .row)) ⌝ }
-    ensures { λ r. ⌜ r ≡ any-strays n (at .width) (at .row) (at .col) motion 16 0 ⌝ }
-{
-    let more = two_on(averages(motion));
-    if leaves(reference_plus_5(at, motion, 0), more, n) {
-        return true;
+    if at.row != 2 {
+        return false;
     }
-    leaves(reference_plus_5(at, motion, 1), more, n)
+    at.col == 0 && motion < 3
 }
 
 // The refusal that the base meets, or 0.
-pub fn refusal_of(n: usize, at: Place, motion: u32) -> u32
-    requires { ⌜ Placed at × (motion ≤ 7) ⌝ }
-    ensures { λ r. ⌜ r ≡ base-refusal n (at .width) (at .row) (at .col) motion ⌝ }
+pub fn refusal_of(at: Place, motion: u32) -> u32
+    ensures { λ r. ⌜ r ≡ base-refusal (at .row) (at .col) motion ⌝ }
 {
     if motion == V2Row::MOTION {
         return 0;
@@ -89,7 +71,7 @@ pub fn refusal_of(n: usize, at: Place, motion: u32) -> u32
     if at.row < 2 {
         return 5;
     }
-    if any_outside(n, at, motion) {
+    if refers_before(at, motion) {
         return 6;
     }
     0
@@ -149,7 +131,7 @@ fn repeat(out: &[u16], hdr: V2Hdr, at: Place, values: &mut [u16; 16])
 
 // The bases of a block that meets no refusal.
 pub fn bases(out: &[u16], hdr: V2Hdr, at: Place, motion: u32, values: &mut [u16; 16])
-    requires { ⌜ Inside (length (now out)) at × ((motion ≤ 7) × ((length (now values) ≡ 16) × (base-refusal (length (now out)) (at .width) (at .row) (at .col) motion ≡ 0))) ⌝ }
+    requires { ⌜ Inside (length (now out)) at × ((motion ≤ 7) × ((length (now values) ≡ 16) × (base-refusal (at .row) (at .col) motion ≡ 0))) ⌝ }
     ensures { λ _. ⌜ now (values .exit) ≡ tabulate 16 0 (λ i. base-cell (sample-kind 0) (now (out .entry)) (base hdr (at .width) (at .row) (at .col) motion i)) ⌝ }
 {
     if motion == V2Row::MOTION {

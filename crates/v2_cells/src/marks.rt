@@ -69,7 +69,7 @@ fn repeat_marks(map: &[u8], at: Place, marks: &mut [u8; 16])
 
 // The marks of a block that meets no refusal.
 fn block_marks(map: &[u8], at: Place, motion: u32, marks: &mut [u8; 16])
-    requires { ⌜ Inside (length (now map)) at × ((motion ≤ 7) × ((length (now marks) ≡ 16) × (base-refusal (length (now map)) (at .width) (at .row) (at .col) motion ≡ 0))) ⌝ }
+    requires { ⌜ Inside (length (now map)) at × ((motion ≤ 7) × ((length (now marks) ≡ 16) × (base-refusal (at .row) (at .col) motion ≡ 0))) ⌝ }
     ensures { λ _. ⌜ ((h : V2Hdr) → now (marks .exit) ≡ tabulate 16 0 (λ i. base-cell v2-marks (now (map .entry)) (base h (at .width) (at .row) (at .col) motion i))) ⌝ }
 {
     if motion == V2Row::MOTION {

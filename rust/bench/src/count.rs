@@ -2,6 +2,8 @@
 //! itself under it, once with a contender and once without.
 
 use crate::contenders::{self, Buffers};
+use crate::measure::Contender;
+use crate::writers::Written;
 use std::env;
 use std::process::Command;
 use streams::images::photo;
@@ -10,24 +12,44 @@ use streams::{Frame, v0, v2};
 const V0: (usize, usize) = (1_000, 400);
 const V2: (usize, usize) = (992, 440);
 
-/// How a frame is made.
-type Make = fn() -> Frame;
+/// How what is worked on is made: a frame that is decoded, or an image of V0's size that is written.
+#[derive(Clone, Copy)]
+enum Make {
+    Frame(fn() -> Frame),
+    Image(fn() -> Vec<u16>),
+}
 
-/// The frames that instructions are counted on: small, since a program runs some fifty times as long under valgrind.
-const FRAMES: [(&str, Make); 4] = [
-    ("V0, like a photograph", || v0::encode(&photo(V0.0, V0.1, 16.0, 1), V0.0, V0.1)),
-    ("V0, noisy", || v0::encode(&photo(V0.0, V0.1, 260.0, 1), V0.0, V0.1)),
-    ("V0, lengths to 32 bits", || v0::hostile::long_lengths(V0.0, V0.1)),
-    ("V2, like a photograph", || v2::encode(&photo(V2.0, V2.1, 90.0, 2), V2.0, V2.1)),
+/// What instructions are counted on: small, since a program runs some fifty times as long under valgrind.
+const FRAMES: [(&str, Make); 5] = [
+    ("V0, like a photograph", Make::Frame(|| v0::encode(&photo(V0.0, V0.1, 16.0, 1), V0.0, V0.1))),
+    ("V0, noisy", Make::Frame(|| v0::encode(&photo(V0.0, V0.1, 260.0, 1), V0.0, V0.1))),
+    ("V0, lengths to 32 bits", Make::Frame(|| v0::hostile::long_lengths(V0.0, V0.1))),
+    ("V2, like a photograph", Make::Frame(|| v2::encode(&photo(V2.0, V2.1, 90.0, 2), V2.0, V2.1))),
+    ("V0 written, like a photograph", Make::Image(|| photo(V0.0, V0.1, 16.0, 1))),
 ];
+
+/// Makes a frame, and hands on who works on it and how many samples it has.
+fn on(make: Make, then: impl FnOnce(&mut [Contender], usize)) {
+    match make {
+        Make::Frame(frame) => {
+            let frame = frame();
+            let buffers = Buffers::new(&frame);
+            then(&mut contenders::of(&frame, &buffers), frame.samples());
+        }
+        Make::Image(image) => {
+            let written = Written::new(image(), V0.0, V0.1);
+            then(&mut written.contenders(), written.frame.samples());
+        }
+    }
+}
 
 /// What is counted: the frame made, and the contender run once if there is one of that number.
 pub fn once(frame: usize, contender: usize) {
-    let frame = FRAMES[frame].1();
-    let buffers = Buffers::new(&frame);
-    if let Some(contender) = contenders::of(&frame, &buffers).get_mut(contender) {
-        (contender.run)();
-    }
+    on(FRAMES[frame].1, |contenders, _| {
+        if let Some(contender) = contenders.get_mut(contender) {
+            (contender.run)();
+        }
+    });
 }
 
 /// The instructions of `once`, where valgrind is installed.
@@ -39,20 +61,20 @@ fn counted(frame: usize, contender: usize) -> Option<u64> {
     String::from_utf8_lossy(&said).lines().find_map(|line| line.split_once("Collected : ")?.1.trim().parse().ok())
 }
 
-/// Prints the instructions that each contender takes for a sample.
-pub fn print() {
-    for (number, (name, frame)) in FRAMES.iter().enumerate() {
+/// Prints the instructions that each contender takes for a sample, of the frames whose name starts with `only`.
+pub fn print(only: &str) {
+    for (number, (name, make)) in FRAMES.iter().enumerate().filter(|(_, (name, _))| name.starts_with(only)) {
         let Some(without) = counted(number, usize::MAX) else {
             println!("{name}: instructions are not counted, since valgrind does not run here");
             continue;
         };
         println!("{name}: instructions a sample, by callgrind");
-        let frame = frame();
-        let buffers = Buffers::new(&frame);
-        for (i, contender) in contenders::of(&frame, &buffers).iter().enumerate() {
-            if let Some(with) = counted(number, i) {
-                println!("  {:<32} {:>9.1}", contender.name, (with - without) as f64 / frame.samples() as f64);
+        on(*make, |contenders, samples| {
+            for (i, contender) in contenders.iter().enumerate() {
+                if let Some(with) = counted(number, i) {
+                    println!("  {:<34} {:>9.1}", contender.name, (with - without) as f64 / samples as f64);
+                }
             }
-        }
+        });
     }
 }

@@ -3,3 +3,5 @@
 pub mod contenders;
 pub mod count;
 pub mod measure;
+pub mod planes;
+pub mod writers;

@@ -55,8 +55,8 @@ pub fn print(frame: &str, samples: Option<usize>, contenders: &[Contender], best
     for (contender, &seconds) in contenders.iter().zip(best) {
         let (ms, ratio) = (seconds * 1e3, seconds / best[contender.against]);
         match samples.map(|samples| samples as f64 / seconds / 1e6) {
-            Some(rate) => println!("  {:<32} {ms:>9.2} ms {rate:>7.1} Msamples/s  ratio {ratio:>6.3}", contender.name),
-            None => println!("  {:<32} {ms:>9.5} ms", contender.name),
+            Some(rate) => println!("  {:<34} {ms:>9.2} ms {rate:>7.1} Msamples/s  ratio {ratio:>6.3}", contender.name),
+            None => println!("  {:<34} {ms:>9.5} ms", contender.name),
         }
     }
 }

@@ -1,8 +1,9 @@
-//! Calls of the Rust with what it answered and left, as a file that a program can replay without the Rust. docs/RECORD.md says
-//! how the file is laid out.
+//! Calls of the Rust, and of the plain writer, with what they answered and left, as a file that a program can replay without
+//! either. docs/RECORD.md says how the file is laid out.
 
 use crate::call::{Answer, Ask, first_difference};
 use crate::v2::compare::rust;
+use crate::write::plain::{self, Fault, Written};
 use reference::Error;
 use std::path::Path;
 use std::{fs, io};
@@ -12,6 +13,10 @@ use streams::{Frame, Version, v0};
 
 /// In place of a row that the Rust does not tell.
 const NOT_TOLD: u32 = u32::MAX;
+
+/// How long the buffers are that a frame is written into.
+const STREAM: usize = 30_000;
+const OFFSETS: usize = 300;
 
 /// The old samples of a call: x becomes 25,173 x + 13,849 modulo 65,536 before each.
 pub fn old(seed: u16, len: usize) -> Vec<u16> {
@@ -23,9 +28,29 @@ pub fn old(seed: u16, len: usize) -> Vec<u16> {
     (0..len).map(|_| next()).collect()
 }
 
-/// The sum of samples: s becomes 31 s plus the sample, modulo 2^32, from 0 on.
+/// The sum of numbers: s becomes 31 s plus the number, modulo 2^32, from `first` on.
+fn added(first: u32, numbers: impl Iterator<Item = u32>) -> u32 {
+    numbers.fold(first, |sum: u32, number| sum.wrapping_mul(31).wrapping_add(number))
+}
+
+/// The sum of samples, from 0 on.
 pub fn sum(samples: &[u16]) -> u32 {
-    samples.iter().fold(0, |sum: u32, &sample| sum.wrapping_mul(31).wrapping_add(u32::from(sample)))
+    added(0, samples.iter().map(|&sample| u32::from(sample)))
+}
+
+/// The samples that are to be written: a quarter of the old samples each, and so below 16,384, where the seed is even.
+pub fn to_write(seed: u16, len: usize) -> Vec<u16> {
+    let part = if seed.is_multiple_of(2) { 4 } else { 1 };
+    old(seed, len).into_iter().map(|sample| sample / part).collect()
+}
+
+/// The plain writer's answer, over buffers that hold nines, and the sum of its length, the stream's buffer and the offsets'.
+pub fn as_written(samples: &[u16], width: usize, height: usize) -> (Answer, u32) {
+    let (mut stream, mut offsets) = (vec![9; STREAM], vec![9; OFFSETS]);
+    let ask = plain::Ask { samples, width, height };
+    let Written { answer, length } = plain::write(Fault::None, &ask, &mut stream, &mut offsets);
+    let bytes = added(length as u32, stream.iter().map(|&byte| u32::from(byte)));
+    (answer, added(bytes, offsets.into_iter()))
 }
 
 /// The file while it is written.
@@ -60,6 +85,16 @@ impl File {
         self.number(sum(after) as usize);
     }
 
+    /// A frame that is written. The stream and the offsets are in the sum.
+    fn write(&mut self, (width, height): (usize, usize), lent: usize, seed: u16) {
+        let (answer, sum) = as_written(&to_write(seed, lent), width, height);
+        self.calls += 1;
+        let (number, row) = (answer.number as usize, answer.row as usize);
+        for field in [1, width, height, 0, 0, lent, usize::from(seed), number, row, sum as usize] {
+            self.number(field);
+        }
+    }
+
     fn v0(&mut self, frame: &Frame, lent: usize, random: &mut Random) {
         let seed = random.number() as u16;
         let mut out = old(seed, lent);
@@ -88,6 +123,7 @@ pub fn file() -> Vec<u8> {
     let mut file = File { bytes: vec![0; 4], calls: 0 };
     frames_of_v0(&mut file, &mut random);
     streams_of_v2(&mut file, &mut random);
+    frames_written(&mut file, &mut random);
     file.bytes.splice(..4, file.calls.to_le_bytes());
     file.bytes
 }
@@ -147,6 +183,27 @@ fn streams_of_v2(file: &mut File, random: &mut Random) {
     }
     file.v2(&Frame::new(Version::V2, 646, 436), n, random);
     file.v2(&zeros(646, 436), n, random);
+}
+
+/// Frames that are written: of each small width, wide ones, with samples past the frame, and each refusal.
+fn frames_written(file: &mut File, random: &mut Random) {
+    for i in 0..130 {
+        let (width, height) = match i {
+            0..100 => (i % 41, i / 4 % 9),
+            _ => (random.index(400), random.index(12)),
+        };
+        let lent = width * height + if i % 3 == 0 { 0 } else { random.index(20) };
+        // An odd seed makes most frames too bright.
+        let seed = random.number() as u16 & if i % 10 == 9 { 0xffff } else { 0xfffe };
+        file.write((width, height), lent, seed);
+    }
+    for (width, height, lent) in [(16_385, 0, 3), (0, 16_385, 3), (5, 4, 19), (16_384, 16_384, 0)] {
+        file.write((width, height), lent, 6);
+    }
+    // As many rows as there are offsets, one more, and a stream that is too long.
+    for (width, height) in [(0, 300), (1, 300), (0, 301), (1, 301), (160, 120)] {
+        file.write((width, height), width * height, 8);
+    }
 }
 
 /// Writes the file, and tells how many calls it has.

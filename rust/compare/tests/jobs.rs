@@ -44,8 +44,3 @@ fn faults_are_told_in_order() {
     assert_eq!(text(b"SMR\x01\x00\xff\xff\x01\x00\x00\x00\x00\x00"), "job 3\n", "the samples, before the frame");
     assert_eq!(text(b"SMR\x01\x00\xff\xff\x00\x00"), "refused 1\n");
 }
-
-#[test]
-fn cases_are_the_same_each_time() {
-    assert!(jobs::files() == jobs::files());
-}

@@ -1,10 +1,12 @@
 //! V2's comparison, a quick part of it; and decoders that are wrong, each of which it must find out.
 
-use compare::call::{Entry, razvolk_of};
+use compare::call::{Answer, Ask, Entry, Lent, razvolk_of};
 use compare::v2::model::{Fault, entry};
 use compare::{refusals, v2};
-use streams::Version;
+use streams::bits::Writer;
 use streams::random::Random;
+use streams::v2::any::Header;
+use streams::{Frame, Version};
 
 fn own(fault: Fault) -> Vec<Entry> {
     [false, true].into_iter().map(|map| entry(fault, map)).collect()
@@ -18,6 +20,49 @@ fn razvolk_decodes_v2_as_the_rust_does() {
     assert!([0, 5, 6, 7, 8].iter().all(|&i| seen.numbers[i] > 0), "{seen}");
     assert!(seen.used.motions.iter().chain(&seen.used.flags).chain(&seen.used.held).all(|&n| n > 1_000), "{seen}");
     assert!(seen.deep > 60 && seen.marked > 1_000_000, "{seen}");
+}
+
+/// A stream in which one block, and those right of it in its row, have the motion, and all others repeat. Rows 0 and 1 have
+/// differences.
+fn one_motion(random: &mut Random, row: usize, block: usize, motion: u32) -> Frame {
+    let (width, height) = (646, 436);
+    let mut writer = Writer::default();
+    Header { depth: 14, options: 4, initial: 5_000 }.write(random, &mut writer);
+    for at in 0..height {
+        for col in 0..width / 16 {
+            let keeps = (at, col) != (row, block);
+            writer.put(if keeps { 1 } else { motion }, if keeps { 1 } else { 4 });
+            if at < 2 {
+                // Lengths follow: four flags 3, each length 4; sixteen differences.
+                writer.put(0x0ff_4444, 25);
+                writer.put(random.number() as u32, 32);
+                writer.put(random.number() as u32, 32);
+            } else {
+                writer.put(1, 1);
+            }
+        }
+        writer.align(16);
+    }
+    Frame { version: Version::V2, width, height, stream: writer.finish(), offsets: Vec::new() }
+}
+
+#[test]
+fn number_6_comes_exactly_at_row_2_column_0_motions_0_to_2() {
+    let mut random = Random::new(8);
+    for (row, block, motion) in (0..32).map(|i| (2 + i / 16, i / 8 % 2, i as u32 % 8)) {
+        let frame = one_motion(&mut random, row, block, motion);
+        let old: Vec<u16> = (0..frame.samples()).map(|_| random.number() as u16).collect();
+        let (expected, samples) = v2::compare::rust(&frame, &old);
+        let six = row == 2 && block == 0 && motion < 3;
+        assert_eq!(expected.number, if six { 6 } else { 0 }, "row {row}, block {block}, motion {motion}");
+        for entry in razvolk_of(Version::V2) {
+            let (mut out, mut map) = (old.clone(), vec![1; old.len()]);
+            let answer = entry.call(&Ask::of(&frame), &mut Lent { samples: &mut out, map: &mut map, scratch: &mut [] });
+            let at = if six { Answer { number: 6, row: 2 } } else { Answer::DONE };
+            assert_eq!(answer, at, "{}: row {row}, block {block}, motion {motion}", entry.name);
+            assert!(out == samples, "{}: row {row}, block {block}, motion {motion}", entry.name);
+        }
+    }
 }
 
 #[test]

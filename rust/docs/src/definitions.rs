@@ -1,4 +1,4 @@
-//! The rules in words: docs/RULES.md names every definition of crates/rules/specs, and no other.
+//! The rules in words: docs/RULES.md names every definition of the crates that define them, and no other.
 
 use crate::markdown::names;
 

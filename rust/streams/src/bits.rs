@@ -27,6 +27,11 @@ impl Writer {
         }
     }
 
+    /// How many bits the open word lacks; 0 where none is open.
+    pub fn to_a_word(&self) -> u32 {
+        (32 - self.count) % 32
+    }
+
     /// Fills up with zeros to the next multiple of `bytes`, which is a multiple of 4.
     pub fn align(&mut self, bytes: usize) {
         while self.count > 0 || !self.bytes.len().is_multiple_of(bytes) {

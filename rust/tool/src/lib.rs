@@ -1,21 +1,24 @@
 //! The tool `razvolk` as a library, so that its tests and the fuzzer run what its user runs. [`main`] reads the command line
 //! ([`options`]) and the files that it names ([`input`]), finds the frame ([`srw`]), decodes it and tells what it rests on
-//! ([`look`], [`worker`], [`report`]), and writes what is asked for ([`picture`]: [`pgm`], [`png`]) without harm to a file
+//! ([`look`], [`worker`], [`report`]), and writes what is asked for ([`form`]: [`pgm`], [`png`], [`v0`]) without harm to a file
 //! ([`output`]).
 #![forbid(unsafe_code)]
 
 mod deflate;
+pub mod form;
 pub mod input;
 pub mod look;
 pub mod options;
 pub mod output;
 pub mod pgm;
-pub mod picture;
+pub mod planes;
 pub mod png;
 pub mod report;
 pub mod srw;
+pub mod v0;
 pub mod worker;
 
+use form::Form;
 use input::Input;
 use look::Look;
 use options::{Asked, Bare, Options};
@@ -56,13 +59,17 @@ fn look(options: &Options) -> Result<ExitCode, String> {
     let before = over.as_ref().map(|over| Ok::<_, String>((over.name(), camera(over)?))).transpose()?;
     let look = Look::at(&file.name(), &frame, before.as_ref().map(|(name, frame)| (name.as_str(), frame)))?;
     told(&look.text)?;
-    if let Some((samples, marks)) = look.decoded() {
+    if let Some(path) = &options.write_v0 {
+        told(&report::stored(path, look.answer, look.decoded().map(|frame| frame.marks)))?;
+    }
+    if let Some(decoded) = look.decoded() {
         let stage = |((form, _), place): (_, Place)| {
-            let bytes = picture::file(form, samples, marks, frame.width, options.white);
-            let bytes = bytes.ok_or_else(|| place.fault("a frame of no samples makes no picture"))?;
+            let bytes = form::file(form, decoded, options.white).map_err(|what| place.fault(what))?;
             place.stage(&bytes)
         };
-        let staged = outputs.into_iter().zip(places).map(stage).collect::<Result<Vec<Staged>, String>>()?;
+        // A picture shows what there is of a refused frame; stored as V0 it would pass for a whole one.
+        let written = outputs.into_iter().zip(places).filter(|((form, _), _)| *form != Form::V0 || look.answer.is_ok());
+        let staged = written.map(stage).collect::<Result<Vec<Staged>, String>>()?;
         staged.into_iter().try_for_each(Staged::put)?;
     }
     Ok(ExitCode::from(u8::from(look.answer.is_err())))

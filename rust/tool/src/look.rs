@@ -1,16 +1,18 @@
 //! A look at a frame: all that the tool does between reading its files and writing others.
 
-use crate::picture::{self, Form};
+use crate::form::{self, Decoded, Form};
 use crate::report;
 use crate::srw::{self, Fault, Frame};
 use crate::worker::{self, Worker};
-use razvolk::{MAX_SIDE, Marks, Refusal};
+use razvolk::{MAX_SIDE, Refusal};
 
 /// A frame that was decoded, and what is told of it.
 pub struct Look {
     pub text: String,
     pub answer: Result<(), Refusal>,
     worker: Worker,
+    width: usize,
+    height: usize,
 }
 
 impl Look {
@@ -29,12 +31,13 @@ impl Look {
         let answer = worker.decode(frame);
         text += &format!("{}\n{}\n", report::heading(name, frame), report::answer(answer));
         text += &report::marks(worker.frame().map(|(_, marks)| marks), frame.width);
-        Ok(Look { text, answer, worker })
+        Ok(Look { text, answer, worker, width: frame.width, height: frame.height })
     }
 
     /// The frame's samples and marks, if its stream was begun.
-    pub fn decoded(&self) -> Option<(&[u16], Marks<'_>)> {
-        self.worker.frame()
+    pub fn decoded(&self) -> Option<Decoded<'_>> {
+        let &Look { width, height, .. } = self;
+        self.worker.frame().map(|(samples, marks)| Decoded { samples, marks, width, height })
     }
 }
 
@@ -47,11 +50,22 @@ pub fn seen(file: &[u8]) -> Result<String, Fault> {
         return Ok(report::heading("file", &frame));
     }
     let look = Look::at("file", &frame, None).expect("few samples");
-    if let Some((samples, marks)) = look.decoded() {
-        for form in [Form::Pgm, Form::Png] {
-            let file = picture::file(form, samples, marks, frame.width, None);
-            assert_eq!(file.is_none(), samples.is_empty());
+    if let Some(decoded) = look.decoded() {
+        for form in [Form::Pgm, Form::Png, Form::Planes] {
+            assert_eq!(form::file(form, decoded, None).is_err(), decoded.samples.is_empty());
         }
+        stored(decoded);
     }
     Ok(look.text)
+}
+
+/// Written as V0, a frame is read again: its samples are the same, and all rest on the stream.
+fn stored(decoded: Decoded) {
+    let file = form::file(Form::V0, decoded, None);
+    assert_eq!(file.is_err(), decoded.samples.iter().any(|&sample| sample > 16_383));
+    let Ok(file) = file else { return };
+    let frame = srw::frame(&file).expect("a frame");
+    let look = Look::at("stored", &frame, None).expect("few samples");
+    let again = look.decoded().expect("done");
+    assert!(look.answer.is_ok() && again.samples == decoded.samples && again.marks.is_clean());
 }

@@ -1,11 +1,11 @@
 //! What is asked for on the command line.
 
-use crate::picture::Form;
+use crate::form::Form;
 use std::ffi::OsString;
 use std::path::{Path, PathBuf};
 
 pub const HELP: &str = "\
-razvolk: decodes a Samsung raw frame and shows which of its samples rest on what the buffer held before
+razvolk: decodes a Samsung raw frame, shows which of its samples rest on what the buffer held before, and writes V0
 
 usage: razvolk [OPTIONS] FILE.srw
        razvolk [OPTIONS] --v0 WIDTHxHEIGHT --offsets FILE STREAM
@@ -17,6 +17,9 @@ usage: razvolk [OPTIONS] FILE.srw
   --over FILE.srw  decode this frame first, into the same buffer, as a worker would; else the buffer holds zeros
   --pgm FILE       write the samples, 16 bits each
   --png FILE       write a picture in which samples that rest on old values are tinted red
+  --planes FILE    write such a picture of the four colour planes, side by side: even rows and even columns, even and odd, odd
+                   and even, odd and odd
+  --write-v0 FILE  write the samples as V0, none above 16,383, in a file that this tool reads again
   --force          replace files of these names; a file that is read is never written over
   --white NUMBER   the sample that is white in the picture (the largest, if none is told)
   --help, --version
@@ -40,6 +43,8 @@ pub struct Options {
     pub over: Option<PathBuf>,
     pub pgm: Option<PathBuf>,
     pub png: Option<PathBuf>,
+    pub planes: Option<PathBuf>,
+    pub write_v0: Option<PathBuf>,
     pub force: bool,
     pub white: Option<u16>,
 }
@@ -52,7 +57,8 @@ impl Options {
 
     /// What is to be written, and where.
     pub fn outputs(&self) -> Vec<(Form, &Path)> {
-        let all = [(Form::Pgm, &self.pgm), (Form::Png, &self.png)];
+        let all =
+            [(Form::Pgm, &self.pgm), (Form::Png, &self.png), (Form::Planes, &self.planes), (Form::V0, &self.write_v0)];
         all.into_iter().filter_map(|(form, path)| Some((form, path.as_deref()?))).collect()
     }
 }
@@ -81,6 +87,8 @@ pub fn read(words: impl IntoIterator<Item = OsString>) -> Result<Asked, String> 
             "--over" => once(&name, &mut options.over, value()?.into())?,
             "--pgm" => once(&name, &mut options.pgm, value()?.into())?,
             "--png" => once(&name, &mut options.png, value()?.into())?,
+            "--planes" => once(&name, &mut options.planes, value()?.into())?,
+            "--write-v0" => once(&name, &mut options.write_v0, value()?.into())?,
             "--force" => options.force = true,
             "--white" => once(&name, &mut options.white, white(&value()?)?)?,
             "--" => files.extend(words.by_ref()),
@@ -145,10 +153,12 @@ mod tests {
             over: Some("b.srw".into()),
             pgm: Some("c".into()),
             png: Some("d".into()),
+            planes: Some("e".into()),
+            write_v0: Some("f".into()),
             force: true,
             white: Some(4_095),
         };
-        let line = "--over b.srw a.srw --force --pgm c --png d --white 4095";
+        let line = "--over b.srw a.srw --force --pgm c --png d --planes e --write-v0 f --white 4095";
         assert_eq!(asked(line), Ok(Asked::Look(options)));
         assert_eq!(asked("-- --x"), Ok(Asked::Look(Options { file: "--x".into(), ..Options::default() })));
         assert_eq!((asked("a --help"), asked("--version")), (Ok(Asked::Help), Ok(Asked::Version)));
@@ -171,6 +181,7 @@ mod tests {
             ("--png", "--png needs a value"),
             ("--gif a", "there is no option --gif"),
             ("--png a --png b c", "--png is told twice"),
+            ("a --write-v0", "--write-v0 needs a value"),
             ("--v0 2x2 s", "a bare V0 stream needs --offsets"),
             ("--v2 2x2 --offsets o s", "--offsets goes with --v0 alone"),
             ("--offsets o s", "--offsets goes with --v0 alone"),

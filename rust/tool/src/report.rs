@@ -3,6 +3,7 @@
 use crate::srw::Frame;
 use razvolk::{Marks, Refusal};
 use std::fmt::Write;
+use std::path::Path;
 
 /// What the file holds.
 pub fn heading(name: &str, frame: &Frame) -> String {
@@ -39,6 +40,18 @@ pub fn marks(marks: Option<Marks>, width: usize) -> String {
         .expect("a string");
     }
     text
+}
+
+/// What is to be known of a frame that is to be written as V0: one that was refused isn't, and marks are not stored.
+pub fn stored(path: &Path, answer: Result<(), Refusal>, marks: Option<Marks>) -> String {
+    let path = path.display();
+    match (answer, marks.map_or(0, Marks::count)) {
+        (Err(_), _) => format!("{path}: not written, since the frame is refused\n"),
+        (Ok(()), 0) => String::new(),
+        (Ok(()), old) => {
+            format!("{path}: {old} samples that rest on what the buffer held are stored, and not marked\n")
+        }
+    }
 }
 
 /// Rows that follow one another and have as many marked samples each.

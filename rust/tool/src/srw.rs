@@ -4,6 +4,7 @@
 //! Nothing that a file says is believed beyond the file's own end, and nothing is allocated but the offset table, which is no
 //! longer than the file.
 
+use container::{compression, tag};
 use razvolk::MAX_SIDE;
 use std::collections::VecDeque;
 use std::fmt;
@@ -61,14 +62,6 @@ impl fmt::Display for Fault {
     }
 }
 
-const WIDTH: u16 = 256;
-const HEIGHT: u16 = 257;
-const COMPRESSION: u16 = 259;
-const STRIP_OFFSETS: u16 = 273;
-const STRIP_BYTES: u16 = 279;
-const SUB_DIRECTORIES: u16 = 330;
-const ROW_OFFSETS: u16 = 40976;
-
 /// How many directories are looked at; a camera writes a handful.
 const MOST_DIRECTORIES: usize = 64;
 
@@ -77,11 +70,13 @@ pub fn frame(file: &[u8]) -> Result<Frame<'_>, Fault> {
     let tiff = Tiff::open(file).ok_or(Fault::NotTiff)?;
     let mut nearest = Fault::NoFrame;
     for directory in tiff.directories() {
-        match tiff.number(directory, COMPRESSION) {
-            Some(32_773) => return tiff.frame(directory, false),
-            Some(32_770) if tiff.entry(directory, ROW_OFFSETS).is_some() => return tiff.frame(directory, true),
-            Some(32_770) => nearest = Fault::Uncompressed,
-            Some(32_772) => nearest = Fault::V1,
+        match tiff.number(directory, tag::COMPRESSION) {
+            Some(compression::V2) => return tiff.frame(directory, false),
+            Some(compression::V0) if tiff.entry(directory, tag::ROW_OFFSETS).is_some() => {
+                return tiff.frame(directory, true);
+            }
+            Some(compression::V0) => nearest = Fault::Uncompressed,
+            Some(compression::V1) => nearest = Fault::V1,
             _ => {}
         }
     }
@@ -134,7 +129,7 @@ impl<'a> Tiff<'a> {
             let within = self.bytes.len().saturating_sub(at) / 12;
             let directory = Directory { at, entries: within.min(told as usize) };
             found.push(directory);
-            if let Some(below) = self.entry(directory, SUB_DIRECTORIES) {
+            if let Some(below) = self.entry(directory, tag::SUB_DIRECTORIES) {
                 let numbers = (0..below.count.min(MOST_DIRECTORIES as u32)).map_while(|i| self.nth(&below, i));
                 coming.extend(numbers);
             }
@@ -172,16 +167,17 @@ impl<'a> Tiff<'a> {
     }
 
     fn frame(&self, directory: Directory, v0: bool) -> Result<Frame<'a>, Fault> {
-        let (width, height) = (self.need(directory, WIDTH)?, self.need(directory, HEIGHT)?);
-        let strips = self.entry(directory, STRIP_OFFSETS).map_or(0, |entry| entry.count);
+        let (width, height) = (self.need(directory, tag::WIDTH)?, self.need(directory, tag::HEIGHT)?);
+        let strips = self.entry(directory, tag::STRIP_OFFSETS).map_or(0, |entry| entry.count);
         if strips > 1 {
             return Err(Fault::Strips(strips));
         }
         // What an upload that broke off still has.
-        let rest = self.bytes.get(self.need(directory, STRIP_OFFSETS)?..).unwrap_or_default();
-        let told = self.number(directory, STRIP_BYTES).map_or(rest.len(), |told| told as usize);
+        let rest = self.bytes.get(self.need(directory, tag::STRIP_OFFSETS)?..).unwrap_or_default();
+        let told = self.number(directory, tag::STRIP_BYTES).map_or(rest.len(), |told| told as usize);
         let stream = &rest[..told.min(rest.len())];
-        let coding = if v0 { Coding::V0(self.table(self.need(directory, ROW_OFFSETS)?, height)?) } else { Coding::V2 };
+        let coding =
+            if v0 { Coding::V0(self.table(self.need(directory, tag::ROW_OFFSETS)?, height)?) } else { Coding::V2 };
         Ok(Frame { coding, width, height, stream, missing: told - stream.len() })
     }
 

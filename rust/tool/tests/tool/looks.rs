@@ -1,12 +1,12 @@
 //! What is printed of a frame, and written of it.
 
-use crate::folder::{Folder, bad, done, refused};
+use crate::folder::{Folder, Ran, bad, done, refused};
 use std::fs;
 use std::path::PathBuf;
 use streams::images::{christening, sitting};
 use streams::srw::{self, LONG, SHORT, directory};
 use streams::v0::encode::with_band;
-use streams::{Frame, Version, v0};
+use streams::{Frame, Version, v0, v2};
 
 #[test]
 fn a_frame_over_another() {
@@ -15,10 +15,14 @@ fn a_frame_over_another() {
     folder.put("next.srw", srw::file(&with_band(&christening(40, 6), 40, 6, 2)));
     let text = "over first.srw: V0, 40 by 6, 408 bytes of stream\ndone\nnext.srw: V0, 40 by 6, 200 bytes of stream\ndone\n\
         80 of 240 samples rest on what the buffer held before\n  rows 0 to 1: 40 of 40 each\n";
-    assert_eq!(folder.run("--over first.srw next.srw --pgm next.pgm --png next.png"), done(text));
+    assert_eq!(folder.run("--over first.srw next.srw --pgm next.pgm --png next.png --planes planes.png"), done(text));
     let pgm = folder.get("next.pgm").expect("samples");
     assert_eq!((&pgm[..13], pgm.len()), (&b"P5\n40 6\n65535"[..], 14 + 480));
-    assert!(folder.get("next.png").expect("a picture").starts_with(b"\x89PNG\r\n\x1a\n"));
+    for (name, width, height) in [("next.png", 40, 6), ("planes.png", 80, 3)] {
+        let picture = folder.get(name).expect("a picture");
+        assert!(picture.starts_with(b"\x89PNG\r\n\x1a\n"));
+        assert_eq!(picture[16..24], [0, 0, 0, width, 0, 0, 0, height], "{name}");
+    }
 }
 
 /// The README shows the picture and the text that `make picture` makes.
@@ -53,6 +57,76 @@ fn bare_streams() {
         281016 of 281656 samples rest on what the buffer held before\n  row 0: 6 of 646\n  rows 1 to 435: 646 of 646 each\n";
     assert_eq!(folder.run("--v2 646x436 v2 --png v2.png"), refused(text));
     assert!(folder.get("v2.png").is_some(), "what was decoded before the refusal can be looked at");
+}
+
+/// Writes a frame as V0 beside its samples, and reads the new file.
+fn stored(folder: &Folder, line: &str) -> (Ran, Ran) {
+    let first = folder.run(&format!("{line} --pgm first.pgm --write-v0 stored.srw"));
+    (first, folder.run("stored.srw --pgm again.pgm"))
+}
+
+#[test]
+fn a_frame_written_as_v0_is_read_again() {
+    for (width, height) in [(40, 6), (33, 7), (1, 5), (320, 200)] {
+        let folder = Folder::new(&format!("stored_{width}"));
+        folder.put("a.srw", srw::file(&v0::encode(&sitting(width, height), width, height)));
+        let (first, again) = stored(&folder, "a.srw");
+        assert!(first.0 == 0 && first.2.is_empty(), "{first:?}");
+        let len = folder.get("stored.srw").expect("a file").len() - 140 - 4 * height;
+        let n = width * height;
+        let text = format!(
+            "stored.srw: V0, {width} by {height}, {len} bytes of stream\ndone\nall {n} samples rest on the stream\n"
+        );
+        assert_eq!(again, done(&text));
+        assert!(folder.get("again.pgm") == folder.get("first.pgm") && folder.get("again.pgm").is_some());
+    }
+}
+
+#[test]
+fn a_frame_of_no_samples_is_written_as_v0() {
+    let folder = Folder::new("stored_none");
+    folder.put("none", []);
+    folder.put("offsets", "7 7 7");
+    for size in ["5x0", "0x3"] {
+        let (status, ..) = folder.run(&format!("--v0 {size} --offsets offsets none --write-v0 stored.srw --force"));
+        let (width, height) = size.split_once('x').expect("a size");
+        let text =
+            format!("stored.srw: V0, {width} by {height}, 0 bytes of stream\ndone\nall 0 samples rest on the stream\n");
+        assert_eq!((status, folder.run("stored.srw")), (0, done(&text)));
+    }
+}
+
+#[test]
+fn samples_that_rest_on_old_values_are_stored_and_told_of() {
+    let folder = Folder::new("stored_marked");
+    folder.put("v2.srw", srw::file(&v2::encode(&christening(646, 436), 646, 436)));
+    let ((status, text, fault), again) = stored(&folder, "v2.srw");
+    assert!(status == 0 && fault.is_empty());
+    let told = "stored.srw: 2616 samples that rest on what the buffer held are stored, and not marked";
+    assert_eq!(text.lines().last(), Some(told));
+    assert!(again.1.ends_with("done\nall 281656 samples rest on the stream\n"), "{again:?}");
+    assert!(folder.get("again.pgm") == folder.get("first.pgm"));
+}
+
+#[test]
+fn what_cannot_be_written_as_v0() {
+    let folder = Folder::new("not_stored");
+    // A sample above 16,383: refusal 9, and nothing is written, the samples neither.
+    let bright: Vec<u16> = (0..240).map(|i| if i == 77 { 16_384 } else { 1_000 }).collect();
+    folder.put("bright.srw", srw::file(&v0::encode(&bright, 40, 6)));
+    let (status, text, fault) = folder.run("bright.srw --pgm x.pgm --write-v0 x.srw");
+    assert_eq!((status, text.lines().last()), (2, Some("all 240 samples rest on the stream")));
+    assert_eq!(fault, "razvolk: x.srw: can't be written as V0: a sample is above 16,383\n");
+    assert_eq!(folder.names(), ["bright.srw"]);
+    // A frame that is refused: its picture is written, and no frame that would pass for a whole one.
+    folder.put("v2", [0; 16]);
+    let (status, text, fault) = folder.run("--v2 646x436 v2 --pgm x.pgm --write-v0 x.srw");
+    assert_eq!((status, fault.as_str()), (1, ""));
+    assert_eq!(text.lines().last(), Some("x.srw: not written, since the frame is refused"));
+    assert_eq!(folder.names(), ["bright.srw", "v2", "x.pgm"]);
+    let (status, text, _) = folder.run("--v2 645x436 v2 --write-v0 x.srw");
+    assert_eq!((status, text.lines().last()), (1, Some("x.srw: not written, since the frame is refused")));
+    assert!(folder.get("x.srw").is_none());
 }
 
 #[test]

@@ -41,7 +41,7 @@ fn a_raw_file_taken_for_the_output_is_kept() {
 #[test]
 fn a_file_that_is_there_is_replaced_by_force_alone() {
     let folder = folder("there");
-    for output in ["--pgm", "--png"] {
+    for output in ["--pgm", "--png", "--planes", "--write-v0"] {
         folder.put("old", "old");
         refused(&folder, &format!("a.srw {output} old"), &format!("old: {THERE}"));
         assert!(is_done(&folder.run(&format!("a.srw {output} old --force"))));
@@ -57,6 +57,7 @@ fn one_output_that_is_there_keeps_the_other_from_being_written() {
     folder.put("old", "old");
     refused(&folder, "a.srw --pgm new --png old", &format!("old: {THERE}"));
     refused(&folder, "a.srw --pgm old --png new", &format!("old: {THERE}"));
+    refused(&folder, "a.srw --pgm new --write-v0 old", &format!("old: {THERE}"));
 }
 
 #[test]
@@ -69,7 +70,7 @@ fn an_input_is_never_written_over() {
     symlink("link", folder.0.join("link to a link")).expect("a link");
     fs::hard_link(&own, folder.0.join("second")).expect("a second name");
     for name in ["a.srw", "./a.srw", &own.display().to_string(), "link", "second"] {
-        for output in ["--pgm", "--png"] {
+        for output in ["--pgm", "--png", "--planes", "--write-v0"] {
             let fault = format!("{name}: {READ}");
             refused(&folder, &format!("a.srw {output} {name}"), &fault);
             refused(&folder, &format!("a.srw {output} {name} --force"), &fault);
@@ -124,6 +125,7 @@ fn two_outputs_are_two_files() {
         ("a.srw --pgm x --png x", "x"),
         ("a.srw --pgm x --png ./x", "./x"),
         ("a.srw --pgm old --png link --force", "link"),
+        ("a.srw --pgm x --write-v0 x", "x"),
     ] {
         refused(&folder, line, &format!("{name}: two outputs can't be one file"));
     }

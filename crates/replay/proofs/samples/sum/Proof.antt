@@ -14,14 +14,14 @@ abbrev μ-loop : tie.MeasureT-loop
 loop-holds : tie.Need-loop-holds Inv-loop μ-loop
 loop-holds c = search needs
 
-mul-next-sum : tie.Need-mul-next-sum Inv-loop μ-loop
-mul-next-sum c = search needs
+mul-next-by-sample : tie.Need-mul-next-by-sample Inv-loop μ-loop
+mul-next-by-sample c = search needs
 
-shared-slice-read-next-sum : tie.Need-shared-slice-read-next-sum Inv-loop μ-loop
-shared-slice-read-next-sum c = search needs
+shared-slice-read-next-by-sample : tie.Need-shared-slice-read-next-by-sample Inv-loop μ-loop
+shared-slice-read-next-by-sample c = search needs
 
-next-sum-requires : tie.Need-next-sum-requires Inv-loop μ-loop
-next-sum-requires c κs = search needs
+next-by-sample-requires : tie.Need-next-by-sample-requires Inv-loop μ-loop
+next-by-sample-requires c κs = search needs
 
 add-i : tie.Need-add-i Inv-loop μ-loop
 add-i c = search needs
@@ -42,9 +42,9 @@ sum-spec =
     Inv-loop
     μ-loop
     loop-holds
-    mul-next-sum
-    shared-slice-read-next-sum
-    next-sum-requires
+    mul-next-by-sample
+    shared-slice-read-next-by-sample
+    next-by-sample-requires
     add-i
     loop-less
     loop-again

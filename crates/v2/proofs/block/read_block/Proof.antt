@@ -23,14 +23,14 @@ next-motion-requires : tie.Need-next-motion-requires
 next-motion-requires c κs = search needs
 
 refusal-of-requires : tie.Need-refusal-of-requires
-refusal-of-requires c κs = let a = c .before .before .before .before .before .before .before in (a .pre .0 .inside .placed, own-motion _ _ _ _ _ _ (a .pre .0) _ (c .before .next-motion .ensures))
+refusal-of-requires c κs = search needs
 
 returns : tie.Need-returns
 returns c =
     let a = c .before .before .before .before .before .before .before .before .before in
     let z = a .args .state .scale in
     let ec = rw (toZ-ofZ w32 z (scale-fits z (ready-scale (now (a .args .src)) _ _ _ (a .args .bits) _ (a .pre .0)))) at (c .before .before .before .before .before .next-scale .ensures) in
-    let q = block-early _ _ _ _ _ _ _ _ (now (a .args .mode)) _ ec _ (c .before .before .before .next-motion .ensures) _ (c .before .refusal-of .ensures) (c .if1 .taken) in
+    let q = block-early _ _ _ _ _ _ _ (now (a .args .mode)) _ ec _ (c .before .before .before .next-motion .ensures) _ (c .before .refusal-of .ensures) (c .if1 .taken) in
     (q .0, (q .1, kept-early _ _ _))
 
 returns-2 : tie.Need-returns-2
@@ -38,14 +38,14 @@ returns-2 c =
     let a = c .before .before .before .before .before .before .before .before .before .before in
     let z = a .args .state .scale in
     let ec = rw (toZ-ofZ w32 z (scale-fits z (ready-scale (now (a .args .src)) _ _ _ (a .args .bits) _ (a .pre .0)))) at (c .before .before .before .before .before .before .next-scale .ensures) in
-    let q = block-outside _ _ _ _ _ _ _ _ (now (a .args .mode)) _ ec _ (c .before .before .before .before .next-motion .ensures) _ (c .before .before .refusal-of .ensures) (c .if2 .taken) in
+    let q = block-outside _ _ _ _ _ _ _ (now (a .args .mode)) _ ec _ (c .before .before .before .before .next-motion .ensures) _ (c .before .before .refusal-of .ensures) (c .if2 .taken) in
     (q .0, (q .1, kept-outside _ _ _))
 
 bases-requires : tie.Need-bases-requires
 bases-requires c κs =
     let a = c .before .before .before .before .before .before .before .before .before .before .before in
     let ek = c .before .before .before .refusal-of .ensures in
-    (a .pre .0 .inside, (own-motion _ _ _ _ _ _ (a .pre .0) _ (c .before .before .before .before .before .next-motion .ensures), (refl, sym ek ∙ refusal-zero _ _ _ _ _ _ ek (c .before .before .if1 .left) (c .before .if2 .left))))
+    (a .pre .0 .inside, (own-motion _ _ _ _ _ _ (a .pre .0) _ (c .before .before .before .before .before .next-motion .ensures), (refl, sym ek ∙ refusal-zero _ _ _ _ ek (c .before .before .if1 .left) (c .before .if2 .left))))
 
 read-tail-requires : tie.Need-read-tail-requires
 read-tail-requires c κs =
@@ -68,12 +68,12 @@ returns-3 c =
     let e6 = ne-eqb _ _ (c .before .before .before .before .before .before .before .if2 .left) in
     let m = now (a .args .mode) in
     let r = simp (toZ-ofZ w32 y (scale-fits y (own-scale _ _ _ _ _ _ (a .pre .0) _ ec))) at (c .read-tail .ensures) in (
-      r .0 ∙ sym (block-outcome _ _ _ _ _ _ _ _ m _ ec _ em _ ek e5 e6),
+      r .0 ∙ sym (block-outcome _ _ _ _ _ _ _ m _ ec _ em _ ek e5 e6),
       (
-        r .1 .0 ∙ sym (block-mode _ _ _ _ _ _ _ _ m _ ec _ em _ ek e5 e6),
+        r .1 .0 ∙ sym (block-mode _ _ _ _ _ _ _ m _ ec _ em _ ek e5 e6),
         r .1 .1
             ∙ ap (λ (new : List ℕ). written (c .read-tail .result) new (now (a .args .samples)))
-            (block-samples _ _ _ _ _ _ _ _ m _ ec _ em _ ek e5 e6 (now (a .args .out)) _ (c .before .before .before .before .before .bases .ensures)),
+            (block-samples _ _ _ _ _ _ _ m _ ec _ em _ ek e5 e6 (now (a .args .out)) _ (c .before .before .before .before .before .bases .ensures)),
       ),
     )
 

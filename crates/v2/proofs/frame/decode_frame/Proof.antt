@@ -16,60 +16,60 @@ use Rattle.v2.proofs.FrameLaws.{RowGoing, row-starts, row-ends, row-sto
 use Rattle.v2.proofs.frame.decode_frame.Statement.{statement}
 use Rattle.v2.proofs.frame.decode_frame.Tie as tie
 
-abbrev Inv-row : tie.InvT-row
-Inv-row src out₀ map₀ width height hdr answer₀ bits₀ row state₀ mode₀ col₀ out map answer bits state mode col =
+abbrev Inv-loop : tie.InvT-loop
+Inv-loop src out₀ map₀ width height hdr answer₀ bits₀ row state₀ mode₀ col₀ out map answer bits state mode col =
     (length out ≡ width * height) × ((length map ≡ length map₀) × ((answer ≡ answer₀)
-    × RowGoing (top hdr) src hdr (width * height) width row (blocks src hdr (width * height) width row (width / 16) 0 bits₀ state₀ mode₀) out₀ map₀ col bits state mode out map))
+    × RowGoing (top hdr) src hdr width row (blocks src hdr width row (width / 16) 0 bits₀ state₀ mode₀) out₀ map₀ col bits state mode out map))
 
-abbrev μ-row : tie.MeasureT-row
-μ-row src out₀ map₀ width height hdr answer₀ bits₀ row state₀ mode₀ col₀ out map answer bits state mode col = width - col
+abbrev μ-loop : tie.MeasureT-loop
+μ-loop src out₀ map₀ width height hdr answer₀ bits₀ row state₀ mode₀ col₀ out map answer bits state mode col = width - col
 
 abbrev Inv-frame : tie.InvT-frame
 Inv-frame src out₀ map₀ width height hdr answer₀ bits₀ row₀ out map answer bits row =
     (row ≤ height) × ((length out ≡ width * height) × ((length map ≡ length map₀) × ((answer ≡ record { number = 0; row = 0 })
-    × FrameGoing (top hdr) src hdr (width * height) width height (rows src hdr (width * height) width height 0 bits₀) out₀ map₀ row bits out map)))
+    × FrameGoing (top hdr) src hdr width height (rows src hdr width height 0 bits₀) out₀ map₀ row bits out map)))
 
 abbrev μ-frame : tie.MeasureT-frame
 μ-frame src out₀ map₀ width height hdr answer₀ bits₀ row₀ out map answer bits row = height - row
 
-read-header-requires : tie.Need-read-header-requires Inv-row μ-row Inv-frame μ-frame
+read-header-requires : tie.Need-read-header-requires Inv-loop μ-loop Inv-frame μ-frame
 read-header-requires c κs = search needs
 
-done-requires : tie.Need-done-requires Inv-row μ-row Inv-frame μ-frame
+done-requires : tie.Need-done-requires Inv-loop μ-loop Inv-frame μ-frame
 done-requires c κs = search needs
 
-frame-holds : tie.Need-frame-holds Inv-row μ-row Inv-frame μ-frame
-frame-holds c = (omega arith, (c .before .before .before .before .before .before .before .pre .samples-lent, (refl, (c .before .done .ensures, frame-starts _ _ _ _ _ _ _ _ _))))
+frame-holds : tie.Need-frame-holds Inv-loop μ-loop Inv-frame μ-frame
+frame-holds c = (omega arith, (c .before .before .before .before .before .before .before .pre .samples-lent, (refl, (c .before .done .ensures, frame-starts _ _ _ _ _ _ _ _))))
 
-align-requires : tie.Need-align-requires Inv-row μ-row Inv-frame μ-frame
+align-requires : tie.Need-align-requires Inv-loop μ-loop Inv-frame μ-frame
 align-requires c κs = search needs
 
-fresh-requires : tie.Need-fresh-requires Inv-row μ-row Inv-frame μ-frame
+fresh-requires : tie.Need-fresh-requires Inv-loop μ-loop Inv-frame μ-frame
 fresh-requires c κs = search needs
 
-mode-requires : tie.Need-mode-requires Inv-row μ-row Inv-frame μ-frame
+mode-requires : tie.Need-mode-requires Inv-loop μ-loop Inv-frame μ-frame
 mode-requires c κs = search needs
 
-row-holds : tie.Need-row-holds Inv-row μ-row Inv-frame μ-frame
-row-holds c = (c .before .before .before .before .frame .inv .1 .0, (refl, (refl, row-starts _ _ _ _ _ _ _ _ _ _ _ (c .before .fresh .ensures))))
+loop-holds : tie.Need-loop-holds Inv-loop μ-loop Inv-frame μ-frame
+loop-holds c = (c .before .before .before .before .frame .inv .1 .0, (refl, (refl, row-starts _ _ _ _ _ _ _ _ _ _ (c .before .fresh .ensures))))
 
-add-row : tie.Need-add-row Inv-row μ-row Inv-frame μ-frame
-add-row c = search needs
+add-loop : tie.Need-add-loop Inv-loop μ-loop Inv-frame μ-frame
+add-loop c = search needs
 
 abbrev In : Type 0
-In = tie.In-row Inv-row μ-row Inv-frame μ-frame
+In = tie.In-loop Inv-loop μ-loop Inv-frame μ-frame
 
-placed : (c : In) → Placed (record { width = c .before .before .before .before .before .before .before .before .before .before .before .before .before .before .args .size .width; row = c .before .before .before .before .before .before .frame .row; col = c .before .row .col })
+placed : (c : In) → Placed (record { width = c .before .before .before .before .before .before .before .before .before .before .before .before .before .before .args .size .width; row = c .before .before .before .before .before .before .frame .row; col = c .before .loop .col })
 placed c =
     let q : c .before .before .before .before .before .before .frame .row < c .before .before .before .before .before .before .before .before .before .before .before .before .before .before .args .size .height = c .before .before .before .before .before .frame-test .taken in
-    record { wide = c .before .before .before .before .before .before .before .before .before .before .before .before .before .before .pre .width; high = omega (arith, c .before .before .before .before .before .before .before .before .before .before .before .before .before .before .pre .height); column = c .row-test .taken; whole = c .before .row .inv .1 .1 .1 .whole-blocks }
+    record { wide = c .before .before .before .before .before .before .before .before .before .before .before .before .before .before .pre .width; high = omega (arith, c .before .before .before .before .before .before .before .before .before .before .before .before .before .before .pre .height); column = c .loop-test .taken; whole = c .before .loop .inv .1 .1 .1 .whole-blocks }
 
-room : (c : In) → c .before .before .before .before .before .before .frame .row * c .before .before .before .before .before .before .before .before .before .before .before .before .before .before .args .size .width + c .before .row .col + 16 ≤ cells (c .before .before .before .before .before .before .before .before .before .before .before .before .before .before .args .size)
-room c = block-inside (c .before .before .before .before .before .before .before .before .before .before .before .before .before .before .args .size) (c .before .before .before .before .before .before .frame .row) (c .before .row .col) (c .before .before .before .before .before .frame-test .taken) (c .row-test .taken)
+room : (c : In) → c .before .before .before .before .before .before .frame .row * c .before .before .before .before .before .before .before .before .before .before .before .before .before .before .args .size .width + c .before .loop .col + 16 ≤ cells (c .before .before .before .before .before .before .before .before .before .before .before .before .before .before .args .size)
+room c = block-inside (c .before .before .before .before .before .before .before .before .before .before .before .before .before .before .args .size) (c .before .before .before .before .before .before .frame .row) (c .before .loop .col) (c .before .before .before .before .before .frame-test .taken) (c .loop-test .taken)
 
-read-block-requires : tie.Need-read-block-requires Inv-row μ-row Inv-frame μ-frame
+read-block-requires : tie.Need-read-block-requires Inv-loop μ-loop Inv-frame μ-frame
 read-block-requires c κs =
-    let g = c .before .before .before .before .row .inv in (
+    let g = c .before .before .before .before .loop .inv in (
       record {
         depth = depth-is _ _ (c .before .before .before .before .before .before .before .before .before .before .before .before .before .read-header .ensures);
         inside = record { placed = placed (c .before .before .before); room = omega (arith, g .0, room (c .before .before .before)) };
@@ -79,62 +79,62 @@ read-block-requires c κs =
       refl,
     )
 
-enum-known-outcome : tie.Need-enum-known-outcome Inv-row μ-row Inv-frame μ-frame
+enum-known-outcome : tie.Need-enum-known-outcome Inv-loop μ-loop Inv-frame μ-frame
 enum-known-outcome c = search needs
 
-number-requires : tie.Need-number-requires Inv-row μ-row Inv-frame μ-frame
+number-requires : tie.Need-number-requires Inv-loop μ-loop Inv-frame μ-frame
 number-requires c κs = search needs
 
-cast-t29 : tie.Need-cast-t29 Inv-row μ-row Inv-frame μ-frame
+cast-t29 : tie.Need-cast-t29 Inv-loop μ-loop Inv-frame μ-frame
 cast-t29 c = omega (arith, c .before .before .before .before .before .before .before .before .before .before .before .frame-test .taken, c .before .before .before .before .before .before .before .before .before .before .before .before .before .before .before .before .before .before .before .before .pre .height)
 
-first-requires : tie.Need-first-requires Inv-row μ-row Inv-frame μ-frame
+first-requires : tie.Need-first-requires Inv-loop μ-loop Inv-frame μ-frame
 first-requires c κs = placed (c .before .before .before .before .before .before .before .before)
 
-store-requires : tie.Need-store-requires Inv-row μ-row Inv-frame μ-frame
-store-requires c κs = (omega (arith, c .before .first .ensures, room (c .before .before .before .before .before .before .before .before .before .before), c .before .before .before .before .before .before .before .before .before .before .before .row .inv .0), samples-length _ _ _ _ _ _ refl (c .before .before .before .before .before .before .read-block .ensures .1 .1))
+store-requires : tie.Need-store-requires Inv-loop μ-loop Inv-frame μ-frame
+store-requires c κs = (omega (arith, c .before .first .ensures, room (c .before .before .before .before .before .before .before .before .before .before), c .before .before .before .before .before .before .before .before .before .before .before .loop .inv .0), samples-length _ _ _ _ _ _ refl (c .before .before .before .before .before .before .read-block .ensures .1 .1))
 
-mark-block-requires : tie.Need-mark-block-requires Inv-row μ-row Inv-frame μ-frame
+mark-block-requires : tie.Need-mark-block-requires Inv-loop μ-loop Inv-frame μ-frame
 mark-block-requires c κs =
-    let l = c .before .before .before .before .before .before .before .before .before .before .before .before .before .before .before .row in
-    let y = rw (l .inv .0) at (c .before .before .before .before .before .before .before .before .before .before .read-block .ensures) in
+    let l = c .before .before .before .before .before .before .before .before .before .before .before .before .before .before .before .loop in
+    let y = c .before .before .before .before .before .before .before .before .before .before .read-block .ensures in
     markable _ _ _ _ _ _ _ _ _ _ _ (sym (y .0) ∙ c .before .before .before .before .before .before .before .before .outcome .given .1) (l .inv .1 .1 .1 .motion) (placed (c .before .before .before .before .before .before .before .before .before .before .before .before .before .before)) (room (c .before .before .before .before .before .before .before .before .before .before .before .before .before .before)) (l .inv .1 .0 ∙ c .before .before .before .before .before .before .before .before .before .before .before .before .before .before .before .before .before .before .before .before .frame .inv .1 .1 .0) (c .before .before .before .before .before .before .before .before .before .before .before .before .before .before .before .before .before .before .before .before .before .before .before .before .before .before .before .before .pre .map-lent)
 
-add-col : tie.Need-add-col Inv-row μ-row Inv-frame μ-frame
-add-col c = omega (arith, c .before .before .before .before .before .before .before .before .before .before .before .before .before .before .before .before .before .row-test .taken, c .before .before .before .before .before .before .before .before .before .before .before .before .before .before .before .before .before .before .before .before .before .before .before .before .before .before .before .before .before .before .before .pre .width)
+add-col : tie.Need-add-col Inv-loop μ-loop Inv-frame μ-frame
+add-col c = omega (arith, c .before .before .before .before .before .before .before .before .before .before .before .before .before .before .before .before .before .loop-test .taken, c .before .before .before .before .before .before .before .before .before .before .before .before .before .before .before .before .before .before .before .before .before .before .before .before .before .before .before .before .before .before .before .pre .width)
 
-row-less : tie.Need-row-less Inv-row μ-row Inv-frame μ-frame
-row-less c = search needs
+loop-less : tie.Need-loop-less Inv-loop μ-loop Inv-frame μ-frame
+loop-less c = search needs
 
-row-again : tie.Need-row-again Inv-row μ-row Inv-frame μ-frame
-row-again c =
-    let l = c .before .before .before .before .before .before .before .before .before .before .before .before .before .before .before .before .before .before .row in
-    let y = rw (l .inv .0) at (c .before .before .before .before .before .before .before .before .before .before .before .before .before .read-block .ensures) in (
+loop-again : tie.Need-loop-again Inv-loop μ-loop Inv-frame μ-frame
+loop-again c =
+    let l = c .before .before .before .before .before .before .before .before .before .before .before .before .before .before .before .before .before .before .loop in
+    let y = c .before .before .before .before .before .before .before .before .before .before .before .before .before .read-block .ensures in (
       c .before .before .before .before .before .before .store .kept .0 ∙ l .inv .0,
       (
         c .before .before .mark-block .kept .0 ∙ l .inv .1 .0,
         (
           l .inv .1 .1 .0,
-          row-goes _ _ _ _ _ _ _ _ _ _ _ _ _ _ _ (l .inv .1 .1 .1) (c .before .before .before .before .before .before .before .before .before .before .before .before .before .before .before .before .before .row-test .taken) _ (y .0) _ _ (c .before .before .before .before .before .before .before .before .before .before .before .outcome .given .1) _ (y .1 .0) _ _ _ _ _ (c .before .before .before .before .before .before .before .before .first .ensures) (y .1 .1) (c .before .before .before .before .before .before .store .ensures) (c .before .before .mark-block .ensures _),
+          row-goes _ _ _ _ _ _ _ _ _ _ _ _ _ _ (l .inv .1 .1 .1) (c .before .before .before .before .before .before .before .before .before .before .before .before .before .before .before .before .before .loop-test .taken) _ (y .0) _ _ (c .before .before .before .before .before .before .before .before .before .before .before .outcome .given .1) _ (y .1 .0) _ _ _ _ _ (c .before .before .before .before .before .before .before .before .first .ensures) (y .1 .1) (c .before .before .before .before .before .before .store .ensures) (c .before .before .mark-block .ensures _),
         ),
       ),
     )
 
-cast-t36 : tie.Need-cast-t36 Inv-row μ-row Inv-frame μ-frame
+cast-t36 : tie.Need-cast-t36 Inv-loop μ-loop Inv-frame μ-frame
 cast-t36 c = search needs
 
-add-row-2 : tie.Need-add-row-2 Inv-row μ-row Inv-frame μ-frame
-add-row-2 c = search needs
+add-row : tie.Need-add-row Inv-loop μ-loop Inv-frame μ-frame
+add-row c = search needs
 
-frame-less : tie.Need-frame-less Inv-row μ-row Inv-frame μ-frame
+frame-less : tie.Need-frame-less Inv-loop μ-loop Inv-frame μ-frame
 frame-less c = search needs
 
-frame-again : tie.Need-frame-again Inv-row μ-row Inv-frame μ-frame
+frame-again : tie.Need-frame-again Inv-loop μ-loop Inv-frame μ-frame
 frame-again c =
-    let i = c .before .before .row .inv in
+    let i = c .before .before .loop .inv in
     let j = c .before .before .before .before .before .before .before .frame .inv in
     let t = c .before .before .before .before .before .before .frame-test .taken in
-    let e = row-ends _ _ _ _ _ _ _ _ _ _ _ _ _ _ _ (i .1 .1 .1) (c .before .row-test .left) in (
+    let e = row-ends _ _ _ _ _ _ _ _ _ _ _ _ _ _ (i .1 .1 .1) (c .before .loop-test .left) in (
       omega (arith, t),
       (
         i .0,
@@ -142,57 +142,57 @@ frame-again c =
           i .1 .0 ∙ j .1 .1 .0,
           (
             i .1 .1 .0 ∙ j .1 .1 .1 .0,
-            frame-goes _ _ _ _ _ _ _ _ _ _ _ _ _ (j .1 .1 .1 .1) t _ (whole-row _ _ _ _ _ _ _ _ _ (c .before .before .before .before .before .align .ensures) (c .before .before .before .before .fresh .ensures) (c .before .before .before .mode .ensures)) _ _ (e .1 .1) _ (e .0) (e .1 .0) (c .if1 .left),
+            frame-goes _ _ _ _ _ _ _ _ _ _ _ _ (j .1 .1 .1 .1) t _ (whole-row _ _ _ _ _ _ _ _ (c .before .before .before .before .before .align .ensures) (c .before .before .before .before .fresh .ensures) (c .before .before .before .mode .ensures)) _ _ (e .1 .1) _ (e .0) (e .1 .0) (c .if1 .left),
           ),
         ),
       ),
     )
 
-same-length : tie.Need-same-length Inv-row μ-row Inv-frame μ-frame
+same-length : tie.Need-same-length Inv-loop μ-loop Inv-frame μ-frame
 same-length c = c .before .frame .inv .1 .0 ∙ sym (c .before .before .before .before .before .before .before .before .before .pre .samples-lent)
 
-same-length-2 : tie.Need-same-length-2 Inv-row μ-row Inv-frame μ-frame
+same-length-2 : tie.Need-same-length-2 Inv-loop μ-loop Inv-frame μ-frame
 same-length-2 c = c .before .frame .inv .1 .1 .0
 
-returns : tie.Need-returns Inv-row μ-row Inv-frame μ-frame
+returns : tie.Need-returns Inv-loop μ-loop Inv-frame μ-frame
 returns c =
     let i = c .before .frame .inv in
-    let e = frame-ends _ _ _ _ _ _ _ _ _ _ _ _ _ (i .1 .1 .1 .1) (c .frame-test .left) in
+    let e = frame-ends _ _ _ _ _ _ _ _ _ _ _ _ (i .1 .1 .1 .1) (c .frame-test .left) in
     frame-is _ _ _ _ _ _ _ _ (c .before .before .before .before .before .read-header .ensures) (e .0 ∙ sym (i .1 .1 .1 .0), e .1)
 
-same-length-3 : tie.Need-same-length-3 Inv-row μ-row Inv-frame μ-frame
-same-length-3 c = c .before .before .before .before .before .before .before .row .inv .0 ∙ sym (c .before .before .before .before .before .before .before .before .before .before .before .before .before .before .before .before .before .before .before .before .pre .samples-lent)
+same-length-3 : tie.Need-same-length-3 Inv-loop μ-loop Inv-frame μ-frame
+same-length-3 c = c .before .before .before .before .before .before .before .loop .inv .0 ∙ sym (c .before .before .before .before .before .before .before .before .before .before .before .before .before .before .before .before .before .before .before .before .pre .samples-lent)
 
-same-length-4 : tie.Need-same-length-4 Inv-row μ-row Inv-frame μ-frame
-same-length-4 c = c .before .before .before .before .before .before .before .row .inv .1 .0 ∙ c .before .before .before .before .before .before .before .before .before .before .before .before .frame .inv .1 .1 .0
+same-length-4 : tie.Need-same-length-4 Inv-loop μ-loop Inv-frame μ-frame
+same-length-4 c = c .before .before .before .before .before .before .before .loop .inv .1 .0 ∙ c .before .before .before .before .before .before .before .before .before .before .before .before .frame .inv .1 .1 .0
 
-returns-2 : tie.Need-returns-2 Inv-row μ-row Inv-frame μ-frame
+returns-2 : tie.Need-returns-2 Inv-loop μ-loop Inv-frame μ-frame
 returns-2 c =
-    let l = c .before .before .before .before .before .before .before .row in
-    let y = rw (l .inv .0) at (c .before .before .read-block .ensures) in
+    let l = c .before .before .before .before .before .before .before .loop in
+    let y = c .before .before .read-block .ensures in
     let no-next : (b : Bits) (st : V2Row) → c .before .before .read-block .result ≡ Next b st → ⊥ = (λ b st q. ⊎-elim (λ e. omega arith) (⊎-elim (λ e. omega arith) (λ e. omega arith)) (rw q at (c .before .match .keys2))) in
-    let x = row-stops _ _ _ _ _ _ _ _ _ _ _ _ _ _ _ (l .inv .1 .1 .1) (c .before .before .before .before .before .before .row-test .taken) _ (y .0) no-next in
+    let x = row-stops _ _ _ _ _ _ _ _ _ _ _ _ _ _ (l .inv .1 .1 .1) (c .before .before .before .before .before .before .loop-test .taken) _ (y .0) no-next in
     frame-is _ _ _ _ _ _ _ _ (c .before .before .before .before .before .before .before .before .before .before .before .before .before .before .before .before .read-header .ensures)
-    (frame-refuses _ _ _ _ _ _ _ _ _ _ _ _ _ (c .before .before .before .before .before .before .before .before .before .before .before .before .frame .inv .1 .1 .1 .1) (c .before .before .before .before .before .before .before .before .before .before .before .frame-test .taken) _ (whole-row _ _ _ _ _ _ _ _ _ (c .before .before .before .before .before .before .before .before .before .before .align .ensures) (c .before .before .before .before .before .before .before .before .before .fresh .ensures) (c .before .before .before .before .before .before .before .before .mode .ensures)) _ _ (x .1) _ (x .0 ∙ sym (c .number .ensures)) (rw (c .number .ensures) (refusal-number _ no-next)))
+    (frame-refuses _ _ _ _ _ _ _ _ _ _ _ _ (c .before .before .before .before .before .before .before .before .before .before .before .before .frame .inv .1 .1 .1 .1) (c .before .before .before .before .before .before .before .before .before .before .before .frame-test .taken) _ (whole-row _ _ _ _ _ _ _ _ (c .before .before .before .before .before .before .before .before .before .before .align .ensures) (c .before .before .before .before .before .before .before .before .before .fresh .ensures) (c .before .before .before .before .before .before .before .before .mode .ensures)) _ _ (x .1) _ (x .0 ∙ sym (c .number .ensures)) (rw (c .number .ensures) (refusal-number _ no-next)))
 
-same-length-5 : tie.Need-same-length-5 Inv-row μ-row Inv-frame μ-frame
-same-length-5 c = c .before .before .row .inv .0 ∙ sym (c .before .before .before .before .before .before .before .before .before .before .before .before .before .before .before .pre .samples-lent)
+same-length-5 : tie.Need-same-length-5 Inv-loop μ-loop Inv-frame μ-frame
+same-length-5 c = c .before .before .loop .inv .0 ∙ sym (c .before .before .before .before .before .before .before .before .before .before .before .before .before .before .before .pre .samples-lent)
 
-same-length-6 : tie.Need-same-length-6 Inv-row μ-row Inv-frame μ-frame
-same-length-6 c = c .before .before .row .inv .1 .0 ∙ c .before .before .before .before .before .before .before .frame .inv .1 .1 .0
+same-length-6 : tie.Need-same-length-6 Inv-loop μ-loop Inv-frame μ-frame
+same-length-6 c = c .before .before .loop .inv .1 .0 ∙ c .before .before .before .before .before .before .before .frame .inv .1 .1 .0
 
-returns-3 : tie.Need-returns-3 Inv-row μ-row Inv-frame μ-frame
+returns-3 : tie.Need-returns-3 Inv-loop μ-loop Inv-frame μ-frame
 returns-3 c =
-    let e = row-ends _ _ _ _ _ _ _ _ _ _ _ _ _ _ _ (c .before .before .row .inv .1 .1 .1) (c .before .row-test .left) in
+    let e = row-ends _ _ _ _ _ _ _ _ _ _ _ _ _ _ (c .before .before .loop .inv .1 .1 .1) (c .before .loop-test .left) in
     frame-is _ _ _ _ _ _ _ _ (c .before .before .before .before .before .before .before .before .before .before .before .read-header .ensures)
-    (frame-overruns _ _ _ _ _ _ _ _ _ _ _ _ _ (c .before .before .before .before .before .before .before .frame .inv .1 .1 .1 .1) (c .before .before .before .before .before .before .frame-test .taken) _ (whole-row _ _ _ _ _ _ _ _ _ (c .before .before .before .before .before .align .ensures) (c .before .before .before .before .fresh .ensures) (c .before .before .before .mode .ensures)) _ _ (e .1 .1) (e .0) (rw (e .1 .0) (c .if1 .taken)))
+    (frame-overruns _ _ _ _ _ _ _ _ _ _ _ _ (c .before .before .before .before .before .before .before .frame .inv .1 .1 .1 .1) (c .before .before .before .before .before .before .frame-test .taken) _ (whole-row _ _ _ _ _ _ _ _ (c .before .before .before .before .before .align .ensures) (c .before .before .before .before .fresh .ensures) (c .before .before .before .mode .ensures)) _ _ (e .1 .1) (e .0) (rw (e .1 .0) (c .if1 .taken)))
 
 pub decode-frame-spec : {M : Type 1} → statement M
 decode-frame-spec =
     tie.close
     (tie.spec
-    Inv-row
-    μ-row
+    Inv-loop
+    μ-loop
     Inv-frame
     μ-frame
     read-header-requires
@@ -201,8 +201,8 @@ decode-frame-spec =
     align-requires
     fresh-requires
     mode-requires
-    row-holds
-    add-row
+    loop-holds
+    add-loop
     read-block-requires
     enum-known-outcome
     number-requires
@@ -211,10 +211,10 @@ decode-frame-spec =
     store-requires
     mark-block-requires
     add-col
-    row-less
-    row-again
+    loop-less
+    loop-again
     cast-t36
-    add-row-2
+    add-row
     frame-less
     frame-again
     same-length

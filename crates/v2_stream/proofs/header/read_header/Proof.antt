@@ -5,8 +5,8 @@ use Rattle.v2_stream.proofs.HeaderLaws.{got-below, header-is}
 use Rattle.v2_stream.proofs.header.read_header.Statement.{statement}
 use Rattle.v2_stream.proofs.header.read_header.Tie as tie
 
-new-requires : tie.Need-new-requires
-new-requires c κs = search needs
+fresh-requires : tie.Need-fresh-requires
+fresh-requires c κs = search needs
 
 skip-requires : tie.Need-skip-requires
 skip-requires c κs = search needs
@@ -55,7 +55,7 @@ cast-t20 c = omega (arith, got-below _ _ _ _ (c .before .before .before .get3 .e
 
 returns : tie.Need-returns
 returns c =
-    header-is _ _ _ _ _ _ _ _ _ _ _ _ _ _ _ (c .before .before .before .before .before .before .before .before .before .before .before .before .before .before .before .before .before .before .new .ensures) (c .before .before .before .before .before .before .before .before .before .before .before .before .before .before .before .before .before .skip .ensures) (c .before .before .before .before .before .before .before .before .before .before .before .before .before .before .before .before .skip2 .ensures) (c .before .before .before .before .before .before .before .before .before .before .before .before .before .before .before .get .ensures) (c .before .before .before .before .before .before .before .before .before .before .before .before .before .skip3 .ensures)
+    header-is _ _ _ _ _ _ _ _ _ _ _ _ _ _ _ (c .before .before .before .before .before .before .before .before .before .before .before .before .before .before .before .before .before .before .fresh .ensures) (c .before .before .before .before .before .before .before .before .before .before .before .before .before .before .before .before .before .skip .ensures) (c .before .before .before .before .before .before .before .before .before .before .before .before .before .before .before .before .skip2 .ensures) (c .before .before .before .before .before .before .before .before .before .before .before .before .before .before .before .get .ensures) (c .before .before .before .before .before .before .before .before .before .before .before .before .before .skip3 .ensures)
     (c .before .before .before .before .before .before .before .before .before .before .before .before .skip4 .ensures) (c .before .before .before .before .before .before .before .before .before .before .before .skip5 .ensures) (c .before .before .before .before .before .before .before .before .before .before .skip6 .ensures) (c .before .before .before .before .before .before .before .before .before .skip7 .ensures) (c .before .before .before .before .before .before .before .before .get2 .ensures) (c .before .before .before .before .before .before .skip8 .ensures) (c .before .before .before .before .before .skip9 .ensures)
     (c .before .before .before .before .skip10 .ensures) (c .before .before .before .get3 .ensures)
 
@@ -63,7 +63,7 @@ pub read-header-spec : {M : Type 1} → statement M
 read-header-spec =
     tie.close
     (tie.spec
-    new-requires
+    fresh-requires
     skip-requires
     skip-requires-2
     get-requires

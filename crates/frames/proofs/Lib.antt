@@ -1,0 +1,3 @@
+-- What the proofs of the entries rest on.
+pub mod MovedLaws
+pub mod WriterLaws

@@ -1,0 +1,71 @@
+-- A refusal is the rule's, and else the planes' function is lent the first N samples of both buffers.
+use mathlib.Core.Path.{sym}
+use native.Mathlib.Omega.{arith}
+use borrow.Author.Needs.{needs}
+use lib.Seq.{length-take-le}
+use Rattle.planes.specs.Planes.{to-planes}
+use Rattle.frames.proofs.MovedLaws.{room, refused-answer, refused-after, lent, passed-answer, passed-after}
+use Rattle.frames.proofs.colour.to_planes.Statement.{statement}
+use Rattle.frames.proofs.colour.to_planes.Tie as tie
+
+refuse-requires : tie.Need-refuse-requires
+refuse-requires c κs = search needs
+
+refused-requires : tie.Need-refused-requires
+refused-requires c κs = search needs
+
+returns : tie.Need-returns
+returns c =
+    let e = c .before .before .refuse .ensures in
+    let a = c .before .before .before .before .before .args in (
+      refused-answer (a .width) (a .height) (a .samples .now) (a .planes .now) _ e _ (c .refused .ensures),
+      refused-after (a .width) (a .height) (a .samples .now) (a .planes .now) _ e to-planes (c .before .if1 .taken),
+    )
+
+mul-n : tie.Need-mul-n
+mul-n c = let r = room _ _ _ _ (c .before .refuse .ensures) (c .if1 .left) in omega arith
+
+slice-aggregate-to-planes : tie.Need-slice-aggregate-to-planes
+slice-aggregate-to-planes c = sym (length-take-le _ _ (room _ _ _ _ (c .before .before .refuse .ensures) (c .before .if1 .left) .read-enough))
+
+slice-relend-prefix-to-planes : tie.Need-slice-relend-prefix-to-planes
+slice-relend-prefix-to-planes c = room _ _ _ _ (c .before .before .refuse .ensures) (c .before .if1 .left) .written-enough
+
+slice-aggregate-to-planes-2 : tie.Need-slice-aggregate-to-planes-2
+slice-aggregate-to-planes-2 c = sym (length-take-le _ _ (room _ _ _ _ (c .before .before .before .refuse .ensures) (c .before .before .if1 .left) .written-enough))
+
+to-planes-requires : tie.Need-to-planes-requires
+to-planes-requires c κs =
+    let a = c .before .before .before .before .before .before .args in
+    lent (a .width) (a .height) (a .samples .now) (a .planes .now) _ (c .before .before .before .refuse .ensures) (c .before .before .if1 .left)
+
+done-requires : tie.Need-done-requires
+done-requires c κs = search needs
+
+same-length : tie.Need-same-length
+same-length c = search needs
+
+returns-2 : tie.Need-returns-2
+returns-2 c =
+    let a = c .before .before .before .before .before .before .before .before .before .before .args in
+    let e = c .before .before .before .before .before .before .before .refuse .ensures in
+    let ok = c .before .before .before .before .before .before .if1 .left in (
+      passed-answer (a .width) (a .height) (a .samples .now) (a .planes .now) _ e ok _ (c .done .ensures),
+      passed-after (a .width) (a .height) (a .samples .now) (a .planes .now) _ e ok to-planes _ (c .before .before .before .to-planes .ensures),
+    )
+
+pub to-planes-spec : {M : Type 1} → statement M
+to-planes-spec =
+    tie.close
+    (tie.spec
+    refuse-requires
+    refused-requires
+    returns
+    mul-n
+    slice-aggregate-to-planes
+    slice-relend-prefix-to-planes
+    slice-aggregate-to-planes-2
+    to-planes-requires
+    done-requires
+    same-length
+    returns-2)

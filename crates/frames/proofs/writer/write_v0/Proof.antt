@@ -1,0 +1,91 @@
+-- The tests come in the sequence of the numbers, and nothing is written before the last of them is passed.
+use mathlib.Core.Path.{sym}
+use native.Mathlib.Omega.{arith}
+use denote.Ref.{now}
+use borrow.Author.Needs.{needs}
+use lib.Seq.{length-take-le}
+use Rattle.refusals.proofs.RefusalLaws.{cells-most, room}
+use Rattle.frames.proofs.WriterLaws.{writable, early-yields, bright-yields, short-yields, stream-room, table-room, done-yields}
+use Rattle.frames.proofs.writer.write_v0.Statement.{statement}
+use Rattle.frames.proofs.writer.write_v0.Tie as tie
+
+refuse-requires : tie.Need-refuse-requires
+refuse-requires c κs = search needs
+
+refused-requires : tie.Need-refused-requires
+refused-requires c κs = search needs
+
+returns : tie.Need-returns
+returns c = let a = c .before .before .before .before .before .before .args in early-yields (now (a .samples)) (a .width) (a .height) (now (a .stream)) (now (a .offsets)) _ _ (c .before .before .refuse .ensures) (c .before .if1 .taken) (c .refused .ensures)
+
+mul-n : tie.Need-mul-n
+mul-n c = let p = room _ _ _ _ _ _ _ (c .before .refuse .ensures) (c .if1 .left) in omega (arith, cells-most _ _ (p .wide) (p .high))
+
+slice-aggregate-is-too-bright : tie.Need-slice-aggregate-is-too-bright
+slice-aggregate-is-too-bright c = sym (length-take-le _ _ (room _ _ _ _ _ _ _ (c .before .before .refuse .ensures) (c .before .if1 .left) .samples-enough))
+
+is-too-bright-requires : tie.Need-is-too-bright-requires
+is-too-bright-requires c κs = search needs
+
+refused-requires-2 : tie.Need-refused-requires-2
+refused-requires-2 c κs = search needs
+
+returns-2 : tie.Need-returns-2
+returns-2 c = let a = c .before .before .before .before .before .before .before .before .before .args in bright-yields (now (a .samples)) (a .width) (a .height) (now (a .stream)) (now (a .offsets)) _ (c .before .before .before .before .before .refuse .ensures) (c .before .before .before .before .if1 .left) _ (c .before .before .is-too-bright .ensures) _ (c .before .if2 .taken) (c .refused2 .ensures)
+
+slice-aggregate-stream-length : tie.Need-slice-aggregate-stream-length
+slice-aggregate-stream-length c = sym (length-take-le _ _ (room _ _ _ _ _ _ _ (c .before .before .before .before .before .refuse .ensures) (c .before .before .before .before .if1 .left) .samples-enough))
+
+stream-length-requires : tie.Need-stream-length-requires
+stream-length-requires c κs = let a = c .before .before .before .before .before .before .before .before .before .args in writable (a .width) (a .height) (now (a .samples)) _ _ (c .before .before .before .before .before .refuse .ensures) (c .before .before .before .before .if1 .left) (c .before .before .is-too-bright .ensures) (c .before .if2 .left)
+
+is-short-requires : tie.Need-is-short-requires
+is-short-requires c κs = search needs
+
+refused-requires-3 : tie.Need-refused-requires-3
+refused-requires-3 c κs = search needs
+
+returns-3 : tie.Need-returns-3
+returns-3 c = let a = c .before .before .before .before .before .before .before .before .before .before .before .before .before .args in short-yields (now (a .samples)) (a .width) (a .height) (now (a .stream)) (now (a .offsets)) _ (c .before .before .before .before .before .before .before .before .before .refuse .ensures) (c .before .before .before .before .before .before .before .before .if1 .left) _ (c .before .before .before .before .before .before .is-too-bright .ensures) (c .before .before .before .before .before .if2 .left) _ (c .before .before .before .stream-length .ensures) _ (c .before .before .is-short .ensures) _ (c .before .if3 .taken) (c .refused3 .ensures)
+
+slice-aggregate-write-frame : tie.Need-slice-aggregate-write-frame
+slice-aggregate-write-frame c = sym (length-take-le _ _ (room _ _ _ _ _ _ _ (c .before .before .before .before .before .before .before .before .before .before .before .refuse .ensures) (c .before .before .before .before .before .before .before .before .before .before .if1 .left) .samples-enough))
+
+write-frame-requires : tie.Need-write-frame-requires
+write-frame-requires c κs = let a = c .before .before .before .before .before .before .before .before .before .before .before .before .before .before .before .args in (writable (a .width) (a .height) (now (a .samples)) _ _ (c .before .before .before .before .before .before .before .before .before .before .before .refuse .ensures) (c .before .before .before .before .before .before .before .before .before .before .if1 .left) (c .before .before .before .before .before .before .before .before .is-too-bright .ensures) (c .before .before .before .before .before .before .before .if2 .left), stream-room (now (a .samples)) (a .width) (a .height) (now (a .stream)) (now (a .offsets)) _ (c .before .before .before .before .before .before .before .before .before .before .before .refuse .ensures) (c .before .before .before .before .before .before .before .before .before .before .if1 .left) _ (c .before .before .before .before .before .before .before .before .is-too-bright .ensures) (c .before .before .before .before .before .before .before .if2 .left) _ (c .before .before .before .before .before .stream-length .ensures) _ (c .before .before .before .before .is-short .ensures) (c .before .before .before .if3 .left), table-room (now (a .samples)) (a .width) (a .height) (now (a .stream)) (now (a .offsets)) _ (c .before .before .before .before .before .before .before .before .before .before .before .refuse .ensures) (c .before .before .before .before .before .before .before .before .before .before .if1 .left) _ (c .before .before .before .before .before .before .before .before .is-too-bright .ensures) (c .before .before .before .before .before .before .before .if2 .left) _ (c .before .before .before .before .before .stream-length .ensures) _ (c .before .before .before .before .is-short .ensures) (c .before .before .before .if3 .left))
+
+done-requires : tie.Need-done-requires
+done-requires c κs = search needs
+
+same-length : tie.Need-same-length
+same-length c = search needs
+
+same-length-2 : tie.Need-same-length-2
+same-length-2 c = search needs
+
+returns-4 : tie.Need-returns-4
+returns-4 c = let a = c .before .before .before .before .before .before .before .before .before .before .before .before .before .before .before .before .before .before .before .before .before .args in done-yields (now (a .samples)) (a .width) (a .height) (now (a .stream)) (now (a .offsets)) _ (c .before .before .before .before .before .before .before .before .before .before .before .before .before .before .before .before .before .refuse .ensures) (c .before .before .before .before .before .before .before .before .before .before .before .before .before .before .before .before .if1 .left) _ (c .before .before .before .before .before .before .before .before .before .before .before .before .before .before .is-too-bright .ensures) (c .before .before .before .before .before .before .before .before .before .before .before .before .before .if2 .left) _ (c .before .before .before .before .before .before .before .before .before .before .before .stream-length .ensures) _ (c .before .before .before .before .before .before .before .before .before .before .is-short .ensures) _ _ _ (c .before .before .before .before .before .before .before .before .before .if3 .left) (c .done .ensures) (c .before .before .before .before .before .write-frame .ensures .0) (c .before .before .before .before .before .write-frame .ensures .1)
+
+pub write-v0-spec : {M : Type 1} → statement M
+write-v0-spec =
+    tie.close
+    (tie.spec
+    refuse-requires
+    refused-requires
+    returns
+    mul-n
+    slice-aggregate-is-too-bright
+    is-too-bright-requires
+    refused-requires-2
+    returns-2
+    slice-aggregate-stream-length
+    stream-length-requires
+    is-short-requires
+    refused-requires-3
+    returns-3
+    slice-aggregate-write-frame
+    write-frame-requires
+    done-requires
+    same-length
+    same-length-2
+    returns-4)

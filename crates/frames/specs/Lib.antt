@@ -1,0 +1,2 @@
+-- What the calls answer, and what they leave.
+pub mod Moved

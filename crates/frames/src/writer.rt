@@ -1,0 +1,58 @@
+// The V0 writer's entry.
+ghost use mathlib.Core.Path.{_≡_};
+ghost use mathlib.Core.Bool.{_||_};
+ghost use lib.Dec.{ltb};
+ghost use Rattle.writers.specs.Calls.{call, Yields};
+use refusals::Lending;
+use refusals::refuse;
+use rules::Answer;
+use rules::Size;
+use v0_writer::measure::stream_length;
+use v0_writer::write::write_frame;
+use writers::Written;
+use writers::is_too_bright;
+
+// 10: a buffer is shorter than what would be written into it.
+fn is_short(stream: usize, length: usize, offsets: usize, rows: usize) -> bool
+    ensures { λ r. ⌜ r ≡ (ltb stream length || ltb offsets rows) ⌝ }
+{
+    stream < length || offsets < rows
+}
+
+// Writes samples as V0: the stream, and where each row begins. Refusals 1, 3, 9 and 10, which change nothing.
+pub fn write_v0(
+    samples: &[u16],
+    width: usize,
+    height: usize,
+    stream: &mut [u8],
+    offsets: &mut [u32],
+) -> Written
+    ensures { λ r. ⌜
+        Yields
+        (call (now (samples .entry)) width height (now (stream .entry)) (now (offsets .entry)))
+        r (now (stream .exit)) (now (offsets .exit))
+        ⌝ }
+{
+    let size = Size { width, height };
+    let refusal = refuse(
+        size,
+        false,
+        samples.len(),
+        Lending::Nothing,
+        Lending::Nothing,
+        Lending::Nothing,
+    );
+    if refusal != 0 {
+        return Written::refused(refusal);
+    }
+    let n = width * height;
+    if is_too_bright(&samples[..n]) {
+        return Written::refused(Answer::TOO_BRIGHT);
+    }
+    let length = stream_length(&samples[..n], width, height);
+    if is_short(stream.len(), length, offsets.len(), height) {
+        return Written::refused(Answer::SHORT_OUTPUT);
+    }
+    write_frame(stream, offsets, &samples[..n], width, height);
+    Written::done(length as u64)
+}

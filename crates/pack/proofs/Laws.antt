@@ -1,0 +1,294 @@
+-- Laws of the packer, over plain numbers and lists.
+use Prim.Native.Nat.{ℕ, zero, suc, _+_, _-_, _*_, _/_, _%_, _^_, _<_, _≤_, max}
+use mathlib.Core.Bool.{Bool, false}
+use mathlib.Core.Path.{_≡_, refl, sym, ap, ap₂, _∙_}
+use mathlib.Core.List.{List, [], _∷_, _++_, append-nil, append-assoc}
+use native.Mathlib.Omega.{arith}
+use native.Mathlib.Nat.{mod-eq-of-lt, mod-lt, div-eq-of-lt, one-mul, mul-le-mul-left}
+use lib.ListN.{length, getD, set, replicate, length-append, length-replicate}
+use lib.Seq.{sets}
+use lib.Arith.{digits-lt}
+use lib.Count.{leadingZeros, leading-length}
+use lib.Dec.{lit<, lit≤}
+use lib.Pow.{pow-pos, pow-lt, pow-mono}
+use borrow.Author.Tests.{lt-ltb, le-ltb}
+use Rattle.rules.specs.Frame.{tabulate}
+use Rattle.rules.proofs.Cells.{all-get}
+use Rattle.writers.specs.declared.Pending.{Pending}
+use Rattle.writers.specs.Writer.{bits-of, fields-bits, run, padding, padded, word-bytes, words-bytes, bytes, smallest, lengths-for, length-for, block-bits}
+use Rattle.writers.specs.Pending.{joined, put-state, put-out, finished, Wrote}
+use Rattle.writers.specs.Weight.{weight, Short}
+use Rattle.writers.proofs.Ahead.{bits-low}
+use Rattle.writers.proofs.BitLists.{bits-length, bits-join}
+use Rattle.writers.proofs.BlockLength.{block-length-is}
+use Rattle.writers.proofs.Blocks.{opening-widths, opening, lengths-most}
+use Rattle.writers.proofs.PendingLaws.{put-law, put-wrote, wrote-none, wrote-both}
+use Rattle.writers.proofs.Smallest.{smallest-most}
+use Rattle.writers.proofs.WeightLaws.{heaviest, weight-short, smallest-by-weight}
+use Rattle.pack.specs.Block.{numbers, number-bits, numbers-bits, opening-number, Shorts, Lengths}
+
+pub one-shl : (k : ℕ) → k ≤ 32 → (1 * 2 ^ k) % 2 ^ 64 ≡ 2 ^ k
+one-shl k h = let l : k < 64 = omega arith in rw one-mul (mod-eq-of-lt (pow-lt l))
+
+-- A word and n more bits fit 64 bits.
+pub join-fits : (a x n : ℕ) → a < 2 ^ 32 → n ≤ 32 → a * 2 ^ n + x % 2 ^ n < 2 ^ 64
+join-fits a x n h l =
+    let d : a * 2 ^ n + x % 2 ^ n < 2 ^ 32 * 2 ^ n = digits-lt h (mod-lt x (pow-pos n)) in
+    let m : 2 ^ 32 * 2 ^ n ≤ 2 ^ 32 * 2 ^ 32 = mul-le-mul-left (2 ^ 32) (pow-mono l) in
+    omega arith
+
+-- Two numbers of n bits fit 32 bits, ..
+pub pair-fits : (a b n : ℕ) → a < 2 ^ 16 → n < 16 → a * 2 ^ n + b % 2 ^ n < 2 ^ 32
+pair-fits a b n h l =
+    let d : a * 2 ^ n + b % 2 ^ n < 2 ^ 16 * 2 ^ n = digits-lt h (mod-lt b (pow-pos n)) in
+    let le : n ≤ 16 = omega arith in
+    let m : 2 ^ 16 * 2 ^ n ≤ 2 ^ 16 * 2 ^ 16 = mul-le-mul-left (2 ^ 16) (pow-mono le) in
+    omega arith
+
+-- .. and written as one are the bits of both.
+pub pair-bits : (a b n : ℕ) → bits-of (2 * n) (a * 2 ^ n + b % 2 ^ n) ≡ bits-of n a ++ bits-of n b
+pair-bits a b n =
+    let e : 2 * n ≡ n + n = omega arith in
+    rw e (bits-join n n a (b % 2 ^ n) (mod-lt b (pow-pos n)) ∙ ap (λ l. bits-of n a ++ l) (bits-low n b))
+
+pub pair-wrote : (f f′ : List ℕ) (p q : Pending) (n a b x : ℕ) → p .count < 32 → n < 16 → x ≡ a * 2 ^ n + b % 2 ^ n → q ≡ put-state p (2 * n) x
+    → f′ ≡ put-out f p (2 * n) x → Wrote f p (bits-of n a ++ bits-of n b) f′ q
+pair-wrote f f′ p q n a b x h l e s o =
+    rw (e, pair-bits a b n) at (put-wrote f p (2 * n) x f′ q h (omega arith) s o)
+
+-- Four stores are a word's bytes.
+pub stored : (f : List ℕ) (at x a b c d : ℕ) → a ≡ x % 256 → b ≡ x / 256 % 256 → c ≡ x / 65_536 % 256 → d ≡ x / 16_777_216 % 256
+    → set (set (set (set f at a) (at + 1) b) (at + 2) c) (at + 3) d ≡ sets f at (word-bytes x)
+stored f at x a b c d p q r t =
+    let one : at + 1 ≡ suc at = omega arith in
+    let two : at + 2 ≡ suc (suc at) = omega arith in
+    let three : at + 3 ≡ suc (suc (suc at)) = omega arith in
+    rw (p, q, r, t, one, two, three)
+
+-- The two ways of a step.
+pub put-waits : (p : Pending) (n x v : ℕ) → p .count + n < 32 → v ≡ joined p n x % 2 ^ 32 → record { pos = p .pos; word = v; count = p .count + n } ≡ put-state p n x
+unfolding put-state
+put-waits p n x v l e = rw (lt-ltb (p .count + n) 32 l, e)
+
+pub out-waits : (f : List ℕ) (p : Pending) (n x : ℕ) → p .count + n < 32 → f ≡ put-out f p n x
+unfolding put-out
+out-waits f p n x l = rw (lt-ltb (p .count + n) 32 l)
+
+pub put-full : (p : Pending) (n x v : ℕ) → 32 ≤ p .count + n → v ≡ joined p n x % 2 ^ 32 → record { pos = p .pos + 4; word = v; count = p .count + n - 32 } ≡ put-state p n x
+unfolding put-state
+put-full p n x v l e = rw (le-ltb (p .count + n) 32 l, e)
+
+pub out-full : (f f′ : List ℕ) (p : Pending) (n x v : ℕ) → 32 ≤ p .count + n → v ≡ joined p n x / 2 ^ (p .count + n - 32) % 2 ^ 32 → f′ ≡ sets f (p .pos) (word-bytes v) → f′ ≡ put-out f p n x
+unfolding put-out
+out-full f f′ p n x v l e k = k ∙ rw (le-ltb (p .count + n) 32 l, e)
+
+-- ── Finishing ──
+
+zero-bits : (n : ℕ) → bits-of n 0 ≡ replicate n false
+unfolding bits-of
+zero-bits zero = refl
+zero-bits (suc n) = rw (div-eq-of-lt (pow-pos n), zero-bits n)
+
+-- Where nothing waits, nothing is left to write.
+pub finished-none : (out : List ℕ) (p : Pending) → p .count ≡ 0 → finished out p [] ≡ out
+unfolding finished bits-of bytes padded words-bytes
+finished-none out p e = ap (λ n. sets out (p .pos) (bytes (padded 32 (bits-of n (p .word) ++ [])))) e
+
+padded-with : (bs : List Bool) (n : ℕ) → (32 - length bs % 32) % 32 ≡ n → padded 32 bs ≡ bs ++ replicate n false
+unfolding padded
+padded-with bs n e = ap (λ m. bs ++ replicate m false) e
+
+-- Zero bits to the word's end are its padding.
+pub zeros-finish : (out : List ℕ) (p : Pending) (n : ℕ) → 0 < p .count → p .count + n ≡ 32 → finished out p (bits-of n 0 ++ []) ≡ finished out p []
+unfolding finished
+zeros-finish out p n some e =
+    ap (λ l. sets out (p .pos) (bytes l))
+    (ap (λ l. padded 32 (waiting ++ l)) (append-nil (bits-of n 0) ∙ zero-bits n) ∙ pads waiting n (rw bits-length some) (rw bits-length e) ∙ ap (padded 32) (sym (append-nil waiting)))
+  where
+    waiting : List Bool
+    waiting = bits-of (p .count) (p .word)
+
+    pads : (bs : List Bool) (n : ℕ) → 0 < length bs → length bs + n ≡ 32 → padded 32 (bs ++ replicate n false) ≡ padded 32 bs
+    pads bs n some e =
+        let a : length (bs ++ replicate n false) ≡ 32 = length-append bs (replicate n false) ∙ ap (λ m. length bs + m) (length-replicate n false) ∙ e in
+        let b : (32 - length bs % 32) % 32 ≡ n = omega arith in
+        padded-with (bs ++ replicate n false) 0 (rw a) ∙ append-nil (bs ++ replicate n false) ∙ sym (padded-with bs n b)
+
+-- From p, with n zero bits to the word's end.
+pub finish-law : (f f′ : List ℕ) (p q : Pending) (n : ℕ) → p .count < 32 → 0 < p .count → n ≡ 32 - p .count → q ≡ put-state p n 0 → f′ ≡ put-out f p n 0
+    → (q .pos ≡ p .pos + 4 * ((p .count + 31) / 32)) × (f′ ≡ finished f p [])
+finish-law f f′ p q n small some e s o = (
+  omega (arith, ap (λ x. x .pos) full, ap (λ x. x .pos) s),
+  sym (finished-none f′ q (ap (λ x. x .count) s ∙ ap (λ x. x .count) full ∙ omega arith))
+      ∙ ap₂ (λ x y. finished x y []) o s
+      ∙ put-law f p n 0 [] small (omega arith)
+      ∙ zeros-finish f p n some (omega arith),
+)
+  where
+    full : put-state p n 0 ≡ record { pos = p .pos + 4; word = joined p n 0 % 2 ^ 32; count = p .count + n - 32 }
+    full = sym (put-full p n 0 (joined p n 0 % 2 ^ 32) (omega arith) refl)
+
+-- ── Lengths ──
+
+pub weight-low : (d : ℕ) → d < 32_768 → 2 * d ≡ weight d
+unfolding weight
+weight-low d l = rw (lt-ltb d 32_768 l)
+
+pub weight-high : (d : ℕ) → 32_768 ≤ d → 2 * (65_535 - d) + 1 ≡ weight d
+unfolding weight
+weight-high d l = rw (le-ltb d 32_768 l)
+
+-- How many bits a number has.
+bit-length : (m : ℕ) → m < 2 ^ 32 → (m < 2 ^ (32 - leadingZeros 32 m)) × (2 ^ (32 - leadingZeros 32 m) ≤ 2 * m + 1)
+bit-length m h =
+    let s = leading-length 32 m h in
+    let is : 32 - leadingZeros 32 m ≡ s .0 = let e = s .1 in omega arith in
+    rw is (s .2, s .3)
+
+-- As many bits as the greatest weight has.
+pub length-law : (a b c d : ℕ) → Short a → Short b → Short c → Short d
+    → 32 - leadingZeros 32 (max (max (weight a) (weight b)) (max (weight c) (weight d))) ≡ smallest (a ∷ b ∷ c ∷ d ∷ [])
+length-law a b c d sa sb sc sd =
+    let most : heaviest a b c d (sa .below) (sb .below) (sc .below) (sd .below) < 2 ^ 15
+    = omega (arith, weight-short a sa, weight-short b sb, weight-short c sc, weight-short d sd) in
+    let s = bit-length (heaviest a b c d (sa .below) (sb .below) (sc .below) (sd .below)) (omega arith) in
+    sym (smallest-by-weight a b c d (sa .below) (sb .below) (sc .below) (sd .below) _ most (s .0) (s .1))
+
+-- A block's four.
+pub lengths-law : (d : List ℕ) (i j k l : ℕ) → i ≡ smallest (getD d 0 0 ∷ getD d 1 0 ∷ getD d 2 0 ∷ getD d 3 0 ∷ [])
+    → j ≡ smallest (getD d 4 0 ∷ getD d 5 0 ∷ getD d 6 0 ∷ getD d 7 0 ∷ []) → k ≡ smallest (getD d 8 0 ∷ getD d 9 0 ∷ getD d 10 0 ∷ getD d 11 0 ∷ [])
+    → l ≡ smallest (getD d 12 0 ∷ getD d 13 0 ∷ getD d 14 0 ∷ getD d 15 0 ∷ []) → i ∷ j ∷ k ∷ l ∷ [] ≡ lengths-for (numbers d)
+unfolding lengths-for
+lengths-law d i j k l p q r s = rw (p, q, r, s)
+
+-- ── A block ──
+
+-- Its first 25 bits are its opening and its lengths.
+nine : bits-of 9 255 ≡ fields-bits opening-widths opening
+unfolding bits-of fields-bits
+nine = refl
+
+opening-of : (a b c d : ℕ) → a < 16 → b < 16 → c < 16 → d < 16
+    → bits-of 25 (16_711_680 + a * 4_096 + b * 256 + c * 16 + d) ≡ fields-bits opening-widths opening ++ run (bits-of 4) (a ∷ b ∷ c ∷ d ∷ [])
+unfolding run
+opening-of a b c d la lb lc ld =
+    let s : 16_711_680 + a * 4_096 + b * 256 + c * 16 + d ≡ 255 * 2 ^ 16 + (a * 2 ^ 12 + (b * 2 ^ 8 + (c * 2 ^ 4 + d))) = omega arith in
+    ap (bits-of 25) s
+    ∙ bits-join 9 16 255 (a * 2 ^ 12 + (b * 2 ^ 8 + (c * 2 ^ 4 + d))) (omega arith)
+    ∙ ap₂ _++_ nine
+    (bits-join 4 12 a (b * 2 ^ 8 + (c * 2 ^ 4 + d)) (omega arith)
+    ∙ ap (λ l. bits-of 4 a ++ l) (bits-join 4 8 b (c * 2 ^ 4 + d) (omega arith)
+    ∙ ap (λ l. bits-of 4 b ++ l) (bits-join 4 4 c d (omega arith) ∙ ap (λ l. bits-of 4 c ++ l) (sym (append-nil (bits-of 4 d))))))
+
+pub opening-law : (d : ℕ → ℕ) → bits-of 25 (opening-number (lengths-for d)) ≡ fields-bits opening-widths opening ++ run (bits-of 4) (lengths-for d)
+unfolding lengths-for
+opening-law d = opening-of _ _ _ _ (smallest-most _) (smallest-most _) (smallest-most _) (smallest-most _)
+
+-- ── The loop over a block's numbers ──
+
+run-snoc : (g : ℕ → List Bool) (n m : ℕ) → run g (tabulate (suc n) m (λ k. k)) ≡ run g (tabulate n m (λ k. k)) ++ g (m + n)
+unfolding run tabulate
+run-snoc g zero m = let e : m + 0 ≡ m = omega arith in rw e (append-nil (g m))
+run-snoc g (suc n) m =
+    let e : m + suc n ≡ suc m + n = omega arith in
+    rw e (ap (λ l. g m ++ l) (run-snoc g n (suc m)) ∙ sym (append-assoc (g m) (run g (tabulate n (suc m) (λ k. k))) (g (suc m + n))))
+
+-- What is written of fewer numbers is no longer.
+run-prefix : (g : ℕ → List Bool) (k n : ℕ) → length (run g (tabulate k 0 (λ k. k))) ≤ length (run g (tabulate (k + n) 0 (λ k. k)))
+run-prefix g k zero = let e : k + 0 ≡ k = omega arith in rw e (omega arith)
+run-prefix g k (suc n) =
+    let e : k + suc n ≡ suc (k + n) = omega arith in
+    rw (e, run-snoc) (omega (arith, run-prefix g k n, length-append (run g (tabulate (k + n) 0 (λ k. k))) (g (0 + (k + n)))))
+
+-- Two more numbers.
+run-snoc-two : (g : ℕ → List Bool) (k : ℕ) → run g (tabulate (k + 2) 0 (λ k. k)) ≡ run g (tabulate k 0 (λ k. k)) ++ (g k ++ g (k + 1))
+run-snoc-two g k =
+    let two : k + 2 ≡ suc (suc k) = omega arith in
+    let one : k + 1 ≡ suc k = omega arith in
+    let here : 0 + k ≡ k = omega arith in
+    let next : 0 + suc k ≡ suc k = omega arith in
+    rw (two, one) (
+    run-snoc g (suc k) 0
+    ∙ ap₂ (λ l j. l ++ g j) (run-snoc g k 0 ∙ ap (λ j. run g (tabulate k 0 (λ k. k)) ++ g j) here) next
+    ∙ append-assoc (run g (tabulate k 0 (λ k. k))) (g k) (g (suc k))
+    )
+
+-- The first k numbers have been written, and k is even.
+pub record Going (ls d f : List ℕ) (p : Pending) (f′ : List ℕ) (q : Pending) (k : ℕ) : Type 0 where
+  pub most : k ≤ 16
+  pub even : k % 2 ≡ 0
+  pub wrote : Wrote f p (run (number-bits ls d) (tabulate k 0 (λ k. k))) f′ q
+
+pub begun : (ls d f : List ℕ) (p : Pending) → p .count < 32 → Going ls d f p f p 0
+unfolding run tabulate
+begun ls d f p h = record { most = omega arith; even = refl; wrote = wrote-none f p h }
+
+-- The next two.
+abbrev next-bits : (ls d : List ℕ) → ℕ → List Bool
+next-bits ls d k = bits-of (getD ls (k / 4) 0) (getD d k 0) ++ bits-of (getD ls (k / 4) 0) (getD d (k + 1) 0)
+
+-- They have one length.
+next-run : (ls d : List ℕ) (k : ℕ) → k % 2 ≡ 0 → run (number-bits ls d) (tabulate (k + 2) 0 (λ k. k)) ≡ run (number-bits ls d) (tabulate k 0 (λ k. k)) ++ next-bits ls d k
+next-run ls d k e =
+    let same : (k + 1) / 4 ≡ k / 4 = omega arith in
+    run-snoc-two (number-bits ls d) k
+    ∙ ap (λ j. run (number-bits ls d) (tabulate k 0 (λ k. k)) ++ (number-bits ls d k ++ bits-of (getD ls j 0) (getD d (k + 1) 0))) same
+
+module _ (ls d f f′ : List ℕ) (p q : Pending) (k : ℕ) (g : Going ls d f p f′ q k) where
+  -- There is room for them ..
+  pub room : k < 16 → 8 * p .pos + p .count + length (numbers-bits ls d) ≤ 8 * length f → 8 * q .pos + q .count + 2 * getD ls (k / 4) 0 ≤ 8 * length f′
+  room l h =
+      let n = getD ls (k / 4) 0 in
+      let all : k + 2 + (14 - k) ≡ 16 = omega (arith, g .even) in
+      let m : length (run (number-bits ls d) (tabulate (k + 2) 0 (λ k. k))) ≤ length (numbers-bits ls d) = rw all at (run-prefix (number-bits ls d) (k + 2) (14 - k)) in
+      let s : length (run (number-bits ls d) (tabulate (k + 2) 0 (λ k. k))) ≡ length (run (number-bits ls d) (tabulate k 0 (λ k. k))) + length (next-bits ls d k)
+      = ap length (next-run ls d k (g .even)) ∙ length-append (run (number-bits ls d) (tabulate k 0 (λ k. k))) (next-bits ls d k) in
+      let t : length (next-bits ls d k) ≡ length (bits-of n (getD d k 0)) + length (bits-of n (getD d (k + 1) 0)) = length-append (bits-of n (getD d k 0)) (bits-of n (getD d (k + 1) 0)) in
+      omega (arith, g .wrote .grown, g .wrote .length-is, bits-length n (getD d k 0), bits-length n (getD d (k + 1) 0))
+
+  -- .. and then they are written.
+  pub going-on : (f″ : List ℕ) (r : Pending) → k < 16 → Wrote f′ q (next-bits ls d k) f″ r → Going ls d f p f″ r (k + 2)
+  going-on f″ r l w =
+      record {
+        most = omega (arith, g .even);
+        even = omega (arith, g .even);
+        wrote = rw (next-run ls d k (g .even)) (wrote-both (g .wrote) w);
+      }
+
+  pub gone : 16 ≤ k → Wrote f p (run (number-bits ls d) (tabulate 16 0 (λ k. k))) f′ q
+  gone l = let e : k ≡ 16 = omega (arith, g .most) in rw e at (g .wrote)
+
+-- ── The block ──
+
+pub lengths-low : (d ls : List ℕ) → ls ≡ lengths-for (numbers d) → Lengths ls
+lengths-low d ls e = rw e (record { each = λ j. all-get (λ l. l < 16) (lengths-most (numbers d)) j 0 (lit< tt) })
+
+-- A block is 25 bits and its numbers.
+pub block-parts-length : (d ls : List ℕ) → ls ≡ lengths-for (numbers d) → length (block-bits (numbers d)) ≡ 25 + length (numbers-bits ls d)
+unfolding block-bits length-for
+block-parts-length d ls e =
+    let D = numbers d in
+    rw e
+    (length-append (fields-bits opening-widths opening ++ run (bits-of 4) (lengths-for D)) (numbers-bits (lengths-for D) d)
+    ∙ ap (λ n. n + length (numbers-bits (lengths-for D) d)) (sym (ap length (opening-law D)) ∙ bits-length 25 (opening-number (lengths-for D))))
+
+-- A block's length by its lengths.
+pub block-length-law : (d ls : List ℕ) → ls ≡ lengths-for (numbers d) → 25 + 4 * (getD ls 0 0 + getD ls 1 0 + getD ls 2 0 + getD ls 3 0) ≡ length (block-bits (numbers d))
+block-length-law d ls e = rw e (sym (block-length-is (numbers d)))
+
+-- After the opening there is room for the numbers.
+pub after-opening : (f f′ : List ℕ) (p q : Pending) (x : ℕ) (d ls : List ℕ) → ls ≡ lengths-for (numbers d) → p .count < 32
+    → 8 * p .pos + p .count + length (block-bits (numbers d)) ≤ 8 * length f → q ≡ put-state p 25 x
+    → f′ ≡ put-out f p 25 x → (q .count < 32) × (8 * q .pos + q .count + length (numbers-bits ls d) ≤ 8 * length f′)
+after-opening f f′ p q x d ls e h room s o =
+    let w = put-wrote f p 25 x f′ q h (lit≤ tt) s o in
+    (w .count-small, omega (arith, w .grown, w .length-is, bits-length 25 x, block-parts-length d ls e))
+
+-- The opening, and then the numbers, are a block.
+pub block-wrote : (d : List ℕ) {f f′ f″ : List ℕ} {p q r : Pending} (ls : List ℕ) (x : ℕ) → ls ≡ lengths-for (numbers d) → x ≡ opening-number ls
+    → p .count < 32 → q ≡ put-state p 25 x → f′ ≡ put-out f p 25 x → Wrote f′ q (run (number-bits ls d) (tabulate 16 0 (λ k. k))) f″ r → Wrote f p (block-bits (numbers d)) f″ r
+unfolding block-bits length-for
+block-wrote d {f} {f′} {f″} {p} {q} {r} ls x e e′ h s o w =
+    let first = put-wrote f p 25 x f′ q h (lit≤ tt) s o in
+    let all : Wrote f p (bits-of 25 x ++ run (number-bits ls d) (tabulate 16 0 (λ k. k))) f″ r = wrote-both first w in
+    rw (e′, e, opening-law (numbers d)) at all

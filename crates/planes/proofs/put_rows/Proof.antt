@@ -1,0 +1,128 @@
+-- What is put so far, with the columns of the rows that are left, is all columns.
+use Prim.Native.Nat.{_+_, _-_, _*_}
+use native.Mathlib.Omega.{arith}
+use borrow.Author.Needs.{needs}
+use lib.ListN.{drop}
+use Rattle.planes.specs.Planes.{evens, rows-of}
+use Rattle.planes.proofs.HalfLaws.{Put, put-none, put-more, put-all}
+use Rattle.planes.proofs.FrameLaws.{row-room, parity-row, parity-rows, parity-row-length, put-lent}
+use Rattle.planes.proofs.put_rows.Statement.{statement}
+use Rattle.planes.proofs.put_rows.Tie as tie
+
+abbrev Inv-loop : tie.InvT-loop
+Inv-loop samples size parity half₀ rows k₀ half k =
+    Put (evens (drop parity (rows-of size samples))) (size .width) rows half₀ half k
+
+abbrev μ-loop : tie.MeasureT-loop
+μ-loop samples size parity half₀ rows k₀ half k = rows - k
+
+add-rows : tie.Need-add-rows Inv-loop μ-loop
+add-rows c = search needs
+
+sub-rows : tie.Need-sub-rows Inv-loop μ-loop
+sub-rows c = search needs
+
+loop-holds : tie.Need-loop-holds Inv-loop μ-loop
+loop-holds c = put-none _ _ _ _
+
+mul-at : tie.Need-mul-at Inv-loop μ-loop
+mul-at c = search needs
+
+add-at : tie.Need-add-at Inv-loop μ-loop
+add-at c = search needs
+
+mul-at-2 : tie.Need-mul-at-2 Inv-loop μ-loop
+mul-at-2 c =
+    let a = c .before .before .before .before .before .before .args in
+    let p = c .before .before .before .before .before .before .pre in
+    let r = row-room (a .size) (2 * c .before .before .loop .k + a .parity) (p .within) (omega (arith, p .bit)) in
+    omega (arith, p .read)
+
+add-end : tie.Need-add-end Inv-loop μ-loop
+add-end c =
+    let a = c .before .before .before .before .before .before .before .args in
+    let p = c .before .before .before .before .before .before .before .pre in
+    let r = row-room (a .size) (2 * c .before .before .before .loop .k + a .parity) (p .within) (omega (arith, p .bit)) in
+    omega (arith, p .read)
+
+mul-put-row : tie.Need-mul-put-row Inv-loop μ-loop
+mul-put-row c =
+    let a = c .before .before .before .before .before .before .before .args in
+    let p = c .before .before .before .before .before .before .before .pre in
+    let r = row-room (a .size) (2 * c .before .before .before .loop .k + a .parity) (p .within) (omega (arith, p .bit)) in
+    omega (arith, p .read)
+
+sub-put-row : tie.Need-sub-put-row Inv-loop μ-loop
+sub-put-row c =
+    let a = c .before .before .before .before .before .before .before .args in
+    let p = c .before .before .before .before .before .before .before .pre in
+    let r = row-room (a .size) (2 * c .before .before .before .loop .k + a .parity) (p .within) (omega (arith, p .bit)) in
+    omega (arith, p .read)
+
+part-put-row-start : tie.Need-part-put-row-start Inv-loop μ-loop
+part-put-row-start c =
+    let a = c .before .before .before .before .before .before .before .args in
+    let p = c .before .before .before .before .before .before .before .pre in
+    let r = row-room (a .size) (2 * c .before .before .before .loop .k + a .parity) (p .within) (omega (arith, p .bit)) in
+    omega (arith, p .read)
+
+part-put-row-end : tie.Need-part-put-row-end Inv-loop μ-loop
+part-put-row-end c =
+    let a = c .before .before .before .before .before .before .before .args in
+    let p = c .before .before .before .before .before .before .before .pre in
+    let r = row-room (a .size) (2 * c .before .before .before .loop .k + a .parity) (p .within) (omega (arith, p .bit)) in
+    omega (arith, p .read)
+
+put-row-requires : tie.Need-put-row-requires Inv-loop μ-loop
+put-row-requires c κs =
+    let l = c .before .before .before .before .before .loop in
+    put-lent _ _ (l .k) _ _ (l .half) (c .before .before .before .before .before .before .before .before .before .pre) (omega arith) (l .inv .kept)
+
+add-k : tie.Need-add-k Inv-loop μ-loop
+add-k c = search needs
+
+loop-less : tie.Need-loop-less Inv-loop μ-loop
+loop-less c = search needs
+
+loop-again : tie.Need-loop-again Inv-loop μ-loop
+loop-again c =
+    let a = c .before .before .before .before .before .before .before .before .before .before .before .before .args in
+    let p = c .before .before .before .before .before .before .before .before .before .before .before .before .pre in
+    let l = c .before .before .before .before .before .before .before .before .loop in
+    put-more _ _ (parity-rows (a .size) (a .parity) (a .samples .now) (p .bit)) (omega (arith, l .inv .kept, p .written)) (omega arith)
+    (parity-row (a .size) (a .parity) (l .k) (a .samples .now) (omega (arith, p .bit)))
+    (parity-row-length (a .size) (a .parity) (l .k) (a .samples .now) (a .half .now) (l .half) p (omega arith) (l .inv .kept))
+    (c .before .before .put-row .ensures) (l .inv)
+
+same-length : tie.Need-same-length Inv-loop μ-loop
+same-length c = search needs
+
+returns : tie.Need-returns Inv-loop μ-loop
+returns c =
+    let a = c .before .before .before .before .before .args in
+    let p = c .before .before .before .before .before .pre in
+    put-all (parity-rows (a .size) (a .parity) (a .samples .now) (p .bit)) (p .written) (omega arith) (c .before .loop .inv)
+
+pub put-rows-spec : {M : Type 1} → statement M
+put-rows-spec =
+    tie.close
+    (tie.spec
+    Inv-loop
+    μ-loop
+    add-rows
+    sub-rows
+    loop-holds
+    mul-at
+    add-at
+    mul-at-2
+    add-end
+    mul-put-row
+    sub-put-row
+    part-put-row-start
+    part-put-row-end
+    put-row-requires
+    add-k
+    loop-less
+    loop-again
+    same-length
+    returns)

@@ -1,0 +1,4 @@
+pub mod PlaceLaws
+pub mod ResidualLaws
+pub mod RowLaws
+pub mod FrameLaws

@@ -1,0 +1,106 @@
+-- What a call of the V0 writer leaves when it is done: buffers that are decoded to the samples that it was lent.
+use Prim.Native.Nat.{ℕ, suc, _+_, _-_, _^_, _<_, _≤_, max}
+use mathlib.Core.Bool.{Bool, true, false, _||_, cond}
+use mathlib.Core.Path.{_≡_, refl, sym, ap, _∙_}
+use mathlib.Core.List.{List, [], _∷_, _++_}
+use native.Mathlib.Omega.{arith}
+use lib.ListN.{length, getD, take, drop, length-append, length-take, length-drop, drop-of-length-le}
+use lib.Seq.{drop-cons}
+use lib.Dec.{ltb, lit<}
+use borrow.Author.Tests.{ltb-true, ltb-false, lt-ltb, le-ltb}
+use Rattle.rules.specs.Frame.{cells}
+use Rattle.rules.specs.Answer.{too-large}
+use Rattle.rules.proofs.Cells.{All, nil, more, all-append, all-drop, all-get}
+use Rattle.rules.proofs.Tests.{neither}
+use Rattle.writers.specs.Calls.{Call, frame-of, stream-of, offsets-of, too-bright, short-output, write-refusal, unless-refused, stream-after, offsets-after}
+use Rattle.writers.proofs.Ahead.{Stream}
+use Rattle.writers.proofs.V0RoundTrip.{Holds, written-holds, stream-below}
+
+-- ── Tests that were passed ──
+
+pub not-bright : (f : List ℕ) → too-bright f ≡ false → All (λ a. a < 16_384) f
+unfolding too-bright
+not-bright [] e = nil
+not-bright (a ∷ f) e = let q = neither _ _ e in let l = ltb-false 16_383 a (q .0) in let l′ : a < 16_384 = omega arith in more l′ (not-bright f (q .1))
+
+-- The greatest sample before place i, and then those from there on: one step, and the end.
+pub bright-on : (f : List ℕ) (i most next : ℕ) → i < length f → next ≡ max most (getD f i 0)
+    → (ltb 16_383 most || too-bright (drop i f)) ≡ (ltb 16_383 next || too-bright (drop (i + 1) f))
+unfolding too-bright
+bright-on f i most next l e =
+    let one : i + 1 ≡ suc i = omega arith in
+    ap (λ l. ltb 16_383 most || too-bright l) (drop-cons f i 0 l ∙ ap (λ j. getD f i 0 ∷ drop j f) (sym one))
+    ∙ go (ltb 16_383 most) refl (ltb 16_383 (getD f i 0)) refl
+    ∙ ap (λ m. ltb 16_383 m || too-bright (drop (i + 1) f)) (sym e)
+  where
+    rest : Bool
+    rest = too-bright (drop (i + 1) f)
+
+    go : (t : Bool) → ltb 16_383 most ≡ t → (u : Bool) → ltb 16_383 (getD f i 0) ≡ u
+        → (t || (u || rest)) ≡ (ltb 16_383 (max most (getD f i 0)) || rest)
+    go true p u q = rw (lt-ltb 16_383 (max most (getD f i 0)) (omega (arith, ltb-true 16_383 most p)))
+    go false p true q = rw (lt-ltb 16_383 (max most (getD f i 0)) (omega (arith, ltb-true 16_383 (getD f i 0) q)))
+    go false p false q = rw (le-ltb 16_383 (max most (getD f i 0)) (omega (arith, ltb-false 16_383 most p, ltb-false 16_383 (getD f i 0) q)))
+
+pub bright-gone : (f : List ℕ) (i most : ℕ) → length f ≤ i → (ltb 16_383 most || too-bright (drop i f)) ≡ ltb 16_383 most
+unfolding too-bright
+bright-gone f i most l = rw (drop-of-length-le f {i = i} l) (go (ltb 16_383 most))
+  where
+    go : (t : Bool) → (t || false) ≡ t
+    go true = refl
+    go false = refl
+
+-- What a call that is done has passed.
+pub record Passed (c : Call) : Type 0 where
+  pub wide : c .size .width ≤ 16_384
+  pub high : c .size .height ≤ 16_384
+  pub enough : length (frame-of c) ≡ cells (c .size)
+  pub dim : All (λ a. a < 16_384) (frame-of c)
+  pub room : length (stream-of c) ≤ length (c .stream)
+  pub table : c .size .height ≤ length (c .offsets)
+
+pub passed : (c : Call) → write-refusal c ≡ 0 → Passed c
+unfolding write-refusal too-large short-output
+passed c e =
+    let p = tests (too-large (c .size)) (ltb (length (c .samples)) (cells (c .size))) (too-bright (frame-of c)) (short-output c) e in
+    let size = neither (ltb 16_384 (c .size .width)) (ltb 16_384 (c .size .height)) (p .0) in
+    let output = neither (ltb (length (c .stream)) (length (stream-of c))) (ltb (length (c .offsets)) (c .size .height)) (p .3) in
+    record {
+      wide = ltb-false _ _ (size .0);
+      high = ltb-false _ _ (size .1);
+      enough = taken (cells (c .size)) (c .samples) (ltb-false _ _ (p .1));
+      dim = not-bright (frame-of c) (p .2);
+      room = ltb-false _ _ (output .0);
+      table = ltb-false _ _ (output .1);
+    }
+  where
+    tests : (t1 t3 t9 t10 : Bool) → cond {A = ℕ} t1 1 (cond t3 3 (cond t9 9 (cond t10 10 0))) ≡ 0 → (t1 ≡ false) × (t3 ≡ false) × (t9 ≡ false) × (t10 ≡ false)
+    tests true t3 t9 t10 e = absurd (let q : 1 ≡ 0 = e in omega arith)
+    tests false true t9 t10 e = absurd (let q : 3 ≡ 0 = e in omega arith)
+    tests false false true t10 e = absurd (let q : 9 ≡ 0 = e in omega arith)
+    tests false false false true e = absurd (let q : 10 ≡ 0 = e in omega arith)
+    tests false false false false e = (refl, refl, refl, refl)
+
+    taken : (n : ℕ) (f : List ℕ) → n ≤ length f → length (take n f) ≡ n
+    taken n f l = length-take n f ∙ omega arith
+
+-- ── The round trip ──
+
+-- Bytes over a buffer of bytes are a stream.
+over-stream : (xs buffer : List ℕ) → All (λ b. b < 256) xs → All (λ b. b < 256) buffer → length xs ≤ length buffer → length buffer < 2 ^ 64
+    → Stream (xs ++ drop (length xs) buffer)
+over-stream xs buffer p q l h =
+    record {
+      bytes = λ i. all-get (λ b. b < 256) (all-append (λ b. b < 256) p (all-drop (λ b. b < 256) (length xs) q)) i 0 (lit< tt);
+      fewer = omega (arith, length-append xs (drop (length xs) buffer), length-drop (length xs) buffer);
+    }
+
+-- The buffers after a call that is done, whatever lies past what was written, hold the samples that were lent.
+pub write-holds : (c : Call) → All (λ b. b < 256) (c .stream) → length (c .stream) < 2 ^ 64 → write-refusal c ≡ 0
+    → Holds (stream-after c) (offsets-after c) (c .size) (frame-of c)
+unfolding stream-after offsets-after unless-refused
+write-holds c below fewer e =
+    let p = passed c e in
+    rw e
+    (written-holds (c .size) (frame-of c) (p .enough) (p .dim) (drop (length (stream-of c)) (c .stream)) (drop (length (offsets-of c)) (c .offsets))
+    (over-stream (stream-of c) (c .stream) (stream-below (c .size) (frame-of c)) below (p .room) fewer))
