@@ -31,8 +31,10 @@ impl Answer {
 /// | 6 | V2: a block predicts from outside the frame | the blocks before it are written |
 /// | 7 | V2: a difference is longer than the depth allows | the blocks before it are written |
 /// | 8 | V2: the stream ended | that row and those before it are written |
+/// | 11 | in bands: the band count or the block width is none that the frame can be cut by | every buffer as it was |
+/// | 12 | in bands: the list is too short or too long, or a step is no block's number or is not ready | every buffer as it was |
 ///
-/// 1 to 4 are tested in this order. After 5 to 8 the map describes the samples as they are left; the row in which the stream
+/// 1 to 4 are tested in this order, then 11 and 12. After 5 to 8 the map describes the samples as they are left; the row in which the stream
 /// ended has ones in place of the missing bits.
 ///
 /// ```
@@ -73,6 +75,8 @@ impl fmt::Display for Refusal {
             6 => write!(f, "row {row} predicts from outside the frame"),
             7 => write!(f, "row {row} has a difference longer than the depth allows"),
             8 => write!(f, "the stream ends in row {row}"),
+            11 => write!(f, "the frame can't be cut into so many bands, or into blocks of that width"),
+            12 => write!(f, "the steps don't do each block of the frame once, each when it is ready"),
             _ => write!(f, "refusal {number} in row {row}"),
         }
     }
@@ -86,9 +90,10 @@ mod tests {
 
     #[test]
     fn each_refusal_has_a_message_of_its_own() {
-        let texts: Vec<String> = (1..=9).map(|number| Refusal { number, row: 7 }.to_string()).collect();
+        let numbers = [1, 2, 3, 4, 11, 12, 5, 6, 7, 8, 99];
+        let texts = numbers.map(|number| Refusal { number, row: 7 }.to_string());
         for (i, text) in texts.iter().enumerate() {
-            assert_eq!(text.contains("row 7"), i >= 4, "{text}");
+            assert_eq!(text.contains("row 7"), i >= 6, "{text}");
             assert!(!texts[..i].contains(text), "{text}");
         }
         let error: Box<dyn error::Error> = Box::new(Refusal { number: 8, row: 435 });
