@@ -1,7 +1,9 @@
 //! Who decodes a frame: the Rust, and each of Razvolk's entries, all into the same buffers.
 
 use crate::measure::Contender;
+use compare::bands::Cut;
 use compare::call::{Answer, Ask, Decoder, Lent, razvolk_of};
+use razvolk::Bands;
 use std::cell::RefCell;
 use streams::{Frame, Version};
 
@@ -38,7 +40,15 @@ fn rust(version: Version) -> &'static [(&'static str, Rust)] {
     }
 }
 
-/// The Rust's decoders of a frame, and Razvolk's entries. Frames that are refused are run, too.
+/// How the decoder in bands is run: eight bands, or as many as there can be, in blocks of 256 columns, by diagonals.
+fn cut(frame: &Frame) -> Cut {
+    let (bands, block_width) = (Bands::most(frame.height).min(8), 256);
+    let steps = Bands::new(frame.width, frame.height, bands, block_width).into_iter().flat_map(Bands::by_diagonals);
+    Cut { bands, block_width, steps: steps.collect() }
+}
+
+/// The Rust's decoders of a frame, and Razvolk's entries. Frames that are refused are run, too. The decoder in bands is compared
+/// with Razvolk's own in two phases.
 pub fn of<'a>(frame: &'a Frame, buffers: &'a RefCell<Buffers>) -> Vec<Contender<'a>> {
     let mut contenders = Vec::new();
     for (against, &(name, decode)) in rust(frame.version).iter().enumerate() {
@@ -46,11 +56,17 @@ pub fn of<'a>(frame: &'a Frame, buffers: &'a RefCell<Buffers>) -> Vec<Contender<
         contenders.push(Contender { name, against, run: Box::new(run) });
     }
     for entry in razvolk_of(frame.version) {
-        let against = usize::from(entry.decoder == Decoder::TwoPhase);
+        let plain = contenders.iter().position(|contender| contender.name == "decode_v0");
+        let against = match entry.decoder {
+            Decoder::Bands => plain.unwrap_or(0),
+            decoder => usize::from(decoder == Decoder::TwoPhase),
+        };
         let name = entry.name;
+        let cut = cut(frame);
         let run = move || {
             let Buffers { samples, map, scratch } = &mut *buffers.borrow_mut();
-            entry.call(&Ask::of(frame), &mut Lent { samples, map, scratch }) == Answer::DONE
+            let ask = Ask { cut: &cut, ..Ask::of(frame) };
+            entry.call(&ask, &mut Lent { samples, map, scratch }) == Answer::DONE
         };
         contenders.push(Contender { name, against, run: Box::new(run) });
     }

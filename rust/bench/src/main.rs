@@ -32,7 +32,8 @@ fn time_all(runs: usize, part: usize) {
         "{model}; best of {runs} runs in turn, processor time of one thread; buffers are not cleared between runs"
     );
     println!(
-        "ratio: time divided by the Rust's, decode_v0_reference for direct, decode_v0_with(.., false) for two-phase"
+        "ratio: time divided by the Rust's, decode_v0_reference for direct, decode_v0_with(.., false) for two-phase; \
+        of decode_v0_bands, with 8 bands and blocks of 256 columns, by decode_v0's"
     );
     let (width, height) = (V0.0 / part, V0.1 / part);
     let photo_v0 = |width, height, noise| v0::encode(&photo(width, height, noise, 1), width, height);
