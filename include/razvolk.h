@@ -17,17 +17,19 @@ extern "C" {
 /* What a decoder answers. N below is width times height; scratch needs RAZVOLK_SCRATCH bytes.
  *
  *   number                                                                left behind
- *   0  done                                                               the frame, in the first N samples
- *   1  width or height is above 16,384                                    every buffer as it was
- *   2  V2: width is below 646 or height below 436                         every buffer as it was
- *   3  fewer than N samples are lent, or in V0 fewer offsets than rows    every buffer as it was
- *   4  the map is shorter than N bytes, or the scratch is too short       every buffer as it was
- *   5  V2: a block of row 0 or 1 predicts from the rows above             the blocks before it are written
- *   6  V2: a block predicts from outside the frame                        the blocks before it are written
- *   7  V2: a difference is longer than the depth allows                   the blocks before it are written
- *   8  V2: the stream ended                                               that row and those before it are written
+ *   0   done                                                               the frame, in the first N samples
+ *   1   width or height is above 16,384                                    every buffer as it was
+ *   2   V2: width is below 646 or height below 436                         every buffer as it was
+ *   3   fewer than N samples are lent, or in V0 fewer offsets than rows    every buffer as it was
+ *   4   the map is shorter than N bytes, or the scratch is too short       every buffer as it was
+ *   5   V2: a block of row 0 or 1 predicts from the rows above             the blocks before it are written
+ *   6   V2: a block predicts from outside the frame                        the blocks before it are written
+ *   7   V2: a difference is longer than the depth allows                   the blocks before it are written
+ *   8   V2: the stream ended                                               that row and those before it are written
+ *   11  in bands: the band count or the block width is none that the frame can be cut by             every buffer as it was
+ *   12  in bands: the list is too short or too long, or a step is no block's number or is not ready  every buffer as it was
  *
- * 1 to 4 are tested in this order; then the stream decides. `row` is the row at fault of 5 to 8, else 0. Samples and map
+ * 1 to 4 are tested in this order, then 11 and 12; then the stream decides. `row` is the row at fault of 5 to 8, else 0. Samples and map
  * bytes from N on never change. */
 typedef struct {
     uint32_t number;
@@ -66,6 +68,25 @@ razvolk_answer razvolk_decode_v0(const uint8_t *src, size_t src_len, const uint3
 razvolk_answer razvolk_decode_v0_map(const uint8_t *src, size_t src_len, const uint32_t *offsets, size_t offsets_len,
                                      size_t width, size_t height, uint16_t *samples, size_t samples_len, uint8_t *map,
                                      size_t map_len, uint8_t *scratch, size_t scratch_len);
+
+/* V0 in two phases, the second in bands: the same samples and scratch, whatever the sequence of the steps. There is no map.
+ *
+ * Rows 2 on are cut into 1 to RAZVOLK_MOST_BANDS(height) bands. With R rows from row 2 on, band k has those from k times R
+ * divided by bands up to but not (k + 1) times R divided by bands, rounded down. Columns are cut into blocks of block_width, a
+ * multiple of 16 and not 0; it may be above the width. A step is band times blocks in a band plus block, and is ready if it is
+ * not done, and the block to its left and the same block in the band above are. The list of RAZVOLK_STEPS(..) steps does each
+ * block once, each when it is ready; while blocks remain, one is.
+ * 0                samples and scratch as of razvolk_decode_v0
+ * 1, 3, 4, 11, 12  nothing is written, neither samples nor scratch */
+razvolk_answer razvolk_decode_v0_bands(const uint8_t *src, size_t src_len, const uint32_t *offsets, size_t offsets_len,
+                                       size_t width, size_t height, uint16_t *samples, size_t samples_len, uint8_t *scratch,
+                                       size_t scratch_len, size_t bands, size_t block_width, const uint32_t *steps,
+                                       size_t steps_len);
+
+/* The most bands that a frame of so many rows can be cut into, and how many steps a frame has that is cut so. */
+#define RAZVOLK_MOST_BANDS(height) ((height) < 6 ? (size_t)1 : (height) > 130 ? (size_t)64 : ((size_t)(height) - 2) / 2)
+#define RAZVOLK_STEPS(width, height, bands, block_width) \
+    ((width) > 0 && (height) > 2 ? (((size_t)(width) - 1) / (size_t)(block_width) + 1) * (size_t)(bands) : (size_t)0)
 
 /* V2. The last (width modulo 16) samples of a row are not written: they keep what the buffer held, and later rows may build on
  * them.
