@@ -112,8 +112,8 @@ impl Bands {
         None
     }
 
-    /// The frame cut as samsung.rs cuts it for so many threads: a band for each, and about four blocks in a band for each, of at
-    /// least 256 columns. `None` if the frame is larger than [`MAX_SIDE`].
+    /// The frame cut as samsung.rs cuts it for so many threads, at most 64: a band for each where it has the rows, and about four
+    /// blocks in a band for each, of at least 256 columns. `None` if the frame is larger than [`MAX_SIDE`].
     ///
     /// ```
     /// let bands = razvolk::Bands::for_threads(5_000, 3_500, 8).expect("within the limits");

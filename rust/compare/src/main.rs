@@ -40,7 +40,7 @@ const COMPARISONS: [Comparison; 7] = [
     },
     Comparison {
         name: "bands",
-        quick: 5_000,
+        quick: 20_000,
         long: 100_000,
         run: |seed, n| of(&razvolk_in_bands(), |entries| bands::compare(entries, seed, n)),
     },

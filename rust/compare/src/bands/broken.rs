@@ -51,6 +51,8 @@ impl Cut {
         let mut cut = self.clone();
         let (len, blocks) = (cut.steps.len(), cut.blocks(width, height));
         let any = |random: &mut Random| (random.index(len), random.index(len));
+        let left = |step: usize| (!step.is_multiple_of(blocks)).then(|| step - 1);
+        let above = |step: usize| step.checked_sub(blocks);
         match way {
             Way::Short if len > 0 && random.below(2) == 0 => cut.steps.truncate(random.index(len)),
             Way::Short if len > 0 => drop(cut.steps.remove(random.index(len))),
@@ -62,10 +64,8 @@ impl Cut {
                 let past = [len as u32, u32::MAX, len as u32 + random.below(9) as u32][random.index(3)];
                 cut.steps[random.index(len)] = past;
             }
-            Way::BeforeLeft if blocks > 1 => cut.move_before(random, |step| step % blocks > 0, 1, blocks),
-            Way::BeforeAbove if blocks > 0 && cut.bands > 1 => {
-                cut.move_before(random, |step| step >= blocks, blocks, 1);
-            }
+            Way::BeforeLeft if blocks > 1 => cut.move_before(random, left, above),
+            Way::BeforeAbove if blocks > 0 && cut.bands > 1 => cut.move_before(random, above, left),
             Way::Swapped if len > 1 => {
                 let (one, other) = any(random);
                 cut.steps.swap(one, other);
@@ -96,18 +96,22 @@ impl Cut {
         }
     }
 
-    /// Puts a step right before the one that is `back` numbers before it, and that it waits for; where it can be, one for which
-    /// nothing else is missing, by the other one that it waits for, `other` numbers before it.
-    fn move_before(&mut self, random: &mut Random, waits: impl Fn(usize) -> bool, back: usize, other: usize) {
+    /// Puts a step right before one that it waits for, where nothing else is missing.
+    fn move_before(
+        &mut self,
+        random: &mut Random,
+        missing: impl Fn(usize) -> Option<usize>,
+        other: impl Fn(usize) -> Option<usize>,
+    ) {
         let mut places = vec![0; self.steps.len()];
         for (place, &step) in self.steps.iter().enumerate() {
             places[step as usize] = place;
         }
-        let alone =
-            |step: usize| step < other || other == 1 && step % back == 0 || places[step - other] < places[step - back];
-        let steps: Vec<usize> = (0..places.len()).filter(|&step| waits(step) && alone(step)).collect();
-        let step = steps[random.index(steps.len())];
-        let moved = self.steps.remove(places[step]);
-        self.steps.insert(places[step - back], moved);
+        let moves = (0..places.len()).filter_map(|step| Some((places[step], places[missing(step)?], other(step))));
+        let moves = moves.filter(|&(_, to, other)| other.is_none_or(|other| places[other] < to));
+        let moves: Vec<(usize, usize)> = moves.map(|(from, to, _)| (from, to)).collect();
+        let (from, to) = moves[random.index(moves.len())];
+        let step = self.steps.remove(from);
+        self.steps.insert(to, step);
     }
 }

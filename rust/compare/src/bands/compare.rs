@@ -118,12 +118,14 @@ fn frame(entry: &Entry, frame: &Frame, random: &mut Random, seen: &mut Seen) -> 
     Ok(())
 }
 
-/// A size: as for V0's comparison, or one of more bands and blocks.
+/// A size: as for V0's comparison, or one of more bands and blocks, now and then up to the limits.
 fn size(random: &mut Random, i: u64) -> (usize, usize) {
-    match i % 4 {
-        0 | 2 => (random.index(200), random.index(40)),
-        1 if i % 16 == 1 => (random.index(40), 100 + random.index(100)),
-        1 if i % 64 == 5 => (random.index(700), random.index(300)),
+    match i % 64 {
+        k if k % 2 == 0 => (random.index(200), random.index(40)),
+        1 | 17 | 33 | 49 => (random.index(40), 100 + random.index(100)),
+        5 => (random.index(700), random.index(300)),
+        9 if i % 1_024 == 9 => (16_384 - random.index(20), random.index(9)),
+        9 if i % 1_024 == 73 => (random.index(20), 16_384 - random.index(20)),
         _ => v0::any::size(random, i),
     }
 }

@@ -126,7 +126,10 @@ impl Cut {
 
     /// The answer's number of a call that is past 1 to 4: 11, 12, or done. What is done is kept step by step.
     pub fn number(&self, width: usize, height: usize) -> Option<u32> {
-        if !(1..=most_bands(height)).contains(&self.bands) || self.block_width == 0 || self.block_width % 16 != 0 {
+        if !(1..=most_bands(height)).contains(&self.bands)
+            || self.block_width == 0
+            || !self.block_width.is_multiple_of(16)
+        {
             return Some(11);
         }
         let blocks = self.blocks(width, height);

@@ -77,7 +77,7 @@ fn fits(fault: Fault, width: usize, height: usize, cut: &Cut) -> bool {
     };
     let multiple = if fault == Fault::BlocksOfEight { 8 } else { 16 };
     let narrow = fault == Fault::RefusesAWideBlock && cut.block_width > width.max(16);
-    (least..=most).contains(&cut.bands) && cut.block_width > 0 && cut.block_width % multiple == 0 && !narrow
+    (least..=most).contains(&cut.bands) && cut.block_width > 0 && cut.block_width.is_multiple_of(multiple) && !narrow
 }
 
 /// Whether the list is good, by how many blocks of each band are done.
