@@ -44,7 +44,7 @@ pub fn decode_v0_bands(
 
 /// How a V0 frame is cut for [`decode_v0_bands`]: rows 2 on into bands, columns into blocks.
 ///
-/// A scheduler's list: here the lowest band that can go on always does, as one that runs out of buffers would have it.
+/// A scheduler's list, in which the lowest band that is ready always goes on:
 ///
 /// ```
 /// use razvolk::{Bands, decode_v0, decode_v0_bands, scratch_len};
