@@ -2,9 +2,10 @@
 
 use crate::measure::Contender;
 use compare::bands::Cut;
-use compare::call::{Answer, Ask, Decoder, Lent, razvolk_of};
+use compare::call::{Answer, Ask, Decoder, Entry, Lent, razvolk_of};
 use razvolk::Bands;
 use std::cell::RefCell;
+use std::rc::Rc;
 use streams::{Frame, Version};
 
 /// The buffers that all contenders share. They are not cleared between runs.
@@ -40,11 +41,23 @@ fn rust(version: Version) -> &'static [(&'static str, Rust)] {
     }
 }
 
-/// How the decoder in bands is run: eight bands, or as many as there can be, in blocks of 256 columns, by diagonals.
-fn cut(frame: &Frame) -> Cut {
-    let (bands, block_width) = (Bands::most(frame.height).min(8), 256);
-    let steps = Bands::new(frame.width, frame.height, bands, block_width).into_iter().flat_map(Bands::by_diagonals);
-    Cut { bands, block_width, steps: steps.collect() }
+/// A name, and how the frame is cut for it.
+type Named = (&'static str, Cut);
+
+/// How an entry is run. The one in bands is, with eight bands, or as many as there can be, in blocks of 256 columns, in two
+/// sequences.
+fn runs(entry: &Entry, frame: &Frame) -> Vec<Named> {
+    let (count, block_width) = (Bands::most(frame.height).min(8), 256);
+    match Bands::new(frame.width, frame.height, count, block_width) {
+        Some(bands) if entry.decoder == Decoder::Bands => {
+            let cut = |steps| Cut { bands: count, block_width, steps };
+            vec![
+                ("decode_v0_bands, band by band", cut(bands.by_bands().collect())),
+                ("decode_v0_bands, by diagonals", cut(bands.by_diagonals().collect())),
+            ]
+        }
+        _ => vec![(entry.name, Cut::NONE)],
+    }
 }
 
 /// The Rust's decoders of a frame, and Razvolk's entries. Frames that are refused are run, too. The decoder in bands is compared
@@ -55,20 +68,21 @@ pub fn of<'a>(frame: &'a Frame, buffers: &'a RefCell<Buffers>) -> Vec<Contender<
         let run = move || decode(frame, &mut buffers.borrow_mut().samples).is_ok();
         contenders.push(Contender { name, against, run: Box::new(run) });
     }
-    for entry in razvolk_of(frame.version) {
+    for entry in razvolk_of(frame.version).into_iter().map(Rc::new) {
         let plain = contenders.iter().position(|contender| contender.name == "decode_v0");
         let against = match entry.decoder {
             Decoder::Bands => plain.unwrap_or(0),
             decoder => usize::from(decoder == Decoder::TwoPhase),
         };
-        let name = entry.name;
-        let cut = cut(frame);
-        let run = move || {
-            let Buffers { samples, map, scratch } = &mut *buffers.borrow_mut();
-            let ask = Ask { cut: &cut, ..Ask::of(frame) };
-            entry.call(&ask, &mut Lent { samples, map, scratch }) == Answer::DONE
-        };
-        contenders.push(Contender { name, against, run: Box::new(run) });
+        for (name, cut) in runs(&entry, frame) {
+            let entry = Rc::clone(&entry);
+            let run = move || {
+                let Buffers { samples, map, scratch } = &mut *buffers.borrow_mut();
+                let ask = Ask { cut: &cut, ..Ask::of(frame) };
+                entry.call(&ask, &mut Lent { samples, map, scratch }) == Answer::DONE
+            };
+            contenders.push(Contender { name, against, run: Box::new(run) });
+        }
     }
     contenders
 }
