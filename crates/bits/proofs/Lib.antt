@@ -1,2 +1,3 @@
 pub mod RefilledLaws
 pub mod WholeLaws
+pub mod FourLaws

@@ -4,7 +4,7 @@ use mathlib.Core.Bool.{Bool, _||_}
 use mathlib.Core.List.{List}
 use Prim.Native.Nat.{ℕ, _+_, _*_, _-_, _%_, _^_, _≤_, _<_, min}
 use native.Mathlib.Omega.{arith}
-use Rattle.rules.specs.Reader.{fetched, held, first-bits, read}
+use Rattle.rules.specs.Reader.{fetched, held, first-bits}
 use Rattle.rules.proofs.ReaderLaws.{held-small, read-held, read-next, read-capped}
 use Rattle.rules.specs.declared.reader.Bits.{Bits}
 use Rattle.rules.specs.declared.reader.Word.{Word}

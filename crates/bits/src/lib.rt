@@ -5,6 +5,9 @@ ghost use mathlib.Core.Path.{_≡_};
 ghost use Prim.Native.Nat.{_+_, _*_, _/_, _%_, _^_, _≤_, _<_, min};
 ghost use Rattle.rules.specs.Reader.{fetched, held, reset-at, read, signed, read-signed, modulo, read-residual};
 ghost use Rattle.bits.specs.Refilled.{Enough, Whole};
+
+pub mod four;
+
 use fields::field;
 use fields::residual_of;
 use fields::signed_of;

@@ -3,7 +3,6 @@ ghost use mathlib.Core.Path.{_≡_};
 ghost use Rattle.rules.specs.Reader.{fresh, read};
 ghost use Rattle.ph1bits.specs.Host.{stepped, moved};
 use rules::Bits;
-use rules::Got;
 
 pub struct Ph1Bits<'a> {
     pub data: &'a [u8],
@@ -54,14 +53,4 @@ impl<'a> Ph1Bits<'a> {
     {
         self.state.overrun
     }
-}
-
-// Reads n bits at a position, for a caller that has no reader: the value, and the state after it.
-pub fn read_at(data: &[u8], pos: u64, n: u32) -> Got
-    ensures { λ r. ⌜ r ≡ read (now («data» .entry)) (fresh pos) n ⌝ }
-{
-    let mut reader = Ph1Bits::new(data, pos);
-    let value = reader.get(n);
-    let next = reader.state;
-    Got { value, bits: next }
 }

@@ -1,23 +1,34 @@
 -- No earlier frame reaches a sample that is marked 0: the claim holds of the exports too. What an export's contract says of a call
--- that has returned is what its entry's contract says of it, so a list of calls of the exports is a list of calls of the entries.
-use mathlib.Core.Path.{_≡_}
-use mathlib.Core.List.{List, _++_}
-use Prim.Native.Nat.{ℕ}
-use Rattle.rules.proofs.Isolation.{Alike, Ran, Same, Samples}
+-- that has returned is what its entry's contract says of it, so each call of an export is a call of its entry.
+use Rattle.rules.proofs.Isolation.{Returned, Step, decodes}
+use Rattle.rules.proofs.Isolation as Rules
 use Rattle.samsung.proofs.Isolation.{Made, Call, returned}
 use Rattle.samsung.proofs.Isolation as Entries
+use Rattle.samsung.proofs.TwoPhase.{Paired, SameFrame, same-frame}
 use Rattle.razvolk.proofs.direct.razvolk_decode_v0_reference.Kinds as direct-kinds
 use Rattle.razvolk.proofs.direct.razvolk_decode_v0_reference.Reads as direct-reads
+use Rattle.razvolk.proofs.direct.razvolk_decode_v0_reference.Statement as direct-stated
+use Rattle.razvolk.proofs.direct.razvolk_decode_v0_reference.Met as direct-thm
 use Rattle.razvolk.proofs.direct.razvolk_decode_v0_reference_map.Kinds as direct-map-kinds
 use Rattle.razvolk.proofs.direct.razvolk_decode_v0_reference_map.Reads as direct-map-reads
+use Rattle.razvolk.proofs.direct.razvolk_decode_v0_reference_map.Statement as direct-map-stated
+use Rattle.razvolk.proofs.direct.razvolk_decode_v0_reference_map.Met as direct-map-thm
 use Rattle.razvolk.proofs.two_phase.razvolk_decode_v0.Kinds as two-phase-kinds
 use Rattle.razvolk.proofs.two_phase.razvolk_decode_v0.Reads as two-phase-reads
+use Rattle.razvolk.proofs.two_phase.razvolk_decode_v0.Statement as two-phase-stated
+use Rattle.razvolk.proofs.two_phase.razvolk_decode_v0.Met as two-phase-thm
 use Rattle.razvolk.proofs.two_phase.razvolk_decode_v0_map.Kinds as two-phase-map-kinds
 use Rattle.razvolk.proofs.two_phase.razvolk_decode_v0_map.Reads as two-phase-map-reads
-use Rattle.razvolk.proofs.motion.razvolk_decode_v2.Kinds as v2-kinds
-use Rattle.razvolk.proofs.motion.razvolk_decode_v2.Reads as v2-reads
-use Rattle.razvolk.proofs.motion.razvolk_decode_v2_map.Kinds as v2-map-kinds
-use Rattle.razvolk.proofs.motion.razvolk_decode_v2_map.Reads as v2-map-reads
+use Rattle.razvolk.proofs.two_phase.razvolk_decode_v0_map.Statement as two-phase-map-stated
+use Rattle.razvolk.proofs.two_phase.razvolk_decode_v0_map.Met as two-phase-map-thm
+use Rattle.razvolk.proofs.v2.razvolk_decode_v2.Kinds as v2-kinds
+use Rattle.razvolk.proofs.v2.razvolk_decode_v2.Reads as v2-reads
+use Rattle.razvolk.proofs.v2.razvolk_decode_v2.Statement as v2-stated
+use Rattle.razvolk.proofs.v2.razvolk_decode_v2.Met as v2-thm
+use Rattle.razvolk.proofs.v2.razvolk_decode_v2_map.Kinds as v2-map-kinds
+use Rattle.razvolk.proofs.v2.razvolk_decode_v2_map.Reads as v2-map-reads
+use Rattle.razvolk.proofs.v2.razvolk_decode_v2_map.Statement as v2-map-stated
+use Rattle.razvolk.proofs.v2.razvolk_decode_v2_map.Met as v2-map-thm
 
 -- A call of one of the six exported decoders.
 pub data Export : Type 0 where
@@ -29,7 +40,7 @@ pub data Export : Type 0 where
   v2-map : Made v2-map-kinds.ps v2-map-kinds.r v2-map-reads.Learnt → Export
 
 -- The same call of the export's entry: its arguments, result and parameters at exit, and what the export's contract says of them.
-pub entry : Export → Call
+unfoldable pub entry : Export → Call
 entry (direct c) = Entries.direct (record { κs = c .κs; args = c .args; result = c .result; exit = c .exit; learnt = c .learnt })
 entry (direct-map c) = Entries.direct-map (record { κs = c .κs; args = c .args; result = c .result; exit = c .exit; learnt = c .learnt })
 entry (two-phase c) = Entries.two-phase (record { κs = c .κs; args = c .args; result = c .result; exit = c .exit; learnt = c .learnt })
@@ -37,20 +48,47 @@ entry (two-phase-map c) = Entries.two-phase-map (record { κs = c .κs; args = c
 entry (v2 c) = Entries.v2 (record { κs = c .κs; args = c .args; result = c .result; exit = c .exit; learnt = c .learnt })
 entry (v2-map c) = Entries.v2-map (record { κs = c .κs; args = c .args; result = c .result; exit = c .exit; learnt = c .learnt })
 
--- Calls of the exports one after another on a buffer.
-pub data Calls (first : List ℕ) : List ℕ → Type 0 where
-  start : Calls first first
-  call : {buffer : List ℕ} → Calls first buffer → (c : Export) (rest : List ℕ) → buffer ≡ returned (entry c) .found ++ rest
-      → Calls first (returned (entry c) .left ++ rest)
+-- What it asked, found, answered and left, and what it does to the sample buffer.
+abbrev pub exported : Export → Returned
+exported c = returned (entry c)
 
-of-entries : {b x : List ℕ} → Calls b x → Entries.Calls b x
-of-entries start = Entries.start
-of-entries (call cs c rest e) = Entries.call (of-entries cs) (entry c) rest e
+abbrev pub step : Export → Step
+step c = decodes (exported c)
 
 -- The claim of `samsung`, for lists of calls of the exports.
-pub isolation : (b b′ x y : List ℕ) → Samples b → Samples b′ → Calls b x → Calls b′ y
-    → (c d : Export) (rest rest′ : List ℕ) → x ≡ returned (entry c) .found ++ rest → y ≡ returned (entry d) .found ++ rest′
-    → Alike (returned (entry c)) (returned (entry d)) → Ran (returned (entry c) .answered) → Ran (returned (entry d) .answered)
-    → Same (returned (entry c)) (returned (entry d))
-isolation b b′ x y h h′ cs ds c d rest rest′ e e′ alike ran ran′ =
-    Entries.isolation b b′ x y h h′ (of-entries cs) (of-entries ds) (entry c) (entry d) rest rest′ e e′ alike ran ran′
+abbrev pub Isolation : Type 0
+Isolation = Rules.Isolation step exported
+
+pub isolation : Isolation
+isolation = Rules.isolation step exported
+
+-- Two-phase equals direct, of the exports: called alike, with scratch long enough, they give the same answer, samples and marks.
+abbrev pub TwoPhase : Type 0
+TwoPhase = (c d : Export) → Paired (exported c) (exported d) → SameFrame (exported c) (exported d)
+
+pub two-phase-same : TwoPhase
+two-phase-same c d p = same-frame (exported c) (exported d) p
+
+-- Both, beside each export's theorem that its code meets the contract that they speak of.
+pub record OfTheCode (M : Type 1) : Type 2 where
+  pub decode-v0-reference : direct-stated.statement M
+  pub decode-v0-reference-map : direct-map-stated.statement M
+  pub decode-v0 : two-phase-stated.statement M
+  pub decode-v0-map : two-phase-map-stated.statement M
+  pub decode-v2 : v2-stated.statement M
+  pub decode-v2-map : v2-map-stated.statement M
+  pub isolation : Isolation
+  pub two-phase-same : TwoPhase
+
+pub of-the-code : {M : Type 1} → OfTheCode M
+of-the-code =
+    record {
+      decode-v0-reference = direct-thm.met;
+      decode-v0-reference-map = direct-map-thm.met;
+      decode-v0 = two-phase-thm.met;
+      decode-v0-map = two-phase-map-thm.met;
+      decode-v2 = v2-thm.met;
+      decode-v2-map = v2-map-thm.met;
+      isolation = isolation;
+      two-phase-same = two-phase-same;
+    }

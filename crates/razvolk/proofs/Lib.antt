@@ -1,2 +1,3 @@
--- The claim of the exports.
+-- The claims of the exports, and the first of them at work.
+pub mod AtWork
 pub mod Isolation

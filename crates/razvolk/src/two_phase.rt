@@ -1,8 +1,6 @@
 // The two-phase V0 decoder.
-ghost use mathlib.Core.Path.{_≡_};
 ghost use mathlib.Core.Option.{none, some};
-ghost use lib.ListN.{length};
-ghost use Rattle.rules.specs.Answer.{two-phase, ask, lent, answer, samples-after, map-after, scratch-after};
+ghost use Rattle.rules.specs.Answer.{two-phase, ask, buffers, Yields};
 use rules::Answer;
 
 // Decodes a V0 frame over what `samples` holds, its directions in `scratch`. Refusals 1, 3 and 4.
@@ -15,9 +13,9 @@ pub extern "C" fn razvolk_decode_v0(
     samples: &mut [u16],
     scratch: &mut [u8],
 ) -> Answer
-    ensures { λ r. ⌜ r ≡ answer (ask two-phase (now (src .entry)) (now (offsets .entry)) width height) (lent (length (now (samples .entry))) none (length (now (scratch .entry)))) ⌝ }
-    ensures { λ r. ⌜ now (samples .exit) ≡ samples-after (ask two-phase (now (src .entry)) (now (offsets .entry)) width height) (lent (length (now (samples .entry))) none (length (now (scratch .entry)))) (now (samples .entry)) ⌝ }
-    ensures { λ r. ⌜ now (scratch .exit) ≡ scratch-after (ask two-phase (now (src .entry)) (now (offsets .entry)) width height) (lent (length (now (samples .entry))) none (length (now (scratch .entry)))) (now (scratch .entry)) ⌝ }
+    ensures { λ r. ⌜ Yields (ask two-phase (now (src .entry)) (now (offsets .entry)) width height)
+        (buffers (now (samples .entry)) none (some (now (scratch .entry))))
+        r (buffers (now (samples .exit)) none (some (now (scratch .exit)))) ⌝ }
 {
     samsung::decode_v0(src, offsets, width, height, samples, scratch)
 }
@@ -33,10 +31,9 @@ pub extern "C" fn razvolk_decode_v0_map(
     map: &mut [u8],
     scratch: &mut [u8],
 ) -> Answer
-    ensures { λ r. ⌜ r ≡ answer (ask two-phase (now (src .entry)) (now (offsets .entry)) width height) (lent (length (now (samples .entry))) (some (length (now (map .entry)))) (length (now (scratch .entry)))) ⌝ }
-    ensures { λ r. ⌜ now (samples .exit) ≡ samples-after (ask two-phase (now (src .entry)) (now (offsets .entry)) width height) (lent (length (now (samples .entry))) (some (length (now (map .entry)))) (length (now (scratch .entry)))) (now (samples .entry)) ⌝ }
-    ensures { λ r. ⌜ now (map .exit) ≡ map-after (ask two-phase (now (src .entry)) (now (offsets .entry)) width height) (lent (length (now (samples .entry))) (some (length (now (map .entry)))) (length (now (scratch .entry)))) (now (map .entry)) ⌝ }
-    ensures { λ r. ⌜ now (scratch .exit) ≡ scratch-after (ask two-phase (now (src .entry)) (now (offsets .entry)) width height) (lent (length (now (samples .entry))) (some (length (now (map .entry)))) (length (now (scratch .entry)))) (now (scratch .entry)) ⌝ }
+    ensures { λ r. ⌜ Yields (ask two-phase (now (src .entry)) (now (offsets .entry)) width height)
+        (buffers (now (samples .entry)) (some (now (map .entry))) (some (now (scratch .entry))))
+        r (buffers (now (samples .exit)) (some (now (map .exit))) (some (now (scratch .exit)))) ⌝ }
 {
     samsung::decode_v0_map(src, offsets, width, height, samples, map, scratch)
 }

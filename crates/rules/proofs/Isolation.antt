@@ -11,9 +11,9 @@
 use Prim.Native.Nat.{ℕ, _+_, _%_, _<_, _≤_}
 use mathlib.Core.Path.{_≡_, refl, sym, ap, _∙_, subst}
 use mathlib.Core.Bool.{Bool, true, false, cond}
-use mathlib.Core.Logic.{_⊎_}
+use mathlib.Core.Logic.{_⊎_, inl, inr}
 use mathlib.Core.List.{List, _++_}
-use mathlib.Core.Option.{Option, none, some}
+use mathlib.Core.Option.{Option, none, some, Option·map, Option·some-injective, Option·some-ne-none}
 use native.Mathlib.Omega.{arith}
 use lib.ListN.{length, getD, take, drop, List·getD-append}
 use lib.Dec.{eqb}
@@ -23,7 +23,7 @@ use Rattle.rules.specs.declared.answer.Answer.{Answer}
 use Rattle.rules.specs.declared.answer.Size.{Size}
 use Rattle.rules.specs.Frame.{cells}
 use Rattle.rules.specs.Map.{stream, origins, position, amount}
-use Rattle.rules.specs.Answer.{Decoder, direct, two-phase, v2, Ask, Lent, lent, answer, refusal, marks, frame-samples, frame-marks, stream-answer, samples-after, map-after, unless-refused}
+use Rattle.rules.specs.Answer.{Decoder, direct, two-phase, v2, Ask, Buffers, lengths, Yields, answer, refusal, marks, frame-samples, frame-marks, stream-answer, samples-after, map-after, unless-refused}
 use Rattle.rules.proofs.Cells.{All, all-append, all-take, all-drop}
 use Rattle.rules.proofs.Refusals.{passed, answer-passed, samples-enough}
 use Rattle.rules.proofs.V0Cells as V0Cells
@@ -34,43 +34,41 @@ use Rattle.rules.proofs.TwoPhase.{two-phase-direct, two-phase-map-direc
 
 -- ── The statement ──
 
--- The length of a map, where one is lent.
-abbrev pub lengths : Option (List ℕ) → Option ℕ
-lengths none = none
-lengths (some m) = some (length m)
-
--- A call that has returned: what it asked, what it was lent, as it found it, and what it answered and left, by the rules.
+-- A call that has returned: what it asked, its buffers as it found them, what it answered, and its buffers as it left them, by the
+-- rules.
 pub record Returned : Type 0 where
   pub ask : Ask
-  pub found : List ℕ
-  pub map : Option (List ℕ)
-  pub scratch : List ℕ
+  pub found : Buffers
   pub answered : Answer
-  pub left : List ℕ
-  pub map-left : List ℕ
-  pub answered-is : answered ≡ answer ask (lent (length found) (lengths map) (length scratch))
-  pub left-is : left ≡ samples-after ask (lent (length found) (lengths map) (length scratch)) found
-  pub map-left-is : (m : List ℕ) → map ≡ some m → map-left ≡ map-after ask (lent (length found) (lengths map) (length scratch)) m
+  pub left : Buffers
+  pub yields : Yields ask found answered left
 
--- What a call was lent.
-abbrev pub lent-to : Returned → Lent
-lent-to c = lent (length (c .found)) (lengths (c .map)) (length (c .scratch))
+-- Samples are 16-bit numbers.
+abbrev pub Samples : List ℕ → Type 0
+Samples b = All (λ v. v < 65_536) b
+
+-- What a call that writes a sample buffer, a decoder's or another, finds there and leaves there: 16-bit samples, if it found such.
+pub record Step : Type 0 where
+  pub found : List ℕ
+  pub left : List ℕ
+  pub below : Samples found → Samples left
 
 -- Calls one after another on a buffer, which they take from what it first held to what it holds now.
-pub data Calls (first : List ℕ) : List ℕ → Type 0 where
-  start : Calls first first
-  call : {now : List ℕ} → Calls first now → (c : Returned) (rest : List ℕ) → now ≡ c .found ++ rest → Calls first (c .left ++ rest)
+pub data Calls {C : Type 0} (step : C → Step) (first : List ℕ) : List ℕ → Type 0 where
+  start : Calls step first first
+  call : {now : List ℕ} → Calls step first now → (c : C) (rest : List ℕ) → now ≡ step c .found ++ rest
+      → Calls step first (step c .left ++ rest)
 
 -- Two calls that are alike in all but what their buffers hold. Where only one is lent a map, the decoder is the same.
 pub record Alike (c d : Returned) : Type 0 where
   pub ask : c .ask ≡ d .ask
-  pub samples : length (c .found) ≡ length (d .found)
-  pub scratch : length (c .scratch) ≡ length (d .scratch)
-  pub map : (m n : List ℕ) → c .map ≡ some m → d .map ≡ some n → length m ≡ length n
+  pub samples : lengths (c .found) .samples ≡ lengths (d .found) .samples
+  pub scratch : lengths (c .found) .scratch ≡ lengths (d .found) .scratch
+  pub map : (m n : List ℕ) → c .found .map ≡ some m → d .found .map ≡ some n → length m ≡ length n
 
 -- Done, or 5 to 8.
 abbrev pub Ran : Answer → Type 0
-Ran a = (a .number ≡ 0) ⊎ (5 ≤ a .number)
+Ran a = (a .number ≡ 0) ⊎ ((5 ≤ a .number) × (a .number ≤ 8))
 
 pub data IsV0 : Decoder → Type 0 where
   is-direct : IsV0 direct
@@ -88,9 +86,10 @@ amount-of a i = amount (getD (origins (a .stream) (a .offsets) (a .size)) i (str
 
 -- What one call says of the frame's samples, by its marks.
 pub record Marked (c : Returned) : Type 0 where
-  pub bytes : (m : List ℕ) → c .map ≡ some m → take (cells (c .ask .size)) (c .map-left) ≡ marks (c .ask)
+  pub bytes : (m : List ℕ) → c .left .map ≡ some m → take (cells (c .ask .size)) m ≡ marks (c .ask)
   pub old : IsV0 (c .ask .decoder) → (i : ℕ) → i < cells (c .ask .size) → mark-of (c .ask) i ≡ 1
-      → (position-of (c .ask) i < cells (c .ask .size)) × (getD (c .left) i 0 ≡ (getD (c .found) (position-of (c .ask) i) 0 + amount-of (c .ask) i) % 65_536)
+      → (position-of (c .ask) i < cells (c .ask .size))
+      × (getD (c .left .samples) i 0 ≡ (getD (c .found .samples) (position-of (c .ask) i) 0 + amount-of (c .ask) i) % 65_536)
 
 -- What two alike calls have in common.
 pub record Same (c d : Returned) : Type 0 where
@@ -98,18 +97,15 @@ pub record Same (c d : Returned) : Type 0 where
   pub marks-c : Marked c
   pub marks-d : Marked d
   pub marks : marks (c .ask) ≡ marks (d .ask)
-  pub samples : (i : ℕ) → i < cells (c .ask .size) → mark-of (c .ask) i ≡ 0 → getD (c .left) i 0 ≡ getD (d .left) i 0
+  pub samples : (i : ℕ) → i < cells (c .ask .size) → mark-of (c .ask) i ≡ 0
+      → getD (c .left .samples) i 0 ≡ getD (d .left .samples) i 0
 
--- Samples are 16-bit numbers.
-abbrev pub Samples : List ℕ → Type 0
-Samples b = All (λ v. v < 65_536) b
-
--- The claim: of every two lists of calls, whose last calls are c and d.
-abbrev pub Isolation : Type 0
-Isolation =
-    (b b′ x y : List ℕ) → Samples b → Samples b′ → Calls b x → Calls b′ y
-    → (c d : Returned) (rest rest′ : List ℕ) → x ≡ c .found ++ rest → y ≡ d .found ++ rest′
-    → Alike c d → Ran (c .answered) → Ran (d .answered) → Same c d
+-- The claim: of every two lists of calls, told by their steps, whose last calls c and d are decoders' and have returned.
+abbrev pub Isolation : {C D : Type 0} → (C → Step) → (D → Returned) → Type 0
+Isolation {C} {D} step returned =
+    (b b′ x y : List ℕ) → Samples b → Samples b′ → Calls step b x → Calls step b′ y
+    → (c d : D) (rest rest′ : List ℕ) → x ≡ returned c .found .samples ++ rest → y ≡ returned d .found .samples ++ rest′
+    → Alike (returned c) (returned d) → Ran (returned c .answered) → Ran (returned d .answered) → Same (returned c) (returned d)
 
 -- ── What a decoder's frame keeps and rests on ──
 
@@ -158,6 +154,11 @@ module _ (s offsets : List ℕ) (z : Size) where
 
 -- ── A call that ran ──
 
+-- What holds of each f m holds of what f makes of a map that is lent.
+of-lent : (P : List ℕ → Type 0) (f : List ℕ → List ℕ) → ((m : List ℕ) → P (f m)) → (o : Option (List ℕ)) (m : List ℕ) → some m ≡ Option·map f o → P m
+of-lent P f h none m e = absurd (Option·some-ne-none m e)
+of-lent P f h (some x) m e = subst P (sym (Option·some-injective m (f x) e)) (h x)
+
 module _ (c : Returned) where
   abbrev n : ℕ
   n = cells (c .ask .size)
@@ -167,51 +168,66 @@ module _ (c : Returned) where
   frame f = frame-samples (c .ask .decoder) (c .ask .stream) (c .ask .offsets) (c .ask .size) f
 
   abbrev before : List ℕ
-  before = take n (c .found)
+  before = take n (c .found .samples)
 
-  module _ (ok : refusal (c .ask) (lent-to c) ≡ 0) where
+  module _ (ok : refusal (c .ask) (lengths (c .found)) ≡ 0) where
     before-length : length before ≡ n
-    before-length = length-take-le n (c .found) (samples-enough (c .ask) (lent-to c) ok)
+    before-length = length-take-le n (c .found .samples) (samples-enough (c .ask) (lengths (c .found)) ok)
 
     frame-long : length (frame before) ≡ n
     frame-long = frame-length (c .ask .stream) (c .ask .offsets) (c .ask .size) (c .ask .decoder) before ∙ before-length
 
-    left-framed : c .left ≡ frame before ++ drop n (c .found)
+    left-framed : c .left .samples ≡ frame before ++ drop n (c .found .samples)
     unfolding samples-after unless-refused
-    left-framed = c .left-is ∙ rw ok
+    left-framed = c .yields .samples ∙ rw ok
 
-    sample-framed : (i : ℕ) → i < n → getD (c .left) i 0 ≡ getD (frame before) i 0
-    sample-framed i l = rw left-framed (List·getD-append (frame before) (drop n (c .found)) 0 i (omega (arith, frame-long)))
+    sample-framed : (i : ℕ) → i < n → getD (c .left .samples) i 0 ≡ getD (frame before) i 0
+    sample-framed i l = rw left-framed (List·getD-append (frame before) (drop n (c .found .samples)) 0 i (omega (arith, frame-long)))
 
-    marked : Samples (c .found) → Marked c
+    -- The first N bytes of a map are the rules' marks.
+    pub map-marked : (m : List ℕ) → c .left .map ≡ some m → take n m ≡ marks (c .ask)
     unfolding map-after unless-refused
+    map-marked m e = of-lent (λ x. take n x ≡ marks (c .ask)) (map-after (c .ask) (lengths (c .found))) first (c .found .map) m (sym e ∙ c .yields .map)
+      where
+        first : (x : List ℕ) → take n (map-after (c .ask) (lengths (c .found)) x) ≡ marks (c .ask)
+        first x = rw ok (take-at (marks (c .ask)) (drop n x) n (marks-length (c .ask .stream) (c .ask .offsets) (c .ask .size) (c .ask .decoder)))
+
+    marked : Samples (c .found .samples) → Marked c
     marked b =
         record {
-          bytes = λ m e.
-              ap (take n) (c .map-left-is m e ∙ rw ok)
-              ∙ take-at (marks (c .ask)) (drop n m) n (marks-length (c .ask .stream) (c .ask .offsets) (c .ask .size) (c .ask .decoder));
+          bytes = map-marked;
           old = λ v i l m.
               let p = frame-old (c .ask .stream) (c .ask .offsets) (c .ask .size) (c .ask .decoder) v before before-length (all-take (λ x. x < 65_536) n b) i m in
-              (p .0, sample-framed i l ∙ p .1 ∙ ap (λ x. (x + amount-of (c .ask) i) % 65_536) (getD-take n (c .found) (position-of (c .ask) i) 0 (p .0)));
+              (p .0, sample-framed i l ∙ p .1 ∙ ap (λ x. (x + amount-of (c .ask) i) % 65_536) (getD-take n (c .found .samples) (position-of (c .ask) i) 0 (p .0)));
         }
 
-ran-passed : (c : Returned) → Ran (c .answered) → refusal (c .ask) (lent-to c) ≡ 0
-ran-passed c r = passed (c .ask) (lent-to c) (rw (c .answered-is) at r)
+-- A call that ends with done or 5 to 8 passed the tests of 1 to 4.
+pub ran-passed : (c : Returned) → Ran (c .answered) → refusal (c .ask) (lengths (c .found)) ≡ 0
+ran-passed c r = passed (c .ask) (lengths (c .found)) (rw (c .yields .answered) at (late r))
+  where
+    late : Ran (c .answered) → (c .answered .number ≡ 0) ⊎ (5 ≤ c .answered .number)
+    late (inl e) = inl e
+    late (inr p) = inr (p .0)
 
 -- ── The list ──
 
--- A call leaves 16-bit samples.
-left-below : (c : Returned) → Samples (c .found) → Samples (c .left)
+-- A decoder's call leaves 16-bit samples.
+pub left-below : (c : Returned) → Samples (c .found .samples) → Samples (c .left .samples)
 unfolding samples-after unless-refused
-left-below c b = rw (c .left-is) (go (eqb (refusal (c .ask) (lent-to c)) 0) refl)
+left-below c b = rw (c .yields .samples) (go (eqb (refusal (c .ask) (lengths (c .found))) 0) refl)
   where
-    go : (t : Bool) → eqb (refusal (c .ask) (lent-to c)) 0 ≡ t → Samples (cond t (frame c (before c) ++ drop (n c) (c .found)) (c .found))
+    go : (t : Bool) → eqb (refusal (c .ask) (lengths (c .found))) 0 ≡ t
+        → Samples (cond t (frame c (before c) ++ drop (n c) (c .found .samples)) (c .found .samples))
     go true e =
-        let ok = eqb-true (refusal (c .ask) (lent-to c)) 0 e in
+        let ok = eqb-true (refusal (c .ask) (lengths (c .found))) 0 e in
         all-append (λ x. x < 65_536)
         (frame-below (c .ask .stream) (c .ask .offsets) (c .ask .size) (c .ask .decoder) (before c) (before-length c ok) (all-take (λ x. x < 65_536) (n c) b))
         (all-drop (λ x. x < 65_536) (n c) b)
     go false e = b
+
+-- What it does to the sample buffer.
+abbrev pub decodes : Returned → Step
+decodes c = record { found = c .found .samples; left = c .left .samples; below = left-below c }
 
 -- What a call is lent is the buffer's, and the rest stays.
 part-below : {x : List ℕ} (f rest : List ℕ) → x ≡ f ++ rest → Samples x → Samples f × Samples rest
@@ -219,48 +235,48 @@ part-below f rest e b =
     let q = rw e at b in
     (rw (take-at f rest (length f) refl) at (all-take (λ x. x < 65_536) (length f) q), rw (drop-at f rest (length f) refl) at (all-drop (λ x. x < 65_536) (length f) q))
 
-calls-below : {b x : List ℕ} → Samples b → Calls b x → Samples x
-calls-below h start = h
-calls-below h (call cs c rest e) =
-    let q = part-below (c .found) rest e (calls-below h cs) in
-    all-append (λ x. x < 65_536) (left-below c (q .0)) (q .1)
+calls-below : {C : Type 0} (step : C → Step) {b x : List ℕ} → Samples b → Calls step b x → Samples x
+calls-below step h start = h
+calls-below step h (call cs c rest e) =
+    let q = part-below (step c .found) rest e (calls-below step h cs) in
+    all-append (λ x. x < 65_536) (step c .below (q .0)) (q .1)
 
 -- ── The claim ──
 
-pub isolation : Isolation
-isolation b b′ x y h h′ cs ds c d rest rest′ e e′ alike ran ran′ =
+-- Of two calls on 16-bit samples, whatever led to them.
+same : (c d : Returned) → Samples (c .found .samples) → Samples (d .found .samples) → Alike c d → Ran (c .answered) → Ran (d .answered) → Same c d
+same c d below below′ alike ran ran′ =
     record {
-      answers = c .answered-is ∙ answer-passed (c .ask) (lent-to c) ok ∙ ap (λ a. stream-answer (a .decoder) (a .stream) (a .size)) (alike .ask)
-          ∙ sym (d .answered-is ∙ answer-passed (d .ask) (lent-to d) ok′);
+      answers = c .yields .answered ∙ answer-passed (c .ask) (lengths (c .found)) ok ∙ ap (λ a. stream-answer (a .decoder) (a .stream) (a .size)) (alike .ask)
+          ∙ sym (d .yields .answered ∙ answer-passed (d .ask) (lengths (d .found)) ok′);
       marks-c = marked c ok below;
       marks-d = marked d ok′ below′;
       marks = ap marks (alike .ask);
       samples = λ i l m.
           sample-framed c ok i l
-          ∙ frame-same (c .ask .stream) (c .ask .offsets) (c .ask .size) (c .ask .decoder) (before c) (take (n c) (d .found)) (before-length c ok) as-long
+          ∙ frame-same (c .ask .stream) (c .ask .offsets) (c .ask .size) (c .ask .decoder) (before c) (take (n c) (d .found .samples)) (before-length c ok) as-long
           (all-take (λ x. x < 65_536) (n c) below) (all-take (λ x. x < 65_536) (n c) below′) i m
-          ∙ ap (λ a. getD (frame-samples (a .decoder) (a .stream) (a .offsets) (a .size) (take (cells (a .size)) (d .found))) i 0) (alike .ask)
+          ∙ ap (λ a. getD (frame-samples (a .decoder) (a .stream) (a .offsets) (a .size) (take (cells (a .size)) (d .found .samples))) i 0) (alike .ask)
           ∙ sym (sample-framed d ok′ i (subst (λ a. i < cells (a .size)) (alike .ask) l));
     }
   where
-    ok : refusal (c .ask) (lent-to c) ≡ 0
+    ok : refusal (c .ask) (lengths (c .found)) ≡ 0
     ok = ran-passed c ran
 
-    ok′ : refusal (d .ask) (lent-to d) ≡ 0
+    ok′ : refusal (d .ask) (lengths (d .found)) ≡ 0
     ok′ = ran-passed d ran′
 
-    below : Samples (c .found)
-    below = part-below (c .found) rest e (calls-below h cs) .0
+    as-long : length (take (n c) (d .found .samples)) ≡ n c
+    as-long = length-take-le (n c) (d .found .samples) (let q = samples-enough (c .ask) (lengths (c .found)) ok in omega (arith, alike .samples))
 
-    below′ : Samples (d .found)
-    below′ = part-below (d .found) rest′ e′ (calls-below h′ ds) .0
-
-    as-long : length (take (n c) (d .found)) ≡ n c
-    as-long = length-take-le (n c) (d .found) (let q = samples-enough (c .ask) (lent-to c) ok in omega (arith, alike .samples))
+pub isolation : {C D : Type 0} (step : C → Step) (returned : D → Returned) → Isolation step returned
+isolation step returned b b′ x y h h′ cs ds c d rest rest′ e e′ alike ran ran′ =
+    same (returned c) (returned d) (part-below (returned c .found .samples) rest e (calls-below step h cs) .0)
+    (part-below (returned d .found .samples) rest′ e′ (calls-below step h′ ds) .0) alike ran ran′
 
 -- Where both calls or neither lend a map, the first's ending is the second's.
-pub ran-alike : (c d : Returned) → Alike c d → lengths (c .map) ≡ lengths (d .map) → Ran (c .answered) → Ran (d .answered)
-ran-alike c d alike maps ran = subst Ran (c .answered-is ∙ same ∙ sym (d .answered-is)) ran
+pub ran-alike : (c d : Returned) → Alike c d → lengths (c .found) .map ≡ lengths (d .found) .map → Ran (c .answered) → Ran (d .answered)
+ran-alike c d alike maps ran = subst Ran (c .yields .answered ∙ same-answer ∙ sym (d .yields .answered)) ran
   where
-    same : answer (c .ask) (lent-to c) ≡ answer (d .ask) (lent-to d)
-    same = λ i. answer (alike .ask i) (record { samples = alike .samples i; map = maps i; scratch = alike .scratch i })
+    same-answer : answer (c .ask) (lengths (c .found)) ≡ answer (d .ask) (lengths (d .found))
+    same-answer = λ i. answer (alike .ask i) (record { samples = alike .samples i; map = maps i; scratch = alike .scratch i })

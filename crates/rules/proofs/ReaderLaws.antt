@@ -1,7 +1,7 @@
 -- What a reader of the rules may expect of the reader record. Only this file opens its definitions.
 use mathlib.Core.Path.{_≡_, refl, sym, ap, _∙_}
 use mathlib.Core.Bool.{Bool, true, false, cond, _||_}
-use mathlib.Core.List.{List, [], _∷_}
+use mathlib.Core.List.{List, [], _∷_, _++_}
 use Prim.Native.Nat.{ℕ, zero, suc, _+_, _*_, _-_, _/_, _%_, _^_, _≤_, _<_, min}
 use native.Mathlib.Nat.{div-one, mod-eq-of-lt, one-mul, zero-mul, mul-assoc, mul-add-mod-self-right, div-eq-of-lt, div-eq-of-lt-le, mod-le, mod-lt}
 use native.Mathlib.Omega.{arith}
@@ -12,7 +12,7 @@ use lib.Pow.{pow-pos, pow-mono, pow-add, high, field, shr-shr, mod-mod-pow}
 use lib.Seq.{getD-take, take-take}
 use lib.Signed.{mag}
 use borrow.Author.Tests.{le-leb, lt-leb, lt-ltb, le-ltb, ltb-true, ltb-false, leb-true, leb-false}
-use Rattle.rules.specs.Reader.{word-at, fetched, held, from-held, from-next, read, fields, signed, read-signed, modulo, read-residual}
+use Rattle.rules.specs.Reader.{word-at, fetched, held, from-held, from-next, read, fields, four, signed, read-signed, modulo, read-residual}
 use Rattle.rules.specs.declared.reader.Bits.{Bits}
 use Rattle.rules.specs.declared.reader.Got.{Got}
 use Rattle.rules.specs.declared.reader.Word.{Word}
@@ -277,6 +277,18 @@ pub fields-more : (s : List ℕ) (n : ℕ) (ns : List ℕ) (b : Bits)
 unfolding fields
 fields-more s n ns b = refl
 
+-- Two fields are two reads.
+pub fields-pair : (s : List ℕ) (m n : ℕ) (b : Bits)
+    → fields s (m ∷ n ∷ []) b ≡ (let g = read s b m in let h = read s (g .bits) n in record { values = g .value ∷ h .value ∷ []; bits = h .bits })
+unfolding fields
+fields-pair s m n b = refl
+
+-- A field of n bits is below 2^n.
+pub fields-below : (s ns : List ℕ) (b : Bits) (i : ℕ) → getD (fields s ns b .values) i 0 < 2 ^ min (getD ns i 0) 32
+fields-below s [] b i = rw (fields-none s b) (pow-pos 0)
+fields-below s (n ∷ ns) b zero = rw (fields-more s n ns b) (read-below s b n)
+fields-below s (n ∷ ns) b (suc i) = rw (fields-more s n ns b) (fields-below s ns (read s b n .bits) i)
+
 -- Several fields move the position by one word each at most.
 pub fields-pos : (s ns : List ℕ) (b : Bits) → fields s ns b .bits .pos ≤ b .pos + 4 * length ns
 unfolding fields
@@ -362,6 +374,45 @@ fields-at-once s n (m ∷ ms) b fit w =
     )
     (ap (λ xs. record { values = read s b n .value ∷ xs; bits = read s b (n + S) .bits }) (rw z at (cut-low 0 (m ∷ ms) (read s b (n + S) .value))))
 
+-- ── Four fields of one width ──
+
+pub four-fields : (s : List ℕ) (n : ℕ) (b : Bits) → four s n b ≡ record { values = fields s (n ∷ n ∷ n ∷ n ∷ []) b .values; bits = fields s (n ∷ n ∷ n ∷ n ∷ []) b .bits }
+unfolding four
+four-fields s n b = refl
+
+-- They are four reads ..
+pub four-reads : (s : List ℕ) (n : ℕ) (bits : Bits) (a b c d : Got) → a ≡ read s bits n → b ≡ read s (a .bits) n → c ≡ read s (b .bits) n → d ≡ read s (c .bits) n
+    → record { values = a .value ∷ b .value ∷ c .value ∷ d .value ∷ []; bits = d .bits } ≡ four s n bits
+unfolding four fields
+four-reads s n bits a b c d ea eb ec ed = rw (← ea, ← eb, ← ec, ← ed)
+
+-- .. or two pairs.
+pub four-pairs : (s : List ℕ) (n : ℕ) (b : Bits) → four s n b
+    ≡ (let f = fields s (n ∷ n ∷ []) b in let e = fields s (n ∷ n ∷ []) (f .bits) in record { values = f .values ++ e .values; bits = e .bits })
+unfolding four fields
+four-pairs s n b = refl
+
+pub four-values : (s : List ℕ) (n : ℕ) (b : Bits) → length (four s n b .values) ≡ 4
+unfolding four fields
+four-values s n b = refl
+
+pub four-pos : (s : List ℕ) (n : ℕ) (b : Bits) → four s n b .bits .pos ≤ b .pos + 16
+four-pos s n b = rw (four-fields s n b) (fields-pos s (n ∷ n ∷ n ∷ n ∷ []) b)
+
+pub four-below : (s : List ℕ) (n : ℕ) (b : Bits) (i : ℕ) → n ≤ 32 → getD (four s n b .values) i 0 < 2 ^ n
+unfolding four fields
+four-below s n b i l = each i
+  where
+    below : (c : Bits) → read s c n .value < 2 ^ n
+    below c = let m : min n 32 ≡ n = omega arith in rw m at (read-below s c n)
+
+    each : (i : ℕ) → getD (four s n b .values) i 0 < 2 ^ n
+    each zero = below _
+    each (suc zero) = below _
+    each (suc (suc zero)) = below _
+    each (suc (suc (suc zero))) = below _
+    each (suc (suc (suc (suc i)))) = pow-pos n
+
 -- ── Two's complement ──
 
 pub signed-low : (k v : ℕ) → v * 2 < 2 ^ k → signed k v ≡ pos v
@@ -441,3 +492,7 @@ read-residual-is s b n = refl
 pub read-residual-below : (s : List ℕ) (b : Bits) (n : ℕ) → read-residual s b n .value < 65_536
 unfolding read-residual
 read-residual-below s b n = modulo-below (signed (min n 32) (read s b n .value))
+
+pub read-residual-pos : (s : List ℕ) (b : Bits) (n : ℕ) → read-residual s b n .bits .pos ≤ b .pos + 4
+unfolding read-residual
+read-residual-pos s b n = read-pos s b n

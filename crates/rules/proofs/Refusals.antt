@@ -20,7 +20,7 @@ use Rattle.rules.specs.declared.v2.V2Block.{V2Block}
 use Rattle.rules.specs.declared.v2.V2Block.the-variants.{Next, EarlyMotion, Outside, LongDifference}
 use Rattle.rules.specs.Frame.{cells}
 use Rattle.rules.specs.V2.{Block, Row, read-block, then, blocks, read-row, rows, read-frame, aligned, fresh-row, fresh-mode, header}
-use Rattle.rules.specs.Answer.{done, Decoder, direct, two-phase, v2, Ask, Lent, too-large, too-small, short-offsets, short-samples, short-map, scratch-bytes, short-scratch, first-of, refusal, stream-answer, answer, unless-refused, samples-after, map-after, scratch-after}
+use Rattle.rules.specs.Answer.{done, Decoder, direct, two-phase, v2, Ask, Lent, Buffers, Yields, too-large, too-small, short-offsets, short-samples, short-map, scratch-bytes, short-scratch, first-of, refusal, stream-answer, answer, unless-refused, samples-after, map-after, scratch-after}
 use Rattle.rules.proofs.Cells.{All, nil, more, all-get}
 use Rattle.rules.proofs.Tests.{clash, neither}
 use Rattle.rules.proofs.V2Rows.{then-rows-cases}
@@ -192,6 +192,20 @@ module _ (a : Ask) (l : Lent) (refused : 1 ≤ refusal a l) (buffer : List ℕ) 
   pub scratch-kept : scratch-after a l buffer ≡ buffer
   unfolding scratch-after
   scratch-kept = unless-kept _
+
+-- ── What a call yields ──
+
+-- Every call yields what the rules say, and nothing else: asked alike over equal buffers, two calls answer and leave the same.
+pub yields-once : {a : Ask} {found left left′ : Buffers} {r r′ : Answer} → Yields a found r left → Yields a found r′ left′
+    → (r ≡ r′) × (left ≡ left′)
+yields-once p q = (
+  p .answered ∙ sym (q .answered),
+  λ i. record {
+    samples = (p .samples ∙ sym (q .samples)) i;
+    map = (p .map ∙ sym (q .map)) i;
+    scratch = (p .scratch ∙ sym (q .scratch)) i;
+  },
+)
 
 -- ── What the stream answers ──
 

@@ -1,8 +1,8 @@
 -- The ranges that the V2 rules keep: they say which types hold a decoder's numbers.
-use Prim.Native.Nat.{ℕ, zero, suc, _+_, _-_, _*_, _/_, _%_, _^_, _≤_, _<_, min}
+use Prim.Native.Nat.{ℕ, zero, suc, _+_, _-_, _*_, _/_, _%_, _≤_, _<_}
 use mathlib.Core.Path.{_≡_, refl, sym, ap, _∙_}
 use mathlib.Core.Bool.{Bool, true, false, not, _&&_, cond}
-use mathlib.Core.List.{List, [], _∷_}
+use mathlib.Core.List.{List, []}
 use native.Mathlib.Nat.{mul-le-mul}
 use native.Mathlib.Omega.{arith}
 use lib.Dec.{eqb, ltb, lit≤, lit<}
@@ -20,20 +20,14 @@ use Rattle.rules.specs.declared.v2.V2Scale.{V2Scale}
 use Rattle.rules.specs.declared.v2.V2Block.{V2Block}
 use Rattle.rules.specs.declared.v2.V2Block.the-variants.{Next, EarlyMotion, Outside, LongDifference}
 use Rattle.rules.specs.Frame.{cells}
-use Rattle.rules.specs.Reader.{fresh, read, fields, four}
+use Rattle.rules.specs.Reader.{fresh, read, four}
 use Rattle.rules.specs.Ranges.{Between, not-above, not-below, ScaleAt, Small, Fits}
 use Rattle.rules.specs.V2.{field-widths, header, top, option-2, option-4, scale-steps, rescaled, read-scale, read-motion, Base, given, copied, averaged, repeated, referred, base, motion-averages, any-strays, base-refusal, lengths-bit, Moded, length-step, lengths-from, no-lengths, flagged-lengths, read-lengths, position, Differences, difference-step, differences-from, read-differences, Tail, tail, based-tail, Block, Parsed, read-block, Row, then, blocks, fresh-row, fresh-mode, aligned, read-row, rows, read-frame, base-cell, average, value, sample-kind}
 use Rattle.rules.proofs.Cells.{All, nil, more, all-append, all-get, all-map, each-of, all-of, each-set}
-use Rattle.rules.proofs.ReaderLaws.{read-below, fields-none, fields-more, read-signed-mag}
+use Rattle.rules.proofs.ReaderLaws.{read-below, fields-below, read-signed-mag}
 use Rattle.rules.proofs.V2Rows.{then-rows-cases}
 
 -- ── The header ──
-
--- A field of n bits is below 2^n.
-pub field-below : (s ns : List ℕ) (b : Bits) (i : ℕ) → getD (fields s ns b .values) i 0 < 2 ^ min (getD ns i 0) 32
-field-below s [] b i = rw (fields-none s b) (pow-pos 0)
-field-below s (n ∷ ns) b zero = rw (fields-more s n ns b) (read-below s b n)
-field-below s (n ∷ ns) b (suc i) = rw (fields-more s n ns b) (field-below s ns (read s b n .bits) i)
 
 -- The depth is 1 to 16.
 pub depth-least : (s : List ℕ) → 1 ≤ header s .hdr .depth
@@ -42,12 +36,12 @@ depth-least s = omega arith
 
 pub depth-most : (s : List ℕ) → header s .hdr .depth ≤ 16
 unfolding header
-depth-most s = omega (arith, field-below s field-widths (fresh 0) 2)
+depth-most s = omega (arith, fields-below s field-widths (fresh 0) 2)
 
 -- The initial sample is below 2^14.
 pub initial-below : (s : List ℕ) → header s .hdr .initial < 16_384
 unfolding header
-initial-below s = omega (arith, field-below s field-widths (fresh 0) 12)
+initial-below s = omega (arith, fields-below s field-widths (fresh 0) 12)
 
 -- Top fits 16 bits.
 pub top-below : (h : V2Hdr) → h .depth ≤ 16 → top h < 65_536

@@ -2,8 +2,9 @@
 -- cite these definitions, for every input.
 use Prim.Native.Nat.{ℕ, _+_, _-_, _*_}
 use mathlib.Core.Bool.{Bool, false, _||_, cond}
+use mathlib.Core.Path.{_≡_}
 use mathlib.Core.List.{List, [], _++_}
-use mathlib.Core.Option.{Option, none, some}
+use mathlib.Core.Option.{Option, none, some, Option·map, Option·getD}
 use lib.ListN.{length, drop, take}
 use lib.Dec.{ltb, eqb}
 use Rattle.rules.specs.declared.answer.Answer.{Answer}
@@ -144,3 +145,26 @@ unfoldable pub scratch-after : Ask → Lent → List ℕ → List ℕ
 scratch-after a l buffer =
     let new = frame-scratch (a .decoder) (a .stream) (a .offsets) (a .size) in
     unless-refused a l (new ++ drop (length new) buffer) buffer
+
+-- ── A call that has returned ──
+
+-- The buffers of a call, as it finds or leaves them: samples, and map and scratch where they are lent.
+pub record Buffers : Type 0 where
+  pub samples : List ℕ
+  pub map : Option (List ℕ)
+  pub scratch : Option (List ℕ)
+
+abbrev pub buffers : List ℕ → Option (List ℕ) → Option (List ℕ) → Buffers
+buffers samples map scratch = record { samples = samples; map = map; scratch = scratch }
+
+-- Their lengths. Scratch that is not lent has none.
+abbrev pub lengths : Buffers → Lent
+lengths b = lent (length (b .samples)) (Option·map length (b .map)) (length (Option·getD (b .scratch) []))
+
+-- The outcome of a call that asks a: over the buffers that it found it answers r and leaves others, all by the rules. It is what the
+-- contract of a decoder's entry says.
+pub record Yields (a : Ask) (found : Buffers) (r : Answer) (left : Buffers) : Type 0 where
+  pub answered : r ≡ answer a (lengths found)
+  pub samples : left .samples ≡ samples-after a (lengths found) (found .samples)
+  pub map : left .map ≡ Option·map (map-after a (lengths found)) (found .map)
+  pub scratch : left .scratch ≡ Option·map (scratch-after a (lengths found)) (found .scratch)

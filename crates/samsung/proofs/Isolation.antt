@@ -12,17 +12,16 @@
 --
 -- A call that has returned is what was handed in, what came out, and what the function's own contract, as `src/` states it, says of
 -- them (`Learnt`); that the code meets those contracts is each function's theorem `met`, and `of-the-code` holds all of it together.
-use mathlib.Core.Path.{_≡_, refl}
-use mathlib.Core.List.{List, [], _++_}
+use mathlib.Core.List.{List, []}
 use mathlib.Core.Option.{none, some}
 use Prim.Native.Nat.{ℕ}
-use native.Mathlib.Omega.{arith}
 use contract.Lifetimes.{Lfts}
 use denote.Ref.{now}
 use borrow.Fn.Kinds.{PK, RK, Dens, Out, resT, endedOf}
 use denote.Triple.Clauses.{AtExit}
+use Rattle.rules.specs.Answer.{ask, buffers}
 use Rattle.rules.specs.Answer as Answer
-use Rattle.rules.proofs.Isolation.{Returned, Alike, Ran, Same, Samples}
+use Rattle.rules.proofs.Isolation.{Returned, Step, decodes}
 use Rattle.rules.proofs.Isolation as Rules
 use Rattle.samsung.proofs.direct.decode_v0_reference.Kinds as direct-kinds
 use Rattle.samsung.proofs.direct.decode_v0_reference.Reads as direct-reads
@@ -40,14 +39,14 @@ use Rattle.samsung.proofs.two_phase.decode_v0_map.Kinds as phases-map-k
 use Rattle.samsung.proofs.two_phase.decode_v0_map.Reads as phases-map-reads
 use Rattle.samsung.proofs.two_phase.decode_v0_map.Statement as phases-map-stated
 use Rattle.samsung.proofs.two_phase.decode_v0_map.Met as phases-map-thm
-use Rattle.samsung.proofs.motion.decode_v2.Kinds as v2-kinds
-use Rattle.samsung.proofs.motion.decode_v2.Reads as v2-reads
-use Rattle.samsung.proofs.motion.decode_v2.Statement as v2-stated
-use Rattle.samsung.proofs.motion.decode_v2.Met as v2-thm
-use Rattle.samsung.proofs.motion.decode_v2_map.Kinds as v2-map-kinds
-use Rattle.samsung.proofs.motion.decode_v2_map.Reads as v2-map-reads
-use Rattle.samsung.proofs.motion.decode_v2_map.Statement as v2-map-stated
-use Rattle.samsung.proofs.motion.decode_v2_map.Met as v2-map-thm
+use Rattle.samsung.proofs.v2_entries.decode_v2.Kinds as v2-kinds
+use Rattle.samsung.proofs.v2_entries.decode_v2.Reads as v2-reads
+use Rattle.samsung.proofs.v2_entries.decode_v2.Statement as v2-stated
+use Rattle.samsung.proofs.v2_entries.decode_v2.Met as v2-thm
+use Rattle.samsung.proofs.v2_entries.decode_v2_map.Kinds as v2-map-kinds
+use Rattle.samsung.proofs.v2_entries.decode_v2_map.Reads as v2-map-reads
+use Rattle.samsung.proofs.v2_entries.decode_v2_map.Statement as v2-map-stated
+use Rattle.samsung.proofs.v2_entries.decode_v2_map.Met as v2-map-thm
 
 -- ── The statement ──
 
@@ -68,118 +67,68 @@ pub data Call : Type 0 where
   v2 : Made v2-kinds.ps v2-kinds.r v2-reads.Learnt → Call
   v2-map : Made v2-map-kinds.ps v2-map-kinds.r v2-map-reads.Learnt → Call
 
--- Where no map is lent, none is found.
-no-map : {A : Type 0} {x : List ℕ} → none ≡ some x → A
-no-map e = let z : _≡_ {A = ℕ} 0 1 = cc in absurd (omega arith)
-
-some-map : {x y : List ℕ} → some x ≡ some y → x ≡ y
-some-map e = cc
-
--- What a call asked, found, answered and left: its arguments, its result and its parameters at exit. The contract's clauses say
--- that these go by the rules.
-pub returned : Call → Returned
+-- What a call asked, found, answered and left: its arguments, its result and its parameters at exit. Its contract says that these
+-- go by the rules.
+unfoldable pub returned : Call → Returned
 returned (direct c) =
     record {
-      ask = Answer.ask Answer.direct (now (c .args .0)) (now (c .args .1 .0)) (c .args .1 .1 .0) (c .args .1 .1 .1 .0);
-      found = now (c .args .1 .1 .1 .1 .0);
-      map = none;
-      scratch = [];
+      ask = ask Answer.direct (now (c .args .0)) (now (c .args .1 .0)) (c .args .1 .1 .0) (c .args .1 .1 .1 .0);
+      found = buffers (now (c .args .1 .1 .1 .1 .0)) none none;
       answered = c .result;
-      left = now (c .exit .1 .1 .1 .1 .0);
-      map-left = [];
-      answered-is = c .learnt .0;
-      left-is = c .learnt .1;
-      map-left-is = λ m e. no-map e;
+      left = buffers (now (c .exit .1 .1 .1 .1 .0)) none none;
+      yields = c .learnt;
     }
 returned (direct-map c) =
     record {
-      ask = Answer.ask Answer.direct (now (c .args .0)) (now (c .args .1 .0)) (c .args .1 .1 .0) (c .args .1 .1 .1 .0);
-      found = now (c .args .1 .1 .1 .1 .0);
-      map = some (now (c .args .1 .1 .1 .1 .1 .0));
-      scratch = [];
+      ask = ask Answer.direct (now (c .args .0)) (now (c .args .1 .0)) (c .args .1 .1 .0) (c .args .1 .1 .1 .0);
+      found = buffers (now (c .args .1 .1 .1 .1 .0)) (some (now (c .args .1 .1 .1 .1 .1 .0))) none;
       answered = c .result;
-      left = now (c .exit .1 .1 .1 .1 .0);
-      map-left = now (c .exit .1 .1 .1 .1 .1 .0);
-      answered-is = c .learnt .0;
-      left-is = c .learnt .1 .0;
-      map-left-is = λ m e. rw (← some-map e) (c .learnt .1 .1);
+      left = buffers (now (c .exit .1 .1 .1 .1 .0)) (some (now (c .exit .1 .1 .1 .1 .1 .0))) none;
+      yields = c .learnt;
     }
 returned (two-phase c) =
     record {
-      ask = Answer.ask Answer.two-phase (now (c .args .0)) (now (c .args .1 .0)) (c .args .1 .1 .0) (c .args .1 .1 .1 .0);
-      found = now (c .args .1 .1 .1 .1 .0);
-      map = none;
-      scratch = now (c .args .1 .1 .1 .1 .1 .0);
+      ask = ask Answer.two-phase (now (c .args .0)) (now (c .args .1 .0)) (c .args .1 .1 .0) (c .args .1 .1 .1 .0);
+      found = buffers (now (c .args .1 .1 .1 .1 .0)) none (some (now (c .args .1 .1 .1 .1 .1 .0)));
       answered = c .result;
-      left = now (c .exit .1 .1 .1 .1 .0);
-      map-left = [];
-      answered-is = c .learnt .0;
-      left-is = c .learnt .1 .0;
-      map-left-is = λ m e. no-map e;
+      left = buffers (now (c .exit .1 .1 .1 .1 .0)) none (some (now (c .exit .1 .1 .1 .1 .1 .0)));
+      yields = c .learnt;
     }
 returned (two-phase-map c) =
     record {
-      ask = Answer.ask Answer.two-phase (now (c .args .0)) (now (c .args .1 .0)) (c .args .1 .1 .0) (c .args .1 .1 .1 .0);
-      found = now (c .args .1 .1 .1 .1 .0);
-      map = some (now (c .args .1 .1 .1 .1 .1 .0));
-      scratch = now (c .args .1 .1 .1 .1 .1 .1 .0);
+      ask = ask Answer.two-phase (now (c .args .0)) (now (c .args .1 .0)) (c .args .1 .1 .0) (c .args .1 .1 .1 .0);
+      found = buffers (now (c .args .1 .1 .1 .1 .0)) (some (now (c .args .1 .1 .1 .1 .1 .0))) (some (now (c .args .1 .1 .1 .1 .1 .1 .0)));
       answered = c .result;
-      left = now (c .exit .1 .1 .1 .1 .0);
-      map-left = now (c .exit .1 .1 .1 .1 .1 .0);
-      answered-is = c .learnt .0;
-      left-is = c .learnt .1 .0;
-      map-left-is = λ m e. rw (← some-map e) (c .learnt .1 .1 .0);
+      left = buffers (now (c .exit .1 .1 .1 .1 .0)) (some (now (c .exit .1 .1 .1 .1 .1 .0))) (some (now (c .exit .1 .1 .1 .1 .1 .1 .0)));
+      yields = c .learnt;
     }
 returned (v2 c) =
     record {
-      ask = Answer.ask Answer.v2 (now (c .args .0)) [] (c .args .1 .0) (c .args .1 .1 .0);
-      found = now (c .args .1 .1 .1 .0);
-      map = none;
-      scratch = [];
+      ask = ask Answer.v2 (now (c .args .0)) [] (c .args .1 .0) (c .args .1 .1 .0);
+      found = buffers (now (c .args .1 .1 .1 .0)) none none;
       answered = c .result;
-      left = now (c .exit .1 .1 .1 .0);
-      map-left = [];
-      answered-is = c .learnt .0;
-      left-is = c .learnt .1;
-      map-left-is = λ m e. no-map e;
+      left = buffers (now (c .exit .1 .1 .1 .0)) none none;
+      yields = c .learnt;
     }
 returned (v2-map c) =
     record {
-      ask = Answer.ask Answer.v2 (now (c .args .0)) [] (c .args .1 .0) (c .args .1 .1 .0);
-      found = now (c .args .1 .1 .1 .0);
-      map = some (now (c .args .1 .1 .1 .1 .0));
-      scratch = [];
+      ask = ask Answer.v2 (now (c .args .0)) [] (c .args .1 .0) (c .args .1 .1 .0);
+      found = buffers (now (c .args .1 .1 .1 .0)) (some (now (c .args .1 .1 .1 .1 .0))) none;
       answered = c .result;
-      left = now (c .exit .1 .1 .1 .0);
-      map-left = now (c .exit .1 .1 .1 .1 .0);
-      answered-is = c .learnt .0;
-      left-is = c .learnt .1 .0;
-      map-left-is = λ m e. rw (← some-map e) (c .learnt .1 .1);
+      left = buffers (now (c .exit .1 .1 .1 .0)) (some (now (c .exit .1 .1 .1 .1 .0))) none;
+      yields = c .learnt;
     }
 
--- Calls one after another on a buffer, which they take from what it first held to what it holds now.
-pub data Calls (first : List ℕ) : List ℕ → Type 0 where
-  start : Calls first first
-  call : {buffer : List ℕ} → Calls first buffer → (c : Call) (rest : List ℕ) → buffer ≡ returned c .found ++ rest
-      → Calls first (returned c .left ++ rest)
+-- What it does to the sample buffer.
+abbrev pub step : Call → Step
+step c = decodes (returned c)
 
--- The claim: of every two lists of calls, whose last calls are c and d.
+-- The claim: of every two lists of calls of the entry points.
 abbrev pub Isolation : Type 0
-Isolation =
-    (b b′ x y : List ℕ) → Samples b → Samples b′ → Calls b x → Calls b′ y
-    → (c d : Call) (rest rest′ : List ℕ) → x ≡ returned c .found ++ rest → y ≡ returned d .found ++ rest′
-    → Alike (returned c) (returned d) → Ran (returned c .answered) → Ran (returned d .answered) → Same (returned c) (returned d)
-
--- ── The proof ──
-
--- A list of calls of the entry points is a list of calls by the rules.
-by-the-rules : {b x : List ℕ} → Calls b x → Rules.Calls b x
-by-the-rules start = Rules.start
-by-the-rules (call cs c rest e) = Rules.call (by-the-rules cs) (returned c) rest e
+Isolation = Rules.Isolation step returned
 
 pub isolation : Isolation
-isolation b b′ x y h h′ cs ds c d rest rest′ e e′ alike ran ran′ =
-    Rules.isolation b b′ x y h h′ (by-the-rules cs) (by-the-rules ds) (returned c) (returned d) rest rest′ e e′ alike ran ran′
+isolation = Rules.isolation step returned
 
 -- The claim, beside each entry point's theorem that its code meets the contract that the claim speaks of.
 pub record OfTheCode (M : Type 1) : Type 2 where

@@ -5,15 +5,15 @@ ghost use lib.ListN.{length};
 ghost use Rattle.rules.specs.Frame.{cells};
 ghost use Rattle.rules.specs.V0.{decoded};
 ghost use Rattle.rules.specs.Map.{v0-map};
-ghost use Rattle.v0.specs.Limits.{Lends};
-ghost use Rattle.rules.specs.Answer.{direct, ask, lent, answer, samples-after, map-after};
+ghost use Rattle.v0_direct.specs.Lent.{Lends};
+ghost use Rattle.rules.specs.Answer.{direct, ask, buffers, Yields};
 use refusals::Lending;
 use refusals::mark_old;
 use refusals::refuse;
 use refusals::refused;
 use rules::Answer;
 use rules::Size;
-use v0::frame::decode_frame;
+use v0_direct::frame::decode_frame;
 
 // Decodes a V0 frame over what `out` holds. Refusals 1 and 3.
 pub fn decode_v0_reference(
@@ -23,8 +23,9 @@ pub fn decode_v0_reference(
     height: usize,
     out: &mut [u16],
 ) -> Answer
-    ensures { λ r. ⌜ r ≡ answer (ask direct (now (src .entry)) (now (offsets .entry)) width height) (lent (length (now (out .entry))) none 0) ⌝ }
-    ensures { λ r. ⌜ now (out .exit) ≡ samples-after (ask direct (now (src .entry)) (now (offsets .entry)) width height) (lent (length (now (out .entry))) none 0) (now (out .entry)) ⌝ }
+    ensures { λ r. ⌜ Yields (ask direct (now (src .entry)) (now (offsets .entry)) width height)
+        (buffers (now (out .entry)) none none)
+        r (buffers (now (out .exit)) none none) ⌝ }
 {
     let size = Size { width, height };
     let refusal = refuse(
@@ -63,9 +64,9 @@ pub fn decode_v0_reference_map(
     out: &mut [u16],
     map: &mut [u8],
 ) -> Answer
-    ensures { λ r. ⌜ r ≡ answer (ask direct (now (src .entry)) (now (offsets .entry)) width height) (lent (length (now (out .entry))) (some (length (now (map .entry)))) 0) ⌝ }
-    ensures { λ r. ⌜ now (out .exit) ≡ samples-after (ask direct (now (src .entry)) (now (offsets .entry)) width height) (lent (length (now (out .entry))) (some (length (now (map .entry)))) 0) (now (out .entry)) ⌝ }
-    ensures { λ r. ⌜ now (map .exit) ≡ map-after (ask direct (now (src .entry)) (now (offsets .entry)) width height) (lent (length (now (out .entry))) (some (length (now (map .entry)))) 0) (now (map .entry)) ⌝ }
+    ensures { λ r. ⌜ Yields (ask direct (now (src .entry)) (now (offsets .entry)) width height)
+        (buffers (now (out .entry)) (some (now (map .entry))) none)
+        r (buffers (now (out .exit)) (some (now (map .exit))) none) ⌝ }
 {
     let size = Size { width, height };
     let refusal = refuse(

@@ -6,15 +6,15 @@ ghost use lib.ListN.{length, drop};
 ghost use Rattle.rules.specs.Frame.{cells};
 ghost use Rattle.rules.specs.Phases as Phases;
 ghost use Rattle.rules.specs.Map.{two-phase-map};
-ghost use Rattle.rules.specs.Answer.{two-phase, ask, lent, answer, samples-after, map-after, scratch-after};
-ghost use Rattle.v0_phases.specs.Lent.{Lends};
+ghost use Rattle.rules.specs.Answer.{two-phase, ask, buffers, Yields};
+ghost use Rattle.v0_two_phase.specs.Lent.{Lends};
 use refusals::Lending;
 use refusals::mark_old;
 use refusals::refuse;
 use refusals::refused;
 use rules::Answer;
 use rules::Size;
-use v0_phases::frame::decode_frame;
+use v0_two_phase::frame::decode_frame;
 
 // Decodes a V0 frame over what `out` holds, its directions in `scratch`. Refusals 1, 3 and 4.
 pub fn decode_v0(
@@ -25,9 +25,9 @@ pub fn decode_v0(
     out: &mut [u16],
     scratch: &mut [u8],
 ) -> Answer
-    ensures { λ r. ⌜ r ≡ answer (ask two-phase (now (src .entry)) (now (offsets .entry)) width height) (lent (length (now (out .entry))) none (length (now (scratch .entry)))) ⌝ }
-    ensures { λ r. ⌜ now (out .exit) ≡ samples-after (ask two-phase (now (src .entry)) (now (offsets .entry)) width height) (lent (length (now (out .entry))) none (length (now (scratch .entry)))) (now (out .entry)) ⌝ }
-    ensures { λ r. ⌜ now (scratch .exit) ≡ scratch-after (ask two-phase (now (src .entry)) (now (offsets .entry)) width height) (lent (length (now (out .entry))) none (length (now (scratch .entry)))) (now (scratch .entry)) ⌝ }
+    ensures { λ r. ⌜ Yields (ask two-phase (now (src .entry)) (now (offsets .entry)) width height)
+        (buffers (now (out .entry)) none (some (now (scratch .entry))))
+        r (buffers (now (out .exit)) none (some (now (scratch .exit)))) ⌝ }
 {
     let size = Size { width, height };
     let refusal = refuse(
@@ -75,10 +75,9 @@ pub fn decode_v0_map(
     map: &mut [u8],
     scratch: &mut [u8],
 ) -> Answer
-    ensures { λ r. ⌜ r ≡ answer (ask two-phase (now (src .entry)) (now (offsets .entry)) width height) (lent (length (now (out .entry))) (some (length (now (map .entry)))) (length (now (scratch .entry)))) ⌝ }
-    ensures { λ r. ⌜ now (out .exit) ≡ samples-after (ask two-phase (now (src .entry)) (now (offsets .entry)) width height) (lent (length (now (out .entry))) (some (length (now (map .entry)))) (length (now (scratch .entry)))) (now (out .entry)) ⌝ }
-    ensures { λ r. ⌜ now (map .exit) ≡ map-after (ask two-phase (now (src .entry)) (now (offsets .entry)) width height) (lent (length (now (out .entry))) (some (length (now (map .entry)))) (length (now (scratch .entry)))) (now (map .entry)) ⌝ }
-    ensures { λ r. ⌜ now (scratch .exit) ≡ scratch-after (ask two-phase (now (src .entry)) (now (offsets .entry)) width height) (lent (length (now (out .entry))) (some (length (now (map .entry)))) (length (now (scratch .entry)))) (now (scratch .entry)) ⌝ }
+    ensures { λ r. ⌜ Yields (ask two-phase (now (src .entry)) (now (offsets .entry)) width height)
+        (buffers (now (out .entry)) (some (now (map .entry))) (some (now (scratch .entry))))
+        r (buffers (now (out .exit)) (some (now (map .exit))) (some (now (scratch .exit)))) ⌝ }
 {
     let size = Size { width, height };
     let refusal = refuse(

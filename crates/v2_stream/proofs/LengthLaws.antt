@@ -2,23 +2,21 @@
 use mathlib.Core.Bool.{true, false}
 use mathlib.Core.List.{List, [], _∷_}
 use mathlib.Core.Path.{_≡_, ap, _∙_}
-use Prim.Native.Nat.{ℕ, zero, suc, _+_, _*_, _-_, _/_, _%_, _^_, _≤_, _<_, min}
+use Prim.Native.Nat.{ℕ, zero, suc, _+_, _-_, _/_, _%_, _^_, _≤_, _<_}
 use native.Mathlib.Numerals.{add-one}
 use native.Mathlib.Omega.{arith}
-use lib.Dec.{eqb, lit≤}
+use lib.Dec.{eqb}
 use lib.IntN.{ℤ}
 use lib.ListN.{getD, set}
-use lib.Pow.{pow-mono}
 use borrow.Author.Tests.{lt-ltb, le-ltb, ne-eqb}
 use Rattle.rules.specs.declared.reader.Bits.{Bits}
 use Rattle.rules.specs.declared.reader.Four.{Four}
 use Rattle.rules.specs.declared.reader.Got.{Got}
 use Rattle.rules.specs.declared.reader.Signed.{Signed}
 use Rattle.rules.specs.declared.v2.V2Hdr.{V2Hdr}
-use Rattle.rules.specs.Reader.{read, fields, four, read-signed}
+use Rattle.rules.specs.Reader.{read, four, read-signed}
 use Rattle.rules.specs.V2.{option-1, lengths-bit, colour, read-length, Moded, length-step, lengths-from, no-lengths, flagged-lengths, read-lengths, position, Differences, difference-step, differences-from}
-use Rattle.rules.proofs.Cells.{All, nil, more, all-get}
-use Rattle.rules.proofs.V2Bounds.{field-below}
+use Rattle.rules.proofs.ReaderLaws.{four-below}
 
 -- How many are left of n after x.
 pub left-suc : (n x : ℕ) → x < n → n - x ≡ suc (n - (x + 1))
@@ -34,11 +32,6 @@ bit-none s h b e = rw e
 pub bit-read : (s : List ℕ) (h : V2Hdr) (b : Bits) → option-1 h ≡ false → lengths-bit s h b ≡ read s b 1
 unfolding lengths-bit
 bit-read s h b e = rw e
-
-pub four-is : (s : List ℕ) (n : ℕ) (b : Bits) (f0 f1 f2 f3 : Got) → f0 ≡ read s b n → f1 ≡ read s (f0 .bits) n → f2 ≡ read s (f1 .bits) n
-    → f3 ≡ read s (f2 .bits) n → record { values = f0 .value ∷ f1 .value ∷ f2 .value ∷ f3 .value ∷ []; bits = f3 .bits } ≡ four s n b
-unfolding four fields
-four-is s n b f0 f1 f2 f3 e0 e1 e2 e3 = rw (← e0, ← e1, ← e2, ← e3)
 
 pub colour-odd : (row j : ℕ) → row % 2 ≡ 1 → j / 2 ≡ colour row j
 unfolding colour
@@ -103,14 +96,6 @@ module _ (s : List ℕ) (h : V2Hdr) (row : ℕ) (mode : List (List ℕ)) (b : Bi
   unfolding read-lengths
   lengths-zero t = rw (← e, t)
 
-pub position-even : (row k : ℕ) → row % 2 ≡ 0 → 2 * (k % 8) + k / 8 ≡ position row k
-unfolding position
-position-even row k e = rw e
-
-pub position-odd : (row k : ℕ) → (row % 2 ≡ 0 → ⊥) → 2 * (k % 8) + 1 - k / 8 ≡ position row k
-unfolding position
-position-odd row k n = rw (ne-eqb (row % 2) 0 n)
-
 -- One difference, after those before it.
 module _ (s : List ℕ) (row : ℕ) (ls : List ℕ) (k : ℕ) where
   step-is : (ds : List ℤ) (b : Bits) (g : Signed) (p : ℕ) → g ≡ read-signed s b (getD ls (k / 4) 0) → p ≡ position row k
@@ -135,11 +120,4 @@ module _ (s : List ℕ) (row : ℕ) (ls : List ℕ) (k : ℕ) where
 
 -- A flag is below 4.
 pub flag-below : (s : List ℕ) (b : Bits) (f : Four) (j : ℕ) → f ≡ four s 2 b → getD (f .values) j 0 < 4
-unfolding four
-flag-below s b f j e = let k : min (getD twos j 0) 32 ≤ 2 = omega (arith, all-get (λ z. z ≤ 2) small j 0 (lit≤ tt)) in rw e (omega (arith, field-below s twos b j, pow-mono k))
-  where
-    twos : List ℕ
-    twos = 2 ∷ 2 ∷ 2 ∷ 2 ∷ []
-
-    small : All (λ z. z ≤ 2) twos
-    small = more (lit≤ tt) (more (lit≤ tt) (more (lit≤ tt) (more (lit≤ tt) nil)))
+flag-below s b f j e = rw e (four-below s 2 b j (omega arith))

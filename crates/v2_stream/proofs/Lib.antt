@@ -2,3 +2,4 @@
 pub mod HeaderLaws
 pub mod LengthLaws
 pub mod PairLaws
+pub mod PositionLaws

@@ -1,13 +1,13 @@
 -- Two differences of one length: by one read, or by two.
-use mathlib.Core.Path.{_≡_, refl, ap, _∙_}
-use mathlib.Core.List.{List, [], _∷_}
+use mathlib.Core.Path.{_≡_, refl, sym, ap, _∙_}
+use mathlib.Core.List.{List}
 use Prim.Native.Nat.{ℕ, _+_, _-_, _*_, _/_, _%_, _^_, _≤_, _<_, min}
 use native.Mathlib.Omega.{arith}
 use lib.IntN.{ℤ}
 use lib.ListN.{getD, set}
-use Rattle.rules.specs.Reader.{read, fields, signed, read-signed}
+use Rattle.rules.specs.Reader.{read, signed, read-signed}
 use Rattle.rules.specs.V2.{position, differences-from}
-use Rattle.rules.proofs.ReaderLaws.{read-signed-is}
+use Rattle.rules.proofs.ReaderLaws.{fields-pair, read-signed-is}
 use Rattle.rules.specs.declared.reader.Bits.{Bits}
 use Rattle.rules.specs.declared.reader.Got.{Got}
 use Rattle.rules.specs.declared.reader.Signed.{Signed}
@@ -19,10 +19,10 @@ use Rattle.v2_stream.proofs.LengthLaws.{difference-more}
 
 pub pair-cut : (s : List ℕ) (n : ℕ) (b : Bits) (g : Got) (x y : ℤ) → n ≤ 16 → Whole s b (2 * n) g
     → x ≡ signed n (g .value / 2 ^ n % 2 ^ n) → y ≡ signed n (g .value / 2 ^ 0 % 2 ^ n) → record { first = x; second = y; bits = g .bits } ≡ signed-pair s n b
-unfolding signed-pair fields
+unfolding signed-pair
 pair-cut s n b g x y l w ex ey =
     let m : min n 32 ≡ n = omega arith in
-    let e = pair-whole s n b g l w in
+    let e = sym (fields-pair s n n b) ∙ pair-whole s n b g l w in
     let first : read s b n .value ≡ g .value / 2 ^ n % 2 ^ n = ap (λ f. getD (f .values) 0 0) e in
     let second : read s (read s b n .bits) n .value ≡ g .value / 2 ^ 0 % 2 ^ n = ap (λ f. getD (f .values) 1 0) e in
     let rest : read s (read s b n .bits) n .bits ≡ g .bits = ap (λ f. f .bits) e in

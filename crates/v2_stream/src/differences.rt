@@ -1,25 +1,33 @@
 // Step 5 of a block: its differences.
 ghost use mathlib.Core.Path.{_≡_};
-ghost use Prim.Native.Nat.{_<_};
-ghost use Rattle.rules.specs.V2.{position, differences-from};
+ghost use Rattle.rules.specs.V2.{differences-from};
 ghost use Rattle.v2_stream.specs.Pairs.{signed-pair};
+ghost use Rattle.v2_stream.specs.Positions.{row-positions, positions};
 use bits::get_whole;
 use bits::read_signed;
 use fields::field;
 use fields::signed_of;
 use rules::Bits;
 
-// The position of difference k.
-fn position_of(row: usize, k: usize) -> usize
-    requires { ⌜ k < 16 ⌝ }
-    ensures { λ r. ⌜ r ≡ position row k ⌝ }
-    ensures { λ r. ⌜ r < 16 ⌝ }
+// Where the sixteen differences go in even rows, and in odd ones.
+const POSITIONS: [[u8; 16]; 2] = [
+    [0, 2, 4, 6, 8, 10, 12, 14, 1, 3, 5, 7, 9, 11, 13, 15],
+    [1, 3, 5, 7, 9, 11, 13, 15, 0, 2, 4, 6, 8, 10, 12, 14],
+];
+
+// The table, held to the rule at all 32 entries.
+fn table() -> [[u8; 16]; 2]
+    ensures { λ r. ⌜ r ≡ positions ⌝ }
 {
-    if row % 2 == 0 {
-        2 * (k % 8) + k / 8
-    } else {
-        2 * (k % 8) + 1 - k / 8
-    }
+    POSITIONS
+}
+
+// A row's part of the table.
+fn positions_of(row: usize) -> [u8; 16]
+    ensures { λ r. ⌜ r ≡ row-positions row ⌝ }
+{
+    let both = table();
+    both[row % 2]
 }
 
 // Two differences, and the reader's state after them.
@@ -63,12 +71,14 @@ pub fn block_differences(
 ) -> Bits
     ensures { λ r. ⌜ record { values = now (values .exit); bits = r } ≡ differences-from (now (src .entry)) row lengths 16 0 (record { values = now (values .entry); bits = bits }) ⌝ }
 {
+    // A copy, since a constant that is read in the loop is made anew at each read.
+    let positions = positions_of(row);
     let mut at = bits;
     let mut k: usize = 0;
     while k < 16 {
         let pair = read_pair(src, at, lengths[k / 4]);
-        let p = position_of(row, k);
-        let q = position_of(row, k + 1);
+        let p = positions[k] as usize;
+        let q = positions[k + 1] as usize;
         let a = pair.first;
         let b = pair.second;
         values[p] = a;

@@ -1,11 +1,10 @@
 // Step 4 of a block: its four lengths, and what is remembered of them.
 ghost use mathlib.Core.Path.{_≡_};
 ghost use Prim.Native.Nat.{_≤_, _<_};
-ghost use Rattle.rules.specs.Reader.{four};
 ghost use Rattle.rules.specs.V2.{lengths-bit, colour, read-length, flagged-lengths, read-lengths};
 use super::header::skips_bit;
+use bits::four::read_four;
 use rules::Bits;
-use rules::Four;
 use rules::Got;
 use rules::V2Hdr;
 use rules::V2Lengths;
@@ -19,21 +18,6 @@ fn lengths_bit(src: &[u8], hdr: V2Hdr, bits: Bits) -> Got
     } else {
         bits::get(src, bits, 1)
     }
-}
-
-fn read_flags(src: &[u8], bits: Bits) -> Four
-    ensures { λ r. ⌜ r ≡ four (now (src .entry)) 2 bits ⌝ }
-{
-    let f0 = bits::get(src, bits, 2);
-    let b0 = f0.bits;
-    let f1 = bits::get(src, b0, 2);
-    let b1 = f1.bits;
-    let f2 = bits::get(src, b1, 2);
-    let b2 = f2.bits;
-    let f3 = bits::get(src, b2, 2);
-    let b3 = f3.bits;
-    let values = [f0.value, f1.value, f2.value, f3.value];
-    Four { values, bits: b3 }
 }
 
 // The colour that length j belongs to.
@@ -71,7 +55,7 @@ fn four_lengths(
     requires { ⌜ depth ≤ 16 ⌝ }
     ensures { λ r. ⌜ record { lengths = r; mode = now (mode .exit) } ≡ flagged-lengths (now (src .entry)) depth row (now (mode .entry)) bits ⌝ }
 {
-    let f = read_flags(src, bits);
+    let f = read_four(src, bits, 2);
     let flags = f.values;
     let mut four = [0u32; 4];
     let mut at = f.bits;

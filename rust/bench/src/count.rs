@@ -39,9 +39,9 @@ fn counted(frame: usize, contender: usize) -> Option<u64> {
     String::from_utf8_lossy(&said).lines().find_map(|line| line.split_once("Collected : ")?.1.trim().parse().ok())
 }
 
-/// Prints the instructions that each contender takes for a sample.
-pub fn print() {
-    for (number, (name, frame)) in FRAMES.iter().enumerate() {
+/// Prints the instructions that each contender takes for a sample, of the frames whose name starts with `only`.
+pub fn print(only: &str) {
+    for (number, (name, frame)) in FRAMES.iter().enumerate().filter(|(_, (name, _))| name.starts_with(only)) {
         let Some(without) = counted(number, usize::MAX) else {
             println!("{name}: instructions are not counted, since valgrind does not run here");
             continue;

@@ -49,25 +49,25 @@ slice-aggregate-put-frame-2 : tie.Need-slice-aggregate-put-frame-2
 slice-aggregate-put-frame-2 c = search needs
 
 put-frame-requires : tie.Need-put-frame-requires
-put-frame-requires c κs = ((omega arith, omega arith), left-room (answer-done _ _ _ (c .before .before .before .before .before .before .before .before .before .before .before .before .before .before .before .before .before .pre .0) _ (c .before .before .before .before .before .before .before .before .before .before .before .before .before .read-offsets .ensures) _ (c .before .before .before .before .before .before .before .decode-v0-reference-map .result) (c .before .before .before .before .before .before .before .decode-v0-reference-map .ensures .0) _ _ (c .before .before .before .before .before .before .before .decode-v0-reference-map .ensures .1 .0) (c .before .before .before .before .before .before .before .decode-v0-reference-map .ensures .1 .1) (omega arith)) (c .before .before .before .before .before .before .before .before .before .before .before .before .before .before .before .before .before .pre .1))
+put-frame-requires c κs = ((omega arith, omega arith), left-room (answer-done _ _ _ (c .before .before .before .before .before .before .before .before .before .before .before .before .before .before .before .before .before .pre .0) _ (c .before .before .before .before .before .before .before .before .before .before .before .before .before .read-offsets .ensures) _ _ _ _ (c .before .before .before .before .before .before .before .decode-v0-reference-map .ensures) (omega arith)) (c .before .before .before .before .before .before .before .before .before .before .before .before .before .before .before .before .before .pre .1))
 
 same-length : tie.Need-same-length
 same-length c = search needs
 
 returns : tie.Need-returns
-returns c = left-last (answer-done _ _ _ (c .before .before .before .before .before .before .before .before .before .before .before .before .before .before .before .before .before .before .before .before .pre .0) _ (c .before .before .before .before .before .before .before .before .before .before .before .before .before .before .before .before .read-offsets .ensures) _ (c .before .before .before .before .before .before .before .before .before .before .decode-v0-reference-map .result) (c .before .before .before .before .before .before .before .before .before .before .decode-v0-reference-map .ensures .0) _ _ (c .before .before .before .before .before .before .before .before .before .before .decode-v0-reference-map .ensures .1 .0) (c .before .before .before .before .before .before .before .before .before .before .decode-v0-reference-map .ensures .1 .1) (omega arith)) (c .before .before .put-frame .ensures)
+returns c = left-last (answer-done _ _ _ (c .before .before .before .before .before .before .before .before .before .before .before .before .before .before .before .before .before .before .before .before .pre .0) _ (c .before .before .before .before .before .before .before .before .before .before .before .before .before .before .before .before .read-offsets .ensures) _ _ _ _ (c .before .before .before .before .before .before .before .before .before .before .decode-v0-reference-map .ensures) (omega arith)) (c .before .before .put-frame .ensures)
 
 cast-put-refused : tie.Need-cast-put-refused
 cast-put-refused c = search needs
 
 put-refused-requires : tie.Need-put-refused-requires
-put-refused-requires c κs = left-room (answer-refused _ _ _ (c .before .before .before .before .before .before .before .before .before .before .before .before .before .before .before .before .pre .0) _ (c .before .before .before .before .before .before .before .before .before .before .before .before .read-offsets .ensures) _ (c .before .before .before .before .before .before .decode-v0-reference-map .result) (c .before .before .before .before .before .before .decode-v0-reference-map .ensures .0) (omega arith)) (c .before .before .before .before .before .before .before .before .before .before .before .before .before .before .before .before .pre .1)
+put-refused-requires c κs = left-room (answer-refused _ _ _ (c .before .before .before .before .before .before .before .before .before .before .before .before .before .before .before .before .pre .0) _ (c .before .before .before .before .before .before .before .before .before .before .before .before .read-offsets .ensures) _ _ _ _ (c .before .before .before .before .before .before .decode-v0-reference-map .ensures) (omega arith)) (c .before .before .before .before .before .before .before .before .before .before .before .before .before .before .before .before .pre .1)
 
 same-length-2 : tie.Need-same-length-2
 same-length-2 c = search needs
 
 returns-2 : tie.Need-returns-2
-returns-2 c = left-last (answer-refused _ _ _ (c .before .before .before .before .before .before .before .before .before .before .before .before .before .before .before .before .before .before .before .pre .0) _ (c .before .before .before .before .before .before .before .before .before .before .before .before .before .before .before .read-offsets .ensures) _ (c .before .before .before .before .before .before .before .before .before .decode-v0-reference-map .result) (c .before .before .before .before .before .before .before .before .before .decode-v0-reference-map .ensures .0) (omega arith)) (c .before .before .put-refused .ensures)
+returns-2 c = left-last (answer-refused _ _ _ (c .before .before .before .before .before .before .before .before .before .before .before .before .before .before .before .before .before .before .before .pre .0) _ (c .before .before .before .before .before .before .before .before .before .before .before .before .before .before .before .read-offsets .ensures) _ _ _ _ (c .before .before .before .before .before .before .before .before .before .decode-v0-reference-map .ensures) (omega arith)) (c .before .before .put-refused .ensures)
 
 pub put-answer-spec : {M : Type 1} → statement M
 put-answer-spec =

@@ -7,7 +7,7 @@ use lib.Seq.{length-take-le}
 use Rattle.rules.specs.Answer.{refusal, too-small, short-samples, short-offsets, short-map, short-scratch, frame-samples, stream-answer}
 use Rattle.refusals.specs.Lending.{short}
 use Rattle.refusals.proofs.RefusalLaws.{cells-most, room, long-enough}
-use Rattle.samsung.proofs.EntryLaws.{refused-answer, refused-samples, passed-answer, passed-samples}
+use Rattle.samsung.proofs.EntryLaws.{refused-yields, passed-answer, passed-samples}
 use Rattle.samsung.proofs.direct.decode_v0_reference.Statement.{statement}
 use Rattle.samsung.proofs.direct.decode_v0_reference.Tie as tie
 
@@ -22,7 +22,7 @@ unfolding refusal too-small short-samples short-offsets short-map short-scratch 
 returns c =
     let e = sym (c .before .before .refuse .ensures) in
     let n = c .before .if1 .taken in
-    (refused-answer _ _ _ e n _ (c .refused .ensures), refused-samples _ _ _ e n _)
+    refused-yields _ _ _ e n _ (c .refused .ensures)
 
 mul-n : tie.Need-mul-n
 mul-n c =
@@ -53,7 +53,7 @@ returns-2 : tie.Need-returns-2
 unfolding refusal too-small short-samples short-offsets short-map short-scratch short frame-samples stream-answer
 returns-2 c =
     let ok = sym (c .before .before .before .before .before .before .before .before .refuse .ensures) ∙ c .before .before .before .before .before .before .before .if1 .left in
-    (passed-answer _ _ ok _ (c .done .ensures), passed-samples _ _ ok _ _ (c .before .before .before .before .decode-frame .ensures .0))
+    record { answered = passed-answer _ _ ok _ (c .done .ensures); samples = passed-samples _ _ ok _ _ (c .before .before .before .before .decode-frame .ensures .0); map = refl; scratch = refl }
 
 pub decode-v0-reference-spec : {M : Type 1} → statement M
 decode-v0-reference-spec =

@@ -7,7 +7,7 @@ use lib.Seq.{length-take-le}
 use Rattle.rules.specs.Answer.{refusal, too-small, short-samples, short-offsets, short-map, short-scratch, frame-samples, frame-marks, stream-answer}
 use Rattle.refusals.specs.Lending.{short}
 use Rattle.refusals.proofs.RefusalLaws.{cells-most, room, long-enough}
-use Rattle.samsung.proofs.EntryLaws.{refused-answer, refused-samples, refused-map, passed-answer, passed-samples, passed-map}
+use Rattle.samsung.proofs.EntryLaws.{refused-yields, passed-answer, passed-samples, passed-map}
 use Rattle.samsung.proofs.direct.decode_v0_reference_map.Statement.{statement}
 use Rattle.samsung.proofs.direct.decode_v0_reference_map.Tie as tie
 
@@ -22,7 +22,7 @@ unfolding refusal too-small short-samples short-offsets short-map short-scratch 
 returns c =
     let e = sym (c .before .before .refuse .ensures) in
     let n = c .before .if1 .taken in
-    (refused-answer _ _ _ e n _ (c .refused .ensures), (refused-samples _ _ _ e n _, refused-map _ _ _ e n _))
+    refused-yields _ _ _ e n _ (c .refused .ensures)
 
 mul-n : tie.Need-mul-n
 mul-n c =
@@ -61,7 +61,7 @@ unfolding refusal too-small short-samples short-offsets short-map short-scratch 
 returns-2 c =
     let ok = sym (c .before .before .before .before .before .before .before .before .before .refuse .ensures) ∙ c .before .before .before .before .before .before .before .before .if1 .left in
     let d = c .before .before .before .before .before .decode-marked .ensures in
-    (passed-answer _ _ ok _ (c .done .ensures), (passed-samples _ _ ok _ _ (d .0), passed-map _ _ ok _ _ (d .1)))
+    record { answered = passed-answer _ _ ok _ (c .done .ensures); samples = passed-samples _ _ ok _ _ (d .0); map = passed-map _ _ ok _ _ (d .1); scratch = refl }
 
 pub decode-v0-reference-map-spec : {M : Type 1} → statement M
 decode-v0-reference-map-spec =

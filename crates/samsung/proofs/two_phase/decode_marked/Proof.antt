@@ -4,7 +4,7 @@ use mathlib.Core.Path.{_≡_, ap, _∙_}
 use borrow.Author.Needs.{needs}
 use lib.ListN.{length, replicate, length-replicate}
 use Rattle.rules.specs.Map.{two-phase-map}
-use Rattle.v0_phases.specs.Marks.{two-phase-marks}
+use Rattle.v0_two_phase.specs.Marks.{two-phase-marks}
 use Rattle.samsung.proofs.two_phase.decode_marked.Statement.{statement}
 use Rattle.samsung.proofs.two_phase.decode_marked.Tie as tie
 

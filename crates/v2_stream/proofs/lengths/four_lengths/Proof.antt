@@ -17,8 +17,8 @@ Inv-loop src depth row mode₀ flags four₀ at₀ j₀ mode four at j =
 abbrev μ-loop : tie.MeasureT-loop
 μ-loop src depth row mode₀ flags four₀ at₀ j₀ mode four at j = 4 - j
 
-read-flags-requires : tie.Need-read-flags-requires Inv-loop μ-loop
-read-flags-requires c κs = search needs
+read-four-requires : tie.Need-read-four-requires Inv-loop μ-loop
+read-four-requires c κs = search needs
 
 loop-holds : tie.Need-loop-holds Inv-loop μ-loop
 loop-holds c = (omega arith, refl)
@@ -42,7 +42,7 @@ index-2-next-length : tie.Need-index-2-next-length Inv-loop μ-loop
 index-2-next-length c = search needs
 
 next-length-requires : tie.Need-next-length-requires Inv-loop μ-loop
-next-length-requires c κs = flag-below _ _ _ _ (c .before .before .before .before .before .before .read-flags .ensures)
+next-length-requires c κs = flag-below _ _ _ _ (c .before .before .before .before .before .before .read-four .ensures)
 
 mul-if1 : tie.Need-mul-if1 Inv-loop μ-loop
 mul-if1 c = search needs
@@ -71,7 +71,7 @@ add-if1 c = search needs
 returns : tie.Need-returns Inv-loop μ-loop
 returns c =
     let m = c .before .before .before .before .before .before .before .before .loop in
-    sym (flagged-are _ _ _ _ _ _ (c .before .before .before .before .before .before .before .before .before .before .before .read-flags .ensures) ∙ m .inv .1
+    sym (flagged-are _ _ _ _ _ _ (c .before .before .before .before .before .before .before .before .before .before .before .read-four .ensures) ∙ m .inv .1
     ∙ length-too-long _ _ _ _ _ (c .before .before .before .before .before .before .before .loop-test .taken) _ _ _ _ (c .before .before .before .before .before .before .colour-of .ensures .0) _ (c .before .before .before .before .next-length .ensures) (c .if1 .taken))
 
 add-j : tie.Need-add-j Inv-loop μ-loop
@@ -88,7 +88,7 @@ loop-again c =
     )
 
 returns-2 : tie.Need-returns-2 Inv-loop μ-loop
-returns-2 c = sym (flagged-are _ _ _ _ _ _ (c .before .before .before .before .read-flags .ensures) ∙ c .before .loop .inv .1 ∙ lengths-end _ _ _ _ _ _ (c .loop-test .left))
+returns-2 c = sym (flagged-are _ _ _ _ _ _ (c .before .before .before .before .read-four .ensures) ∙ c .before .loop .inv .1 ∙ lengths-end _ _ _ _ _ _ (c .loop-test .left))
 
 pub four-lengths-spec : {M : Type 1} → statement M
 four-lengths-spec =
@@ -96,7 +96,7 @@ four-lengths-spec =
     (tie.spec
     Inv-loop
     μ-loop
-    read-flags-requires
+    read-four-requires
     loop-holds
     colour-of-requires
     mul-next-length

@@ -1,0 +1,218 @@
+-- The claim of `Isolation.antt` at work. For every input there is a call of each export, and after every list of calls on a
+-- buffer it may follow, lent all of the buffer or its first samples: so the claim speaks of lists of every length, on buffers longer
+-- than a frame too. Then two calls that are alike and end with done over buffers that differ: document 01's frame of 2 by 2.
+use Prim.Native.Nat.{ℕ, _+_, _%_}
+use mathlib.Core.Path.{_≡_, refl, sym, ap, _∙_}
+use mathlib.Core.Logic.{inl}
+use mathlib.Core.List.{List, [], _∷_, _++_}
+use mathlib.Core.Option.{none, some, Option·none-ne-some}
+use lib.ListN.{length, getD, take, drop, take-append-drop}
+use lib.Dec.{lit≤}
+use denote.Ref.{RefT}
+use Rattle.rules.specs.Answer.{Ask, ask, buffers, lengths, answer, samples-after, map-after, scratch-after}
+use Rattle.rules.specs.Answer as Answer
+use Rattle.rules.specs.Reader as Reader
+use Rattle.rules.specs.Frame as Frame
+use Rattle.rules.specs.V0 as V0
+use Rattle.rules.specs.Phases as Phases
+use Rattle.rules.specs.Map as Map
+use Rattle.rules.proofs.Cells.{nil, more}
+use Rattle.rules.proofs.Isolation.{Calls, start, call, Samples, Same, is-direct, position-of, amount-of}
+use Rattle.samsung.proofs.Isolation.{returned}
+use Rattle.razvolk.proofs.Isolation.{Export, entry, exported, step, isolation}
+use Rattle.razvolk.proofs.Isolation as Exports
+
+-- ── A call for every input ──
+
+-- A slice that is lent: no contract asks where it lies.
+abbrev slice : List ℕ → RefT (List ℕ)
+slice xs = record { ptr = (0, 0); name = 0; now = xs }
+
+module _ (s offsets : List ℕ) (w h : ℕ) (samples : List ℕ) where
+  abbrev direct-ask : Ask
+  direct-ask = ask Answer.direct s offsets w h
+
+  abbrev two-phase-ask : Ask
+  two-phase-ask = ask Answer.two-phase s offsets w h
+
+  abbrev v2-ask : Ask
+  v2-ask = ask Answer.v2 s [] w h
+
+  abbrev pub direct-call : Export
+  direct-call =
+      Exports.direct
+      (record {
+        κs = ([], ([], ([], tt)));
+        args = (slice s, (slice offsets, (w, (h, (slice samples, tt)))));
+        result = answer direct-ask (lengths (buffers samples none none));
+        exit = (slice s, (slice offsets, (w, (h, (slice (samples-after direct-ask (lengths (buffers samples none none)) samples), tt)))));
+        learnt = record { answered = refl; samples = refl; map = refl; scratch = refl };
+      })
+
+  abbrev pub direct-map-call : List ℕ → Export
+  direct-map-call map =
+      Exports.direct-map
+      (record {
+        κs = ([], ([], ([], ([], tt))));
+        args = (slice s, (slice offsets, (w, (h, (slice samples, (slice map, tt))))));
+        result = answer direct-ask (lengths (buffers samples (some map) none));
+        exit = (slice s, (slice offsets, (w, (h, (slice (samples-after direct-ask (lengths (buffers samples (some map) none)) samples), (slice (map-after direct-ask (lengths (buffers samples (some map) none)) map), tt))))));
+        learnt = record { answered = refl; samples = refl; map = refl; scratch = refl };
+      })
+
+  abbrev pub two-phase-call : List ℕ → Export
+  two-phase-call scratch =
+      Exports.two-phase
+      (record {
+        κs = ([], ([], ([], ([], tt))));
+        args = (slice s, (slice offsets, (w, (h, (slice samples, (slice scratch, tt))))));
+        result = answer two-phase-ask (lengths (buffers samples none (some scratch)));
+        exit = (slice s, (slice offsets, (w, (h, (slice (samples-after two-phase-ask (lengths (buffers samples none (some scratch))) samples), (slice (scratch-after two-phase-ask (lengths (buffers samples none (some scratch))) scratch), tt))))));
+        learnt = record { answered = refl; samples = refl; map = refl; scratch = refl };
+      })
+
+  abbrev pub two-phase-map-call : List ℕ → List ℕ → Export
+  two-phase-map-call map scratch =
+      Exports.two-phase-map
+      (record {
+        κs = ([], ([], ([], ([], ([], tt)))));
+        args = (slice s, (slice offsets, (w, (h, (slice samples, (slice map, (slice scratch, tt)))))));
+        result = answer two-phase-ask (lengths (buffers samples (some map) (some scratch)));
+        exit = (slice s, (slice offsets, (w, (h, (slice (samples-after two-phase-ask (lengths (buffers samples (some map) (some scratch))) samples), (slice (map-after two-phase-ask (lengths (buffers samples (some map) (some scratch))) map), (slice (scratch-after two-phase-ask (lengths (buffers samples (some map) (some scratch))) scratch), tt)))))));
+        learnt = record { answered = refl; samples = refl; map = refl; scratch = refl };
+      })
+
+  abbrev pub v2-call : Export
+  v2-call =
+      Exports.v2
+      (record {
+        κs = ([], ([], tt));
+        args = (slice s, (w, (h, (slice samples, tt))));
+        result = answer v2-ask (lengths (buffers samples none none));
+        exit = (slice s, (w, (h, (slice (samples-after v2-ask (lengths (buffers samples none none)) samples), tt))));
+        learnt = record { answered = refl; samples = refl; map = refl; scratch = refl };
+      })
+
+  abbrev pub v2-map-call : List ℕ → Export
+  v2-map-call map =
+      Exports.v2-map
+      (record {
+        κs = ([], ([], ([], tt)));
+        args = (slice s, (w, (h, (slice samples, (slice map, tt)))));
+        result = answer v2-ask (lengths (buffers samples (some map) none));
+        exit = (slice s, (w, (h, (slice (samples-after v2-ask (lengths (buffers samples (some map) none)) samples), (slice (map-after v2-ask (lengths (buffers samples (some map) none)) map), tt)))));
+        learnt = record { answered = refl; samples = refl; map = refl; scratch = refl };
+      })
+
+  -- They ask and find what they are given.
+  pub direct-finds : (exported direct-call .ask ≡ direct-ask) × (exported direct-call .found ≡ buffers samples none none)
+  unfolding returned entry
+  direct-finds = (refl, refl)
+
+  pub direct-map-finds : (m : List ℕ) → (exported (direct-map-call m) .ask ≡ direct-ask) × (exported (direct-map-call m) .found ≡ buffers samples (some m) none)
+  unfolding returned entry
+  direct-map-finds m = (refl, refl)
+
+  pub two-phase-finds : (c : List ℕ) → (exported (two-phase-call c) .ask ≡ two-phase-ask) × (exported (two-phase-call c) .found ≡ buffers samples none (some c))
+  unfolding returned entry
+  two-phase-finds c = (refl, refl)
+
+  pub two-phase-map-finds : (m c : List ℕ) → (exported (two-phase-map-call m c) .ask ≡ two-phase-ask) × (exported (two-phase-map-call m c) .found ≡ buffers samples (some m) (some c))
+  unfolding returned entry
+  two-phase-map-finds m c = (refl, refl)
+
+  pub v2-finds : (exported v2-call .ask ≡ v2-ask) × (exported v2-call .found ≡ buffers samples none none)
+  unfolding returned entry
+  v2-finds = (refl, refl)
+
+  pub v2-map-finds : (m : List ℕ) → (exported (v2-map-call m) .ask ≡ v2-ask) × (exported (v2-map-call m) .found ≡ buffers samples (some m) none)
+  unfolding returned entry
+  v2-map-finds m = (refl, refl)
+
+-- ── A list, and one call more ──
+
+-- After every list of calls each call may follow that is lent the first k samples of the buffer as it is now; the others stay.
+pub one-more : {b x : List ℕ} → Calls step b x → (k : ℕ) (c : Export) → exported c .found .samples ≡ take k x → Calls step b (exported c .left .samples ++ drop k x)
+one-more {x = x} cs k c e = call cs c (drop k x) (sym (rw e (take-append-drop k x)))
+
+-- ── Document 01's frame of 2 by 2 ──
+
+abbrev frame-stream : List ℕ
+frame-stream = 0x00 ∷ 0x00 ∷ 0x00 ∷ 0x80 ∷ 0x18 ∷ 0x20 ∷ 0xA0 ∷ 0x7F ∷ 0x00 ∷ 0x00 ∷ 0x70 ∷ 0x00 ∷ []
+
+abbrev pub two-by-two : List ℕ → Export
+two-by-two old = direct-call frame-stream (0 ∷ 4 ∷ []) 2 2 old
+
+-- Over four samples it is done.
+pub two-by-two-done : (old : List ℕ) → length old ≡ 4 → exported (two-by-two old) .answered ≡ Answer.done
+unfolding returned entry Answer.answer Answer.refusal Answer.too-large Answer.too-small Answer.short-samples Answer.short-offsets Answer.short-map Answer.short-scratch Answer.first-of Answer.stream-answer
+two-by-two-done old e = rw e
+
+-- Its second and fourth sample are marked 0. Its third is marked 1: it is the old second one.
+abbrev two-by-two-ask : Ask
+two-by-two-ask = ask Answer.direct frame-stream (0 ∷ 4 ∷ []) 2 2
+
+two-by-two-marks : (Answer.marks two-by-two-ask ≡ 1 ∷ 0 ∷ 1 ∷ 0 ∷ [])
+    × ((position-of two-by-two-ask 2 ≡ 1) × (amount-of two-by-two-ask 2 ≡ 0))
+unfolding Reader.fetched Reader.held Reader.read Reader.fields Reader.four Reader.signed Reader.read-signed Reader.modulo Reader.read-residual Frame.tabulate V0.fresh-row V0.operated V0.operate V0.head V0.bounded V0.predictor V0.length-of V0.length-bits V0.residual-bits V0.sample V0.samples V0.blocks V0.row-ops V0.rows V0.put V0.apply V0.swap V0.exchange-columns V0.exchange-rows V0.exchange V0.frame Map.moved Map.origins Map.position Map.amount Map.v0-map Answer.frame-marks
+two-by-two-marks = (refl, (refl, refl))
+
+-- What the claim says of two such calls, at the end of every two lists of calls.
+module _ (b b′ x y : List ℕ) (h : Samples b) (h′ : Samples b′) (cs : Calls step b x) (ds : Calls step b′ y)
+    (old old′ rest rest′ : List ℕ) (four : length old ≡ 4) (four′ : length old′ ≡ 4) (e : x ≡ old ++ rest) (e′ : y ≡ old′ ++ rest′) where
+  same : Same (exported (two-by-two old)) (exported (two-by-two old′))
+  unfolding returned entry
+  same =
+      isolation b b′ x y h h′ cs ds (two-by-two old) (two-by-two old′) rest rest′ e e′
+      (record { ask = refl; samples = four ∙ sym four′; scratch = refl; map = λ m n p q. absurd (Option·none-ne-some m p) })
+      (inl (ap (λ a. a .number) (two-by-two-done old four))) (inl (ap (λ a. a .number) (two-by-two-done old′ four′)))
+
+  -- The second and fourth sample are the same in both buffers, whatever came before.
+  pub unmarked-same : (getD (exported (two-by-two old) .left .samples) 1 0 ≡ getD (exported (two-by-two old′) .left .samples) 1 0)
+      × (getD (exported (two-by-two old) .left .samples) 3 0 ≡ getD (exported (two-by-two old′) .left .samples) 3 0)
+  unfolding returned entry
+  unmarked-same = (same .samples 1 (lit≤ tt) (ap (λ l. getD l 1 0) (two-by-two-marks .0)), same .samples 3 (lit≤ tt) (ap (λ l. getD l 3 0) (two-by-two-marks .0)))
+
+  -- The third is what its buffer held at the second place.
+  pub marked-old : getD (exported (two-by-two old) .left .samples) 2 0 ≡ (getD old 1 0 + 0) % 65_536
+  unfolding returned entry
+  marked-old =
+      same .marks-c .old is-direct 2 (lit≤ tt) (ap (λ l. getD l 2 0) (two-by-two-marks .0)) .1
+      ∙ (λ i. (getD old (two-by-two-marks .1 .0 i) 0 + two-by-two-marks .1 .1 i) % 65_536)
+
+-- ── Two lists ──
+
+-- On a buffer of six samples: V2 is lent all of it and is refused, then a two-phase call is lent its first four.
+abbrev six : List ℕ
+six = 7 ∷ 8 ∷ 9 ∷ 10 ∷ 11 ∷ 12 ∷ []
+
+abbrev refused-first : Export
+refused-first = v2-call [] [] 1 1 six
+
+abbrev six-after-one : List ℕ
+six-after-one = exported refused-first .left .samples ++ drop 6 six
+
+abbrev in-phases-next : Export
+in-phases-next = two-phase-call frame-stream (0 ∷ 4 ∷ []) 2 2 (take 4 six-after-one) []
+
+abbrev six-after-two : List ℕ
+six-after-two = exported in-phases-next .left .samples ++ drop 4 six-after-one
+
+pub two-calls : Calls step six six-after-two
+unfolding returned entry
+two-calls = one-more (one-more start 6 refused-first refl) 4 in-phases-next refl
+
+-- On a buffer of four zeros: nothing before.
+abbrev zeros : List ℕ
+zeros = 0 ∷ 0 ∷ 0 ∷ 0 ∷ []
+
+six-long : length (take 4 six-after-two) ≡ 4
+unfolding returned entry Reader.fetched Reader.held Reader.read Reader.fields Reader.four Reader.signed Reader.read-signed Reader.modulo Reader.read-residual Frame.tabulate V0.fresh-row V0.operated V0.operate V0.head V0.bounded V0.predictor V0.length-of V0.length-bits V0.residual-bits V0.sample V0.samples V0.blocks V0.row-ops V0.rows V0.put V0.apply V0.swap V0.exchange-columns V0.exchange-rows V0.exchange V0.frame Phases.first-rows Phases.phase-one Phases.phase-two Phases.directions Phases.scratch Phases.two-phase Answer.too-large Answer.too-small Answer.short-offsets Answer.short-samples Answer.short-map Answer.short-scratch Answer.first-of Answer.refusal Answer.frame-samples Answer.unless-refused Answer.samples-after
+six-long = refl
+
+-- The frame that follows leaves the same second sample in both.
+pub shown : getD (exported (two-by-two (take 4 six-after-two)) .left .samples) 1 0 ≡ getD (exported (two-by-two zeros) .left .samples) 1 0
+shown =
+    unmarked-same six zeros six-after-two zeros (more (lit≤ tt) (more (lit≤ tt) (more (lit≤ tt) (more (lit≤ tt) (more (lit≤ tt) (more (lit≤ tt) nil))))))
+    (more (lit≤ tt) (more (lit≤ tt) (more (lit≤ tt) (more (lit≤ tt) nil)))) two-calls start (take 4 six-after-two) zeros (drop 4 six-after-two) [] six-long refl
+    (sym (take-append-drop 4 six-after-two)) refl .0

@@ -1,0 +1,45 @@
+-- `decode_marked` meets its contract: the frame's marks are decoded over a map that is all old.
+use mathlib.Core.Logic.{inl}
+use mathlib.Core.Path.{_≡_, ap, _∙_}
+use borrow.Author.Needs.{needs}
+use lib.ListN.{length, replicate, length-replicate}
+use Rattle.rules.specs.V2.{frame}
+use Rattle.rules.specs.Map.{v2-map, v2-marks}
+use Rattle.samsung.proofs.v2_entries.decode_marked.Statement.{statement}
+use Rattle.samsung.proofs.v2_entries.decode_marked.Tie as tie
+
+mark-old-requires : tie.Need-mark-old-requires
+mark-old-requires c κs = search needs
+
+decode-frame-requires : tie.Need-decode-frame-requires
+decode-frame-requires c κs =
+    let p = c .before .before .before .before .before .before .before .before .before .pre in
+    record {
+      width = p .0 .width;
+      height = p .0 .height;
+      samples-lent = p .0 .samples-lent;
+      map-lent = inl (ap length (c .before .before .before .before .mark-old .ensures) ∙ length-replicate _ 1 ∙ p .1);
+    }
+
+same-length : tie.Need-same-length
+same-length c = search needs
+
+same-length-2 : tie.Need-same-length-2
+same-length-2 c = search needs
+
+returns : tie.Need-returns
+unfolding v2-map
+returns c =
+    let ones = c .before .before .before .before .before .before .before .before .before .mark-old .ensures ∙ ap (λ n. replicate n 1) (c .before .before .before .before .before .before .before .before .before .before .before .before .before .before .pre .1) in
+    let d = c .before .before .before .before .decode-frame .ensures in
+    (d .0, (d .1 .0, d .1 .1 ∙ ap (frame v2-marks _ _) ones))
+
+pub decode-marked-spec : {M : Type 1} → statement M
+decode-marked-spec =
+    tie.close
+    (tie.spec
+    mark-old-requires
+    decode-frame-requires
+    same-length
+    same-length-2
+    returns)

@@ -1,0 +1,73 @@
+-- `decode_v2` meets its contract: a refusal of 1 to 3 is the rules', and else the frame's answer and samples are what the decoder leaves.
+use mathlib.Core.Path.{_≡_, refl, sym, _∙_}
+use mathlib.Core.Logic.{inl, inr}
+use native.Mathlib.Omega.{arith}
+use borrow.Author.Needs.{needs}
+use lib.Seq.{length-take-le}
+use Rattle.rules.specs.Answer.{refusal, short-samples, short-offsets, short-map, short-scratch, frame-samples, stream-answer}
+use Rattle.refusals.specs.Lending.{short}
+use Rattle.refusals.proofs.RefusalLaws.{cells-most, room, small-as}
+use Rattle.samsung.proofs.EntryLaws.{refused-yields, passed-answer, passed-samples}
+use Rattle.samsung.proofs.v2_entries.decode_v2.Statement.{statement}
+use Rattle.samsung.proofs.v2_entries.decode_v2.Tie as tie
+
+is-too-small-requires : tie.Need-is-too-small-requires
+is-too-small-requires c κs = search needs
+
+refuse-requires : tie.Need-refuse-requires
+refuse-requires c κs = search needs
+
+refused-requires : tie.Need-refused-requires
+refused-requires c κs = search needs
+
+returns : tie.Need-returns
+unfolding refusal short-samples short-offsets short-map short-scratch short
+returns c =
+    let e = small-as _ _ _ _ _ _ (c .before .before .refuse .ensures) (c .before .before .before .is-too-small .ensures) in
+    let n = c .before .if1 .taken in
+    refused-yields _ _ _ e n _ (c .refused .ensures)
+
+mul-n : tie.Need-mul-n
+mul-n c =
+    let p = room _ _ _ _ _ _ _ (c .before .refuse .ensures) (c .if1 .left) in
+    omega (arith, cells-most _ _ (p .wide) (p .high))
+
+slice-relend-prefix-decode-frame : tie.Need-slice-relend-prefix-decode-frame
+slice-relend-prefix-decode-frame c = room _ _ _ _ _ _ _ (c .before .refuse .ensures) (c .if1 .left) .samples-enough
+
+slice-aggregate-decode-frame : tie.Need-slice-aggregate-decode-frame
+slice-aggregate-decode-frame c = sym (length-take-le _ _ (room _ _ _ _ _ _ _ (c .before .before .refuse .ensures) (c .before .if1 .left) .samples-enough))
+
+slice-aggregate-decode-frame-2 : tie.Need-slice-aggregate-decode-frame-2
+slice-aggregate-decode-frame-2 c = search needs
+
+decode-frame-requires : tie.Need-decode-frame-requires
+decode-frame-requires c κs =
+    let p = room _ _ _ _ _ _ _ (c .before .before .before .refuse .ensures) (c .before .before .if1 .left) in
+    record { width = p .wide; height = p .high; samples-lent = length-take-le _ _ (p .samples-enough); map-lent = inr refl }
+
+same-length : tie.Need-same-length
+same-length c = search needs
+
+returns-2 : tie.Need-returns-2
+unfolding refusal short-samples short-offsets short-map short-scratch short frame-samples stream-answer
+returns-2 c =
+    let ok = small-as _ _ _ _ _ _ (c .before .before .before .before .before .before .before .refuse .ensures) (c .before .before .before .before .before .before .before .before .is-too-small .ensures) ∙ c .before .before .before .before .before .before .if1 .left in
+    let d = c .before .before .before .decode-frame .ensures in
+    record { answered = passed-answer _ _ ok _ (d .0); samples = passed-samples _ _ ok _ _ (d .1 .0); map = refl; scratch = refl }
+
+pub decode-v2-spec : {M : Type 1} → statement M
+decode-v2-spec =
+    tie.close
+    (tie.spec
+    is-too-small-requires
+    refuse-requires
+    refused-requires
+    returns
+    mul-n
+    slice-relend-prefix-decode-frame
+    slice-aggregate-decode-frame
+    slice-aggregate-decode-frame-2
+    decode-frame-requires
+    same-length
+    returns-2)

@@ -1,0 +1,82 @@
+-- `decode_v2_map` meets its contract: a refusal of 1 to 4 is the rules', and else the frame's answer, samples and marks are what the decoder leaves.
+use mathlib.Core.Path.{_≡_, refl, sym, _∙_}
+use mathlib.Core.Logic.{inl, inr}
+use native.Mathlib.Omega.{arith}
+use borrow.Author.Needs.{needs}
+use lib.Seq.{length-take-le}
+use Rattle.rules.specs.Answer.{refusal, short-samples, short-offsets, short-map, short-scratch, frame-samples, frame-marks, stream-answer}
+use Rattle.refusals.specs.Lending.{short}
+use Rattle.refusals.proofs.RefusalLaws.{cells-most, room, small-as, long-enough}
+use Rattle.samsung.proofs.EntryLaws.{refused-yields, passed-answer, passed-samples, passed-map}
+use Rattle.samsung.proofs.v2_entries.decode_v2_map.Statement.{statement}
+use Rattle.samsung.proofs.v2_entries.decode_v2_map.Tie as tie
+
+is-too-small-requires : tie.Need-is-too-small-requires
+is-too-small-requires c κs = search needs
+
+refuse-requires : tie.Need-refuse-requires
+refuse-requires c κs = search needs
+
+refused-requires : tie.Need-refused-requires
+refused-requires c κs = search needs
+
+returns : tie.Need-returns
+unfolding refusal short-samples short-offsets short-map short-scratch short
+returns c =
+    let e = small-as _ _ _ _ _ _ (c .before .before .refuse .ensures) (c .before .before .before .is-too-small .ensures) in
+    let n = c .before .if1 .taken in
+    refused-yields _ _ _ e n _ (c .refused .ensures)
+
+mul-n : tie.Need-mul-n
+mul-n c =
+    let p = room _ _ _ _ _ _ _ (c .before .refuse .ensures) (c .if1 .left) in
+    omega (arith, cells-most _ _ (p .wide) (p .high))
+
+slice-relend-prefix-decode-marked : tie.Need-slice-relend-prefix-decode-marked
+slice-relend-prefix-decode-marked c = room _ _ _ _ _ _ _ (c .before .refuse .ensures) (c .if1 .left) .samples-enough
+
+slice-aggregate-decode-marked : tie.Need-slice-aggregate-decode-marked
+slice-aggregate-decode-marked c = sym (length-take-le _ _ (room _ _ _ _ _ _ _ (c .before .before .refuse .ensures) (c .before .if1 .left) .samples-enough))
+
+slice-relend-prefix-decode-marked-2 : tie.Need-slice-relend-prefix-decode-marked-2
+slice-relend-prefix-decode-marked-2 c = long-enough _ _ (room _ _ _ _ _ _ _ (c .before .before .refuse .ensures) (c .before .if1 .left) .map-enough)
+
+slice-aggregate-decode-marked-2 : tie.Need-slice-aggregate-decode-marked-2
+slice-aggregate-decode-marked-2 c = sym (length-take-le _ _ (long-enough _ _ (room _ _ _ _ _ _ _ (c .before .before .before .refuse .ensures) (c .before .before .if1 .left) .map-enough)))
+
+decode-marked-requires : tie.Need-decode-marked-requires
+decode-marked-requires c κs =
+    let p = room _ _ _ _ _ _ _ (c .before .before .before .refuse .ensures) (c .before .before .if1 .left) in
+    let m = length-take-le _ _ (long-enough _ _ (p .map-enough)) in
+    (record { width = p .wide; height = p .high; samples-lent = length-take-le _ _ (p .samples-enough); map-lent = inl m }, m)
+
+same-length : tie.Need-same-length
+same-length c = search needs
+
+same-length-2 : tie.Need-same-length-2
+same-length-2 c = search needs
+
+returns-2 : tie.Need-returns-2
+unfolding refusal short-samples short-offsets short-map short-scratch short frame-samples frame-marks stream-answer
+returns-2 c =
+    let ok = small-as _ _ _ _ _ _ (c .before .before .before .before .before .before .before .before .refuse .ensures) (c .before .before .before .before .before .before .before .before .before .is-too-small .ensures) ∙ c .before .before .before .before .before .before .before .if1 .left in
+    let d = c .before .before .before .before .decode-marked .ensures in
+    record { answered = passed-answer _ _ ok _ (d .0); samples = passed-samples _ _ ok _ _ (d .1 .0); map = passed-map _ _ ok _ _ (d .1 .1); scratch = refl }
+
+pub decode-v2-map-spec : {M : Type 1} → statement M
+decode-v2-map-spec =
+    tie.close
+    (tie.spec
+    is-too-small-requires
+    refuse-requires
+    refused-requires
+    returns
+    mul-n
+    slice-relend-prefix-decode-marked
+    slice-aggregate-decode-marked
+    slice-relend-prefix-decode-marked-2
+    slice-aggregate-decode-marked-2
+    decode-marked-requires
+    same-length
+    same-length-2
+    returns-2)

@@ -1,3 +1,0 @@
-pub mod HeadLaws
-pub mod FourLaws
-pub mod BlockLaws

@@ -1,4 +1,0 @@
-// How both V0 decoders read a block: its head, and, where nothing is skipped, all its residuals, by document 01's "V0 row state".
-pub mod block;
-pub mod four;
-pub mod head;

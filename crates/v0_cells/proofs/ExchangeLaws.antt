@@ -1,0 +1,118 @@
+-- The exchange, for any kind of cell: what is left of it comes to the whole.
+use mathlib.Core.Path.{_≡_, refl, sym, ap, _∙_}
+use mathlib.Core.Logic.{inl, inr}
+use mathlib.Core.List.{List, [], _∷_}
+use Prim.Native.Nat.{ℕ, zero, suc, _+_, _-_, _*_, _/_, _%_, _≤_, _<_}
+use native.Mathlib.Omega.{arith}
+use native.Mathlib.Nat.{mul-le-mul-right, mul-comm}
+use lib.ListN.{length, getD, set, length-set}
+use Rattle.rules.specs.V0.{Kind, swap, exchange-columns, exchange-rows, exchange}
+use Rattle.rules.specs.declared.answer.Size.{Size}
+use Rattle.v0_cells.specs.Places.{Whole, InPair, Framed, MapFramed}
+use Rattle.v0_cells.proofs.CellLaws.{product}
+
+-- ── Places ──
+
+module _ (w row : ℕ) (f : List ℕ) (i : InPair w row f) where
+  pub pair-fits : (row + 1) * w ≤ 268_550_144
+  pair-fits = product (row + 1) w (omega (arith, i .row-in)) (omega (arith, i .width))
+
+module _ (k : Kind ℕ) where
+  pub swap-is : (i j : ℕ) (f : List ℕ) → set (set f i (getD f j (k .constant 0))) j (getD f i (k .constant 0)) ≡ swap k i j f
+  unfolding swap
+  swap-is i j f = refl
+
+  swap-length : (i j : ℕ) (f : List ℕ) → length (swap k i j f) ≡ length f
+  unfolding swap
+  swap-length i j f = simp length-set
+
+  -- ── The columns of a pair of rows ──
+
+  pub record Pairing (w row : ℕ) (f₀ f : List ℕ) (col : ℕ) : Type 0 where
+    pub even : col % 2 ≡ 0
+    pub below : col ≤ w + 1
+    pub same-length : length f ≡ length f₀
+    pub cells-are : exchange-columns k w row ((w - col) / 2) col f ≡ exchange-columns k w row (w / 2) 0 f₀
+
+  pub pairing-begun : (w row : ℕ) (f : List ℕ) → Pairing w row f f 0
+  pairing-begun w row f = let q : w - 0 ≡ w = omega arith in record { even = refl; below = omega arith; same-length = refl; cells-are = rw q }
+
+  pub pairing-on : (w row : ℕ) (f₀ f f′ : List ℕ) (col : ℕ) → col + 1 < w → f′ ≡ swap k (row * w + col + 1) ((row + 1) * w + col) f
+      → Pairing w row f₀ f col → Pairing w row f₀ f′ (col + 2)
+  unfolding exchange-columns
+  pairing-on w row f₀ f f′ col l e r =
+      let q : (w - col) / 2 ≡ suc ((w - (col + 2)) / 2) = omega arith in
+      record {
+        even = omega (arith, r .even);
+        below = omega arith;
+        same-length = ap length e ∙ swap-length (row * w + col + 1) ((row + 1) * w + col) f ∙ r .same-length;
+        cells-are = ap (exchange-columns k w row ((w - (col + 2)) / 2) (col + 2)) e ∙ (rw q at (r .cells-are));
+      }
+
+  pub paired : (w row : ℕ) (f₀ f : List ℕ) (col : ℕ) → w ≤ col + 1 → Pairing w row f₀ f col → f ≡ exchange-columns k w row (w / 2) 0 f₀
+  unfolding exchange-columns
+  paired w row f₀ f col l r = let q : (w - col) / 2 ≡ 0 = omega arith in rw q at (r .cells-are)
+
+  -- ── The pairs of rows of a frame ──
+
+  columns-length : (w row n col : ℕ) (f : List ℕ) → length (exchange-columns k w row n col f) ≡ length f
+  unfolding exchange-columns
+  columns-length w row zero col f = refl
+  columns-length w row (suc n) col f =
+      columns-length w row n (col + 2) (swap k (row * w + col + 1) ((row + 1) * w + col) f) ∙ swap-length (row * w + col + 1) ((row + 1) * w + col) f
+
+  pub record Exchanging (w h : ℕ) (f₀ f : List ℕ) (row : ℕ) : Type 0 where
+    pub below : row ≤ h + 1
+    pub same-length : length f ≡ length f₀
+    pub cells-are : exchange-rows k w ((h - row) / 2) row f ≡ exchange-rows k w (h / 2) 0 f₀
+
+  pub exchanging-begun : (w h : ℕ) (f : List ℕ) → Exchanging w h f f 0
+  exchanging-begun w h f = let q : h - 0 ≡ h = omega arith in record { below = omega arith; same-length = refl; cells-are = rw q }
+
+  pub exchanging-on : (w h : ℕ) (f₀ f f′ : List ℕ) (row : ℕ) → row + 1 < h → f′ ≡ exchange-columns k w row (w / 2) 0 f
+      → Exchanging w h f₀ f row → Exchanging w h f₀ f′ (row + 2)
+  unfolding exchange-rows
+  exchanging-on w h f₀ f f′ row l e r =
+      let q : (h - row) / 2 ≡ suc ((h - (row + 2)) / 2) = omega arith in
+      record {
+        below = omega arith;
+        same-length = ap length e ∙ columns-length w row (w / 2) 0 f ∙ r .same-length;
+        cells-are = ap (exchange-rows k w ((h - (row + 2)) / 2) (row + 2)) e ∙ (rw q at (r .cells-are));
+      }
+
+  pub exchanged : (z : Size) (f₀ f : List ℕ) (row : ℕ) → z .height ≤ row + 1 → Exchanging (z .width) (z .height) f₀ f row → f ≡ exchange k z f₀
+  unfolding exchange exchange-rows
+  exchanged z f₀ f row l r = let q : (z .height - row) / 2 ≡ 0 = omega arith in rw q at (r .cells-are)
+
+  -- A pair of rows that the frame still has lies in it.
+  pub frame-pair : (z : Size) (f₀ f : List ℕ) (row : ℕ) → row + 1 < z .height → Framed z f₀ → Exchanging (z .width) (z .height) f₀ f row → InPair (z .width) row f
+  frame-pair z f₀ f row l i r =
+      let h : (row + 2) * z .width ≤ z .height * z .width = mul-le-mul-right (z .width) (omega arith) in
+      record {
+        width = i .width;
+        row-in = omega (arith, i .height);
+        inside = omega (arith, r .same-length, i .lent, mul-comm (z .width) (z .height));
+      }
+
+  -- A frame of no cells stays one.
+  columns-empty : (w row n col : ℕ) → exchange-columns k w row n col [] ≡ []
+  unfolding exchange-columns swap
+  columns-empty w row zero col = refl
+  columns-empty w row (suc n) col = columns-empty w row n (col + 2)
+
+  rows-empty : (w n row : ℕ) → exchange-rows k w n row [] ≡ []
+  unfolding exchange-rows
+  rows-empty w zero row = refl
+  rows-empty w (suc n) row = ap (exchange-rows k w n (row + 2)) (columns-empty w row (w / 2) 0) ∙ rows-empty w n (row + 2)
+
+  pub exchange-not-lent : (z : Size) (f : List ℕ) → length f ≡ 0 → f ≡ exchange k z f
+  unfolding exchange
+  exchange-not-lent z [] e = sym (rows-empty (z .width) (z .height / 2) 0)
+  exchange-not-lent z (a ∷ f) e = absurd (omega arith)
+
+pub map-framed : (z : Size) (f : List ℕ) → MapFramed z f → (length f ≡ 0 → ⊥) → Framed z f
+map-framed z f i some = go (i .lent)
+  where
+    go : Whole z f → Framed z f
+    go (inl e) = record { width = i .width; height = i .height; lent = e }
+    go (inr e) = absurd (some e)

@@ -1,0 +1,4 @@
+pub mod CellLaws
+pub mod StagedLaws
+pub mod InnerLaws
+pub mod ExchangeLaws

@@ -1,0 +1,50 @@
+-- Where in a frame's cells a row, a block or a sample lies.
+use Prim.Native.Nat.{ℕ, _+_, _*_, _%_, _≤_, _<_}
+use mathlib.Core.Path.{_≡_}
+use mathlib.Core.Logic.{_⊎_}
+use mathlib.Core.List.{List}
+use lib.ListN.{length}
+use Rattle.rules.specs.Frame.{cells}
+use Rattle.rules.specs.declared.answer.Size.{Size}
+
+-- A map is lent whole, or not at all: then it is a frame of no cells, to which every rule does nothing.
+abbrev pub Whole : Size → List ℕ → Type 0
+Whole z map = (length map ≡ cells z) ⊎ (length map ≡ 0)
+
+-- The block at a column of a row that the frame has.
+pub record InFrame (z : Size) (row col : ℕ) : Type 0 where
+  pub width : z .width ≤ 16_384
+  pub height : z .height ≤ 16_384
+  pub row-in : row < z .height
+  pub col-in : col < z .width
+  pub block : col % 16 ≡ 0
+
+-- From row 2 on, after column 0 and inside the row: every sample of such a block predicts from a sample that exists.
+pub record Inner (z : Size) (row col : ℕ) : Type 0 where
+  pub frame : InFrame z row col
+  pub late : 2 ≤ row
+  pub after : 0 < col
+  pub inside : col + 16 ≤ z .width
+
+-- A block at `base` in cells of a row length w: it is no wider than a row and lies inside them, with two rows before it.
+pub record Inside (w base : ℕ) (f : List ℕ) : Type 0 where
+  pub wide : 16 ≤ w
+  pub rows : 2 * w ≤ base
+  pub room : base + 16 ≤ length f
+
+-- Two rows that lie in a frame of row length w.
+pub record InPair (w row : ℕ) (f : List ℕ) : Type 0 where
+  pub width : w ≤ 16_384
+  pub row-in : row < 16_384
+  pub inside : (row + 2) * w ≤ length f
+
+-- A whole frame; and a map of one, which may not be lent.
+pub record Framed (z : Size) (f : List ℕ) : Type 0 where
+  pub width : z .width ≤ 16_384
+  pub height : z .height ≤ 16_384
+  pub lent : length f ≡ cells z
+
+pub record MapFramed (z : Size) (map : List ℕ) : Type 0 where
+  pub width : z .width ≤ 16_384
+  pub height : z .height ≤ 16_384
+  pub lent : Whole z map

@@ -1,0 +1,80 @@
+-- A frame: what is left of its rows comes to all of them.
+use mathlib.Core.Path.{_≡_, sym, ap, ap₂, _∙_}
+use mathlib.Core.List.{List, _++_}
+use Prim.Native.Nat.{ℕ, suc, _+_, _-_, _≤_, _<_}
+use native.Mathlib.Omega.{arith}
+use native.Mathlib.Numerals.{add-one}
+use lib.ListN.{length, getD}
+use Rattle.rules.specs.V0.{Kind, apply, exchange, frame, decoded, sample-kind, rows, row-ops}
+use Rattle.rules.specs.Map.{v0-marks}
+use Rattle.rules.specs.declared.answer.Size.{Size}
+use Rattle.rules.specs.declared.v0.V0Op.{V0Op}
+use Rattle.v0_direct.specs.Lent.{Lends, InRow}
+use Rattle.v0_cells.specs.Places.{MapFramed}
+use Rattle.v0_cells.proofs.CellLaws.{apply-length, Left, left-begun, left-on, left-none}
+
+pub record Going (s offsets : List ℕ) (z : Size) (count : ℕ) (out₀ out map₀ map : List ℕ) (row : ℕ) : Type 0 where
+  pub below : row ≤ count
+  pub samples-left : Left sample-kind (rows s offsets z (count - row) row) (rows s offsets z count 0) out₀ out
+  pub marks-left : Left v0-marks (rows s offsets z (count - row) row) (rows s offsets z count 0) map₀ map
+
+module _ (s offsets : List ℕ) (z : Size) (count : ℕ) (out₀ map₀ : List ℕ) where
+  pub going-begun : Going s offsets z count out₀ out₀ map₀ map₀ 0
+  going-begun =
+      let q : count - 0 ≡ count = omega arith in
+      let all : rows s offsets z (count - 0) 0 ≡ rows s offsets z count 0 = ap (λ n. rows s offsets z n 0) q in
+      record { below = omega arith; samples-left = left-begun sample-kind _ _ out₀ all; marks-left = left-begun v0-marks _ _ map₀ all }
+
+  pub row-lent : (out map : List ℕ) (row : ℕ) → row < count → Lends z offsets out₀ map₀ × (count ≤ z .height)
+      → Going s offsets z count out₀ out map₀ map row → InRow z row out map
+  row-lent out map row l i r =
+      record {
+        width = i .0 .width;
+        height = i .0 .height;
+        row-in = omega (arith, i .1);
+        samples-lent = r .samples-left .same-length ∙ i .0 .samples-lent;
+        map-lent = rw (r .marks-left .same-length) (i .0 .map-lent);
+      }
+
+  pub going-on : (out out′ map map′ : List ℕ) (row offset : ℕ) → row < count → offset ≡ getD offsets row 0
+      → out′ ≡ apply sample-kind (row-ops s z row offset .ops) out → map′ ≡ apply v0-marks (row-ops s z row offset .ops) map
+      → Going s offsets z count out₀ out map₀ map row → Going s offsets z count out₀ out′ map₀ map′ (row + 1)
+  unfolding rows
+  going-on out out′ map map′ row offset l e eo em r =
+      record {
+        below = omega arith;
+        samples-left = left-on sample-kind (row-ops s z row offset .ops) _ _ _ out₀ out out′ first eo (r .samples-left);
+        marks-left = left-on v0-marks (row-ops s z row offset .ops) _ _ _ map₀ map map′ first em (r .marks-left);
+      }
+    where
+      more : count - row ≡ suc (count - (row + 1))
+      more = omega arith
+
+      first : rows s offsets z (count - row) row ≡ row-ops s z row offset .ops ++ rows s offsets z (count - (row + 1)) (row + 1)
+      first =
+          ap (λ n. rows s offsets z n row) more
+          ∙ ap₂ (λ o n. row-ops s z row o .ops ++ rows s offsets z (count - (row + 1)) n) (sym e) (sym (add-one row))
+
+  pub gone : (k : Kind ℕ) (row : ℕ) (f₀ f : List ℕ) → count ≤ row → Left k (rows s offsets z (count - row) row) (rows s offsets z count 0) f₀ f
+      → f ≡ apply k (rows s offsets z count 0) f₀
+  unfolding rows
+  gone k row f₀ f l r =
+      let e : count - row ≡ 0 = omega arith in
+      left-none k _ _ f₀ f (ap (λ n. rows s offsets z n row) e) r
+
+-- The rows and then the exchange are the frame.
+pub frame-is : (k : Kind ℕ) (s offsets : List ℕ) (z : Size) (f g r : List ℕ) → g ≡ apply k (rows s offsets z (z .height) 0) f → r ≡ exchange k z g
+    → r ≡ frame k s offsets z f
+unfolding frame
+frame-is k s offsets z f g r eg er = er ∙ ap (exchange k z) eg
+
+pub decoded-is : (s offsets : List ℕ) (z : Size) (f g r : List ℕ) → g ≡ apply sample-kind (rows s offsets z (z .height) 0) f → r ≡ exchange sample-kind z g
+    → r ≡ decoded s offsets z f
+unfolding decoded
+decoded-is = frame-is sample-kind
+
+-- The rows change no length, so that the exchange finds the map as it was lent.
+pub map-framed : (z : Size) (offsets out map g : List ℕ) (os : List V0Op) → Lends z offsets out map → g ≡ apply v0-marks os map → MapFramed z g
+map-framed z offsets out map g os i e =
+    let same : length g ≡ length map = ap length e ∙ apply-length v0-marks os map in
+    record { width = i .width; height = i .height; lent = rw same (i .map-lent) }

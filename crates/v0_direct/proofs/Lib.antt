@@ -1,0 +1,4 @@
+pub mod SampleLaws
+pub mod InnerLaws
+pub mod RowLaws
+pub mod FrameLaws

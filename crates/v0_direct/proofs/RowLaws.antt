@@ -1,0 +1,110 @@
+-- A row: what is left of its blocks comes to the whole row, and its lengths stay near 0.
+use mathlib.Core.Path.{_≡_, refl, sym, ap, ap₂, _∙_}
+use mathlib.Core.Bool.{true, false}
+use mathlib.Core.List.{List, [], _++_}
+use Prim.Native.Nat.{ℕ, suc, _+_, _-_, _*_, _/_, _%_, _≤_, _<_}
+use native.Mathlib.Omega.{arith}
+use lib.Dec.{leb}
+use lib.ListN.{length}
+use borrow.Author.Tests.{leb-true}
+use Rattle.rules.specs.Frame.{cells}
+use Rattle.rules.specs.V0.{Kind, apply, sample-kind, head, predictor, order, blocks, row-ops, fresh-row}
+use Rattle.rules.specs.Map.{v0-marks}
+use Rattle.rules.specs.declared.answer.Size.{Size}
+use Rattle.rules.specs.declared.reader.Bits.{Bits}
+use Rattle.rules.specs.declared.v0.V0Row.{V0Row}
+use Rattle.rules.specs.declared.v0.V0Head.{V0Head}
+use Rattle.rules.specs.declared.v0.V0Op.{V0Op}
+use Rattle.v0_stream.specs.Lengths.{Within, furthest}
+use Rattle.v0_cells.specs.Places.{Whole, InFrame, Inner}
+use Rattle.v0_direct.specs.Lent.{InRow}
+use Rattle.v0_direct.specs.Block.{samples-of, block-ops, after-block}
+use Rattle.v0_stream.proofs.HeadLaws.{within-more, fresh-within, head-within}
+use Rattle.v0_cells.proofs.CellLaws.{Left, left-begun, left-on, left-none}
+
+-- ── One block ──
+
+pub not-inner : (z : Size) (row col : ℕ) → false ≡ true → Inner z row col
+not-inner z row col e = absurd (let n : _≡_ {A = ℕ} 0 1 = cc in omega arith)
+
+pub inner-when : (z : Size) (row col : ℕ) → InFrame z row col → 2 ≤ row → (col ≡ 0 → ⊥) → leb (col + 16) (z .width) ≡ true → Inner z row col
+inner-when z row col i l some e = record { frame = i; late = l; after = omega arith; inside = leb-true (col + 16) (z .width) e }
+
+module _ (s : List ℕ) (z : Size) (row col : ℕ) (st : V0Row) (h : V0Head) (eh : h ≡ head s st) where
+  pub block-state : (b : Bits) → b ≡ samples-of s z row col h order (h .row .bits) .bits
+      → record { lengths = h .row .lengths; bits = b } ≡ after-block s z row col st
+  unfolding after-block block-ops
+  block-state b e = rw (e, eh)
+
+  pub block-cells : (k : Kind ℕ) (f f′ : List ℕ) → f′ ≡ apply k (samples-of s z row col h order (h .row .bits) .ops) f
+      → f′ ≡ apply k (block-ops s z row col st .ops) f
+  unfolding block-ops
+  block-cells k f f′ e = e ∙ ap (λ x. apply k (samples-of s z row col x order (x .row .bits) .ops) f) eh
+
+-- ── The blocks of a row ──
+
+-- What is left of a row from a column on.
+abbrev pub rest-of : List ℕ → Size → ℕ → ℕ → V0Row → List V0Op
+rest-of s z row col st = blocks s (row * z .width) (predictor z row) ((z .width + 15 - col) / 16) col st .ops
+
+pub record Rowing (s : List ℕ) (z : Size) (row offset : ℕ) (out₀ out map₀ map : List ℕ) (st : V0Row) (col : ℕ) : Type 0 where
+  pub whole : col % 16 ≡ 0
+  pub below : col ≤ z .width + 15
+  pub near : Within (15 + col / 16) (st .lengths)
+  pub samples-left : Left sample-kind (rest-of s z row col st) (row-ops s z row offset .ops) out₀ out
+  pub marks-left : Left v0-marks (rest-of s z row col st) (row-ops s z row offset .ops) map₀ map
+
+module _ (s : List ℕ) (z : Size) (row offset : ℕ) (out₀ map₀ : List ℕ) where
+  pub rowing-begun : (st : V0Row) → st ≡ fresh-row row offset → Rowing s z row offset out₀ out₀ map₀ map₀ st 0
+  unfolding row-ops
+  rowing-begun st e =
+      record {
+        whole = refl;
+        below = omega arith;
+        near = rw e (fresh-within row offset);
+        samples-left = left-begun sample-kind _ _ out₀ all;
+        marks-left = left-begun v0-marks _ _ map₀ all;
+      }
+    where
+      all : rest-of s z row 0 st ≡ row-ops s z row offset .ops
+      all = let q : z .width + 15 - 0 ≡ z .width + 15 = omega arith in ap₂ (λ n x. blocks s (row * z .width) (predictor z row) (n / 16) 0 x .ops) q e
+
+  -- A block that the row still has lies in the frame, its lengths near enough to 0.
+  pub row-block : (out map : List ℕ) (st : V0Row) (col : ℕ) → col < z .width → InRow z row out₀ map₀ → Rowing s z row offset out₀ out map₀ map st col
+      → InFrame z row col × (Within furthest (st .lengths) × ((length out ≡ cells z) × Whole z map))
+  row-block out map st col l i r = (
+    record { width = i .width; height = i .height; row-in = i .row-in; col-in = l; block = r .whole },
+    (
+      within-more (15 + col / 16) furthest (st .lengths) (omega (arith, i .width)) (r .near),
+      (r .samples-left .same-length ∙ i .samples-lent, rw (r .marks-left .same-length) (i .map-lent)),
+    ),
+  )
+
+  pub rowing-on : (out out′ map map′ : List ℕ) (st st′ : V0Row) (col : ℕ) → col < z .width → st′ ≡ after-block s z row col st
+      → out′ ≡ apply sample-kind (block-ops s z row col st .ops) out → map′ ≡ apply v0-marks (block-ops s z row col st .ops) map
+      → Rowing s z row offset out₀ out map₀ map st col → Rowing s z row offset out₀ out′ map₀ map′ st′ (col + 16)
+  unfolding blocks block-ops after-block
+  rowing-on out out′ map map′ st st′ col l es eo em r =
+      record {
+        whole = omega (arith, r .whole);
+        below = omega arith;
+        near = rw es (within-more (suc (15 + col / 16)) (15 + (col + 16) / 16) (head s st .row .lengths) (omega arith) (head-within s st (15 + col / 16) (omega arith) (r .near)));
+        samples-left = left-on sample-kind (block-ops s z row col st .ops) _ _ _ out₀ out out′ first eo (r .samples-left);
+        marks-left = left-on v0-marks (block-ops s z row col st .ops) _ _ _ map₀ map map′ first em (r .marks-left);
+      }
+    where
+      more : (z .width + 15 - col) / 16 ≡ suc ((z .width + 15 - (col + 16)) / 16)
+      more = omega arith
+
+      first : rest-of s z row col st ≡ block-ops s z row col st .ops ++ rest-of s z row (col + 16) st′
+      first =
+          ap (λ n. blocks s (row * z .width) (predictor z row) n col st .ops) more
+          ∙ ap (λ x. block-ops s z row col st .ops ++ rest-of s z row (col + 16) x) (sym es)
+
+  pub rowed : (k : Kind ℕ) (st : V0Row) (col : ℕ) (f₀ f : List ℕ) → z .width ≤ col → Left k (rest-of s z row col st) (row-ops s z row offset .ops) f₀ f
+      → f ≡ apply k (row-ops s z row offset .ops) f₀
+  unfolding blocks
+  rowed k st col f₀ f l r =
+      let e : (z .width + 15 - col) / 16 ≡ 0 = omega arith in
+      let none : rest-of s z row col st ≡ [] = ap (λ n. blocks s (row * z .width) (predictor z row) n col st .ops) e in
+      left-none k _ _ f₀ f none r

@@ -1,0 +1,58 @@
+-- Either way the block's operations are done.
+use borrow.Author.Needs.{needs}
+use Rattle.rules.specs.Map.{v0-marks}
+use Rattle.rules.specs.V0.{sample-kind}
+use Rattle.v0_direct.proofs.RowLaws.{block-state, block-cells}
+use Rattle.v0_direct.proofs.row.decode_block.Statement.{statement}
+use Rattle.v0_direct.proofs.row.decode_block.Tie as tie
+
+is-inner-requires : tie.Need-is-inner-requires
+is-inner-requires c κs = search needs
+
+decode-inner-requires : tie.Need-decode-inner-requires
+decode-inner-requires c κs = let a = c .before .before .before .before .before .before .before .pre in (c .before .before .before .is-inner .ensures (c .before .before .if1 .taken), a .1)
+
+same-length : tie.Need-same-length
+same-length c = search needs
+
+same-length-2 : tie.Need-same-length-2
+same-length-2 c = search needs
+
+returns : tie.Need-returns
+returns c = search needs
+
+read-block-head-requires : tie.Need-read-block-head-requires
+read-block-head-requires c κs = search needs
+
+decode-samples-requires : tie.Need-decode-samples-requires
+decode-samples-requires c κs = search needs
+
+same-length-3 : tie.Need-same-length-3
+same-length-3 c = search needs
+
+same-length-4 : tie.Need-same-length-4
+same-length-4 c = search needs
+
+returns-2 : tie.Need-returns-2
+returns-2 c = let a = c .before .before .before .before .before .before .before .before .before .before .before .before .before .before .before .args in let h = c .before .before .before .before .before .before .before .before .before .read-block-head in let d = c .before .before .before .before .before .before .decode-samples .ensures in (
+  block-state _ (a .size) (a .row) (a .col) (a .state) (h .result) (h .ensures) _ (d .0),
+  (
+    block-cells _ (a .size) (a .row) (a .col) (a .state) (h .result) (h .ensures) sample-kind _ _ (d .1 .0),
+    block-cells _ (a .size) (a .row) (a .col) (a .state) (h .result) (h .ensures) v0-marks _ _ (d .1 .1),
+  ),
+)
+
+pub decode-block-spec : {M : Type 1} → statement M
+decode-block-spec =
+    tie.close
+    (tie.spec
+    is-inner-requires
+    decode-inner-requires
+    same-length
+    same-length-2
+    returns
+    read-block-head-requires
+    decode-samples-requires
+    same-length-3
+    same-length-4
+    returns-2)

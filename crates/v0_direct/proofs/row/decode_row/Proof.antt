@@ -1,0 +1,61 @@
+-- What is left from a column on comes to the whole row; a row has at most 1,024 blocks, so that its lengths stay near 0.
+use Prim.Native.Nat.{_+_, _-_}
+use native.Mathlib.Omega.{arith}
+use borrow.Author.Needs.{needs}
+use Rattle.rules.specs.V0.{sample-kind}
+use Rattle.rules.specs.Map.{v0-marks}
+use Rattle.v0_direct.proofs.RowLaws.{Rowing, rowing-begun, row-block, rowing-on, rowed}
+use Rattle.v0_direct.proofs.row.decode_row.Statement.{statement}
+use Rattle.v0_direct.proofs.row.decode_row.Tie as tie
+
+abbrev Inv-loop : tie.InvT-loop
+Inv-loop src size row offset out₀ map₀ w state₀ col₀ out map state col = Rowing src size row offset out₀ out map₀ map state col
+
+abbrev μ-loop : tie.MeasureT-loop
+μ-loop src size row offset out₀ map₀ w state₀ col₀ out map state col = size .width + 16 - col
+
+fresh-requires : tie.Need-fresh-requires Inv-loop μ-loop
+fresh-requires c κs = search needs
+
+loop-holds : tie.Need-loop-holds Inv-loop μ-loop
+loop-holds c = rowing-begun _ (c .before .before .before .before .args .size) _ _ _ _ _ (c .fresh .ensures)
+
+decode-block-requires : tie.Need-decode-block-requires Inv-loop μ-loop
+decode-block-requires c κs = let a = c .before .before .before .before .before .before .before .before in row-block (a .args .src .now) (a .args .size) (a .args .row) (a .args .offset) (a .args .out .now) (a .args .map .now) (c .before .before .before .loop .out) (c .before .before .before .loop .map) (c .before .before .before .loop .state) (c .before .before .before .loop .col) (omega arith) (a .pre) (c .before .before .before .loop .inv)
+
+add-col : tie.Need-add-col Inv-loop μ-loop
+add-col c = omega arith
+
+loop-less : tie.Need-loop-less Inv-loop μ-loop
+loop-less c = omega arith
+
+loop-again : tie.Need-loop-again Inv-loop μ-loop
+loop-again c = let a = c .before .before .before .before .before .before .before .before .before .before .before .before .before in let d = c .before .before .before .before .decode-block .ensures in rowing-on (a .args .src .now) (a .args .size) (a .args .row) (a .args .offset) (a .args .out .now) (a .args .map .now) (c .before .before .before .before .before .before .before .before .loop .out) _ (c .before .before .before .before .before .before .before .before .loop .map) _ (c .before .before .before .before .before .before .before .before .loop .state) _ (c .before .before .before .before .before .before .before .before .loop .col) (omega arith) (d .0) (d .1 .0) (d .1 .1) (c .before .before .before .before .before .before .before .before .loop .inv)
+
+same-length : tie.Need-same-length Inv-loop μ-loop
+same-length c = search needs
+
+same-length-2 : tie.Need-same-length-2 Inv-loop μ-loop
+same-length-2 c = search needs
+
+returns : tie.Need-returns Inv-loop μ-loop
+returns c = let a = c .before .before .before .before .before .before in let l = c .before .loop in (
+  rowed (a .args .src .now) (a .args .size) (a .args .row) (a .args .offset) (a .args .out .now) (a .args .map .now) sample-kind (l .state) (l .col) (a .args .out .now) (l .out) (omega arith) (l .inv .samples-left),
+  rowed (a .args .src .now) (a .args .size) (a .args .row) (a .args .offset) (a .args .out .now) (a .args .map .now) v0-marks (l .state) (l .col) (a .args .map .now) (l .map) (omega arith) (l .inv .marks-left),
+)
+
+pub decode-row-spec : {M : Type 1} → statement M
+decode-row-spec =
+    tie.close
+    (tie.spec
+    Inv-loop
+    μ-loop
+    fresh-requires
+    loop-holds
+    decode-block-requires
+    add-col
+    loop-less
+    loop-again
+    same-length
+    same-length-2
+    returns)

@@ -1,0 +1,56 @@
+-- What is left from sample k on comes to the whole block.
+use Prim.Native.Nat.{_-_}
+use native.Mathlib.Omega.{arith}
+use borrow.Author.Needs.{needs}
+use Rattle.v0_direct.proofs.SampleLaws.{Sampling, sampling-begun, sampling-on, sampled}
+use Rattle.v0_direct.proofs.sample.decode_samples.Statement.{statement}
+use Rattle.v0_direct.proofs.sample.decode_samples.Tie as tie
+
+abbrev Inv-loop : tie.InvT-loop
+Inv-loop src size row col head out₀ map₀ bits₀ k₀ out map bits k = Sampling src size row col head bits₀ bits out₀ out map₀ map k
+
+abbrev μ-loop : tie.MeasureT-loop
+μ-loop src size row col head out₀ map₀ bits₀ k₀ out map bits k = 16 - k
+
+loop-holds : tie.Need-loop-holds Inv-loop μ-loop
+loop-holds c = sampling-begun _ _ _ _ _ _ _ _
+
+stream-column-requires : tie.Need-stream-column-requires Inv-loop μ-loop
+stream-column-requires c κs = search needs
+
+decode-sample-requires : tie.Need-decode-sample-requires Inv-loop μ-loop
+decode-sample-requires c κs = (c .before .before .before .before .before .before .before .before .before .before .pre, c .before .before .stream-column .ensures .1)
+
+add-k : tie.Need-add-k Inv-loop μ-loop
+add-k c = omega arith
+
+loop-less : tie.Need-loop-less Inv-loop μ-loop
+loop-less c = omega arith
+
+loop-again : tie.Need-loop-again Inv-loop μ-loop
+loop-again c = let d = c .before .before .before .before .decode-sample .ensures in sampling-on _ (c .before .before .before .before .before .before .before .before .before .before .before .before .before .before .before .args .size) _ _ (c .before .before .before .before .before .before .before .before .before .before .before .before .before .before .before .args .head) _ _ _ _ _ _ _ _ _ _ _ (omega arith) (c .before .before .before .before .before .before .before .stream-column .ensures .0) (d .0) (d .1 .0) (d .1 .1) (c .before .before .before .before .before .before .before .before .before .loop .inv)
+
+same-length : tie.Need-same-length Inv-loop μ-loop
+same-length c = search needs
+
+same-length-2 : tie.Need-same-length-2 Inv-loop μ-loop
+same-length-2 c = search needs
+
+returns : tie.Need-returns Inv-loop μ-loop
+returns c = sampled _ (c .before .before .before .before .before .before .before .args .size) _ _ (c .before .before .before .before .before .before .before .args .head) _ _ _ _ _ _ _ (omega arith) (c .before .loop .inv)
+
+pub decode-samples-spec : {M : Type 1} → statement M
+decode-samples-spec =
+    tie.close
+    (tie.spec
+    Inv-loop
+    μ-loop
+    loop-holds
+    stream-column-requires
+    decode-sample-requires
+    add-k
+    loop-less
+    loop-again
+    same-length
+    same-length-2
+    returns)

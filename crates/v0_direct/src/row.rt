@@ -1,0 +1,96 @@
+// A row: its blocks one after another, the inner ones in one go and the others by the literal rule.
+ghost use mathlib.Core.Bool.{true};
+ghost use mathlib.Core.Path.{_≡_};
+ghost use Prim.Native.Nat.{_<_};
+ghost use lib.ListN.{length};
+ghost use Rattle.rules.specs.V0 as V0;
+ghost use Rattle.rules.specs.Frame.{cells};
+ghost use Rattle.rules.specs.Map.{v0-marks};
+ghost use Rattle.v0_stream.specs.Lengths.{Within, furthest};
+ghost use Rattle.v0_cells.specs.Places.{Whole, InFrame, Inner};
+ghost use Rattle.v0_direct.specs.Lent.{InRow};
+ghost use Rattle.v0_direct.specs.Block.{block-ops, after-block};
+use super::sample::decode_samples;
+use rules::Size;
+use rules::V0Row;
+use v0_cells::inner::mark_block;
+use v0_cells::inner::put_inner;
+use v0_stream::block::read_block;
+use v0_stream::block::read_block_head;
+
+// Whether a block is an inner one.
+fn is_inner(size: Size, row: usize, col: usize) -> bool
+    requires { ⌜ InFrame size row col ⌝ }
+    ensures { λ r. ⌜ (r ≡ true → Inner size row col) ⌝ }
+{
+    if row < 2 {
+        return false;
+    }
+    if col == 0 {
+        return false;
+    }
+    col + V0Row::BLOCK <= size.width
+}
+
+// An inner block: from row 2 on, after column 0 and inside its row nothing is skipped, so that all residuals are read in one go.
+fn decode_inner(
+    src: &[u8],
+    size: Size,
+    row: usize,
+    col: usize,
+    state: V0Row,
+    out: &mut [u16],
+    map: &mut [u8],
+) -> V0Row
+    requires { ⌜ Inner size row col × (Within furthest (state .lengths) × ((length (now out) ≡ cells size) × Whole size (now map))) ⌝ }
+    ensures { λ r. ⌜ r ≡ after-block (now (src .entry)) size row col state ⌝ }
+    ensures { λ _. ⌜ now (out .exit) ≡ V0.apply V0.sample-kind (block-ops (now (src .entry)) size row col state .ops) (now (out .entry)) ⌝ }
+    ensures { λ _. ⌜ now (map .exit) ≡ V0.apply v0-marks (block-ops (now (src .entry)) size row col state .ops) (now (map .entry)) ⌝ }
+{
+    let x = read_block(src, state, true);
+    let residuals = x.residuals;
+    let w = size.width;
+    put_inner(out, w, row * w + col, x.up, residuals);
+    mark_block(map, size, row, col, x.up);
+    x.row
+}
+
+// One block.
+fn decode_block(
+    src: &[u8],
+    size: Size,
+    row: usize,
+    col: usize,
+    state: V0Row,
+    out: &mut [u16],
+    map: &mut [u8],
+) -> V0Row
+    requires { ⌜ InFrame size row col × (Within furthest (state .lengths) × ((length (now out) ≡ cells size) × Whole size (now map))) ⌝ }
+    ensures { λ r. ⌜ r ≡ after-block (now (src .entry)) size row col state ⌝ }
+    ensures { λ _. ⌜ now (out .exit) ≡ V0.apply V0.sample-kind (block-ops (now (src .entry)) size row col state .ops) (now (out .entry)) ⌝ }
+    ensures { λ _. ⌜ now (map .exit) ≡ V0.apply v0-marks (block-ops (now (src .entry)) size row col state .ops) (now (map .entry)) ⌝ }
+{
+    if is_inner(size, row, col) {
+        return decode_inner(src, size, row, col, state, out, map);
+    }
+    let head = read_block_head(src, state);
+    let bits = decode_samples(src, size, row, col, head, out, map);
+    let after = head.row;
+    let lengths = after.lengths;
+    V0Row { lengths, bits }
+}
+
+// A row whose data begins at an offset of the stream.
+pub fn decode_row(src: &[u8], size: Size, row: usize, offset: u32, out: &mut [u16], map: &mut [u8])
+    requires { ⌜ InRow size row (now out) (now map) ⌝ }
+    ensures { λ _. ⌜ now (out .exit) ≡ V0.apply V0.sample-kind (V0.row-ops (now (src .entry)) size row offset .ops) (now (out .entry)) ⌝ }
+    ensures { λ _. ⌜ now (map .exit) ≡ V0.apply v0-marks (V0.row-ops (now (src .entry)) size row offset .ops) (now (map .entry)) ⌝ }
+{
+    let w = size.width;
+    let mut state = V0Row::fresh(row, offset);
+    let mut col: usize = 0;
+    while col < w {
+        state = decode_block(src, size, row, col, state, out, map);
+        col += V0Row::BLOCK;
+    }
+}

@@ -1,0 +1,74 @@
+// A block by the literal rule: sample by sample, each skipped one reading nothing. Rows 0 and 1 and the edges of the others go
+// this way.
+ghost use mathlib.Core.Path.{_≡_};
+ghost use mathlib.Core.List.{[], _∷_};
+ghost use Prim.Native.Nat.{_<_};
+ghost use Rattle.rules.specs.V0 as V0;
+ghost use Rattle.rules.specs.Map.{v0-marks};
+ghost use Rattle.v0_cells.specs.Places.{InFrame};
+ghost use Rattle.v0_direct.specs.Block.{samples-of};
+use bits::read_residual;
+use rules::Bits;
+use rules::Size;
+use rules::V0Head;
+use rules::V0Row;
+use v0_cells::cells::predict;
+use v0_cells::cells::put;
+use v0_cells::cells::put_mark;
+use v0_stream::block::residual_bits;
+use v0_stream::order::stream_column;
+
+// Sample c of a block after its head.
+fn decode_sample(
+    src: &[u8],
+    size: Size,
+    row: usize,
+    col: usize,
+    head: V0Head,
+    c: usize,
+    bits: Bits,
+    out: &mut [u16],
+    map: &mut [u8],
+) -> Bits
+    requires { ⌜ InFrame size row col × (c < 16) ⌝ }
+    ensures { λ r. ⌜ r ≡ samples-of (now (src .entry)) size row col head (c ∷ []) bits .bits ⌝ }
+    ensures { λ _. ⌜ now (out .exit) ≡ V0.apply V0.sample-kind (samples-of (now (src .entry)) size row col head (c ∷ []) bits .ops) (now (out .entry)) ⌝ }
+    ensures { λ _. ⌜ now (map .exit) ≡ V0.apply v0-marks (samples-of (now (src .entry)) size row col head (c ∷ []) bits .ops) (now (map .entry)) ⌝ }
+{
+    let after = head.row;
+    let lengths = after.lengths;
+    let from = predict(size, row, col, head.up, c);
+    let n = residual_bits(from, lengths[2 * (c % 2) + c / 8]);
+    let g = read_residual(src, bits, n);
+    let w = size.width;
+    let place = row * w + col + c;
+    put(out, place, from, g.value);
+    put_mark(map, place, from);
+    g.bits
+}
+
+// A block's sixteen samples after its head.
+pub fn decode_samples(
+    src: &[u8],
+    size: Size,
+    row: usize,
+    col: usize,
+    head: V0Head,
+    out: &mut [u16],
+    map: &mut [u8],
+) -> Bits
+    requires { ⌜ InFrame size row col ⌝ }
+    ensures { λ r. ⌜ r ≡ samples-of (now (src .entry)) size row col head V0.order (head .row .bits) .bits ⌝ }
+    ensures { λ _. ⌜ now (out .exit) ≡ V0.apply V0.sample-kind (samples-of (now (src .entry)) size row col head V0.order (head .row .bits) .ops) (now (out .entry)) ⌝ }
+    ensures { λ _. ⌜ now (map .exit) ≡ V0.apply v0-marks (samples-of (now (src .entry)) size row col head V0.order (head .row .bits) .ops) (now (map .entry)) ⌝ }
+{
+    let after = head.row;
+    let mut bits = after.bits;
+    let mut k: usize = 0;
+    while k < V0Row::BLOCK {
+        let c = stream_column(k);
+        bits = decode_sample(src, size, row, col, head, c, bits, out, map);
+        k += 1;
+    }
+    bits
+}

@@ -1,0 +1,139 @@
+-- Phase one of a row: block by block, and in a block sample by sample, what is left from here comes to the whole from the start.
+use mathlib.Core.Path.{_≡_, refl, sym, ap, _∙_}
+use mathlib.Core.Bool.{cond}
+use mathlib.Core.List.{List, [], _∷_, _++_, map, append-nil}
+use Prim.Native.Nat.{ℕ, suc, _+_, _-_, _*_, _≤_, _<_}
+use native.Mathlib.Omega.{arith}
+use native.Mathlib.Numerals.{add-one}
+use lib.Dec.{ltb}
+use lib.IntN.{ℤ}
+use lib.ListN.{length, getD, set, take, drop, length-set, take-append-drop}
+use lib.Seq.{drop-cons, take-suc-set, append-snoc, drop-set-lt}
+use borrow.Author.Tests.{lt-ltb, le-ltb}
+use Rattle.rules.specs.V0.{order, fresh-row, blocks-in}
+use Rattle.rules.specs.Phases.{BlockRecord, block-records, row-records, store-samples, store-blocks, direction}
+use Rattle.rules.specs.declared.v0.V0Row.{V0Row}
+use Rattle.v0_stream.specs.Block.{with-residuals, whole-block}
+use Rattle.v0_stream.specs.Lengths.{Within, furthest}
+use Rattle.v0_stream.specs.declared.block.ReadBlock.{ReadBlock}
+use Rattle.v0_stream.proofs.HeadLaws.{fresh-within, head-within}
+
+-- ── A block's residuals ──
+
+pub stored-in : (i w : ℕ) (x y : List ℕ) → i < w → x ≡ cond (ltb i w) x y
+stored-in i w x y h = rw (lt-ltb i w h)
+
+pub stored-past : (i w : ℕ) (x y : List ℕ) → w ≤ i → y ≡ cond (ltb i w) x y
+stored-past i w x y h = rw (le-ltb i w h)
+
+pub record Storing (w col : ℕ) (vs f₀ f : List ℕ) (k : ℕ) : Type 0 where
+  pub below : k ≤ 16
+  pub same-length : length f ≡ length f₀
+  pub cells-are : store-samples 0 w col (drop k order) (drop k vs) f ≡ store-samples 0 w col order vs f₀
+
+module _ (w col : ℕ) (vs : List ℕ) where
+  pub storing-begun : (f : List ℕ) → Storing w col vs f f 0
+  storing-begun f = record { below = omega arith; same-length = refl; cells-are = refl }
+
+  pub storing-on : (f₀ f f′ : List ℕ) (k c : ℕ) → k < 16 → length vs ≡ 16 → length f′ ≡ length f → c ≡ getD order k 0
+      → f′ ≡ cond (ltb (col + c) w) (set f (col + c) (getD vs k 0)) f
+      → Storing w col vs f₀ f k → Storing w col vs f₀ f′ (k + 1)
+  unfolding store-samples
+  storing-on f₀ f f′ k c h sixteen same ec q g =
+      record { below = omega arith; same-length = same ∙ g .same-length; cells-are = sym left ∙ g .cells-are }
+    where
+      first : 0 + col + c ≡ col + c
+      first = omega arith
+
+      left : store-samples 0 w col (drop k order) (drop k vs) f ≡ store-samples 0 w col (drop (k + 1) order) (drop (k + 1) vs) f′
+      left = rw (add-one k, drop-cons order k 0 h, drop-cons vs k 0 (omega arith), ← ec, first, ← q)
+
+  pub storing-done : (f₀ f : List ℕ) (k : ℕ) → 16 ≤ k → length vs ≡ 16 → Storing w col vs f₀ f k → f ≡ store-samples 0 w col order vs f₀
+  unfolding store-samples
+  storing-done f₀ f k l sixteen g =
+      let e : k ≡ 16 = omega (arith, g .below) in
+      let g′ : Storing w col vs f₀ f 16 = rw e at g in g′ .cells-are
+
+-- ── A row's blocks ──
+
+left-suc : (n k : ℕ) → k < n → n - k ≡ suc (n - (k + 1))
+left-suc n k h = omega arith
+
+-- In a row of at most 1,024 blocks the lengths stay near enough to 0.
+pub near-enough : (ls : List ℤ) (k : ℕ) → k < 1_024 → Within (15 + k) ls → Within furthest ls
+near-enough ls k h near = record { each = λ j. omega (arith, near .each j) }
+
+pub record Parsing (s : List ℕ) (w n : ℕ) (st₀ st : V0Row) (out₀ out dirs₀ dirs : List ℕ) (k : ℕ) : Type 0 where
+  pub below : k ≤ n
+  pub same-samples : length out ≡ length out₀
+  pub same-dirs : length dirs ≡ length dirs₀
+  pub near : Within (15 + k) (st .lengths)
+  pub cells-are : store-blocks 0 w (k * 16) (block-records s (n - k) st) out ≡ store-blocks 0 w 0 (block-records s n st₀) out₀
+  pub dirs-are : take k dirs ++ map direction (block-records s (n - k) st) ≡ map direction (block-records s n st₀)
+  pub rest-is : drop n dirs ≡ drop n dirs₀
+
+module _ (s : List ℕ) (w n : ℕ) where
+  pub parsing-begun : (st : V0Row) (offset : ℕ) (out dirs : List ℕ) → st ≡ fresh-row 2 offset → Parsing s w n st st out out dirs dirs 0
+  parsing-begun st offset out dirs e =
+      let z : n - 0 ≡ n = omega arith in
+      record {
+        below = omega arith;
+        same-samples = refl;
+        same-dirs = refl;
+        near = rw e (fresh-within 2 offset);
+        cells-are = rw z;
+        dirs-are = rw z;
+        rest-is = refl;
+      }
+
+  blocks-left : (st : V0Row) (b : ReadBlock) (k : ℕ) → k < n → b ≡ whole-block s st
+      → block-records s (n - k) st ≡ record { up = b .up; residuals = b .residuals } ∷ block-records s (n - (k + 1)) (b .row)
+  unfolding block-records whole-block with-residuals
+  blocks-left st b k h e = rw (left-suc n k h, e)
+
+  row-near : (st : V0Row) (b : ReadBlock) (k : ℕ) → b ≡ whole-block s st → Within (15 + k) (st .lengths) → Within (15 + (k + 1)) (b .row .lengths)
+  unfolding whole-block with-residuals
+  row-near st b k e near =
+      let more : 15 + (k + 1) ≡ suc (15 + k) = omega arith in
+      rw (more, e) (head-within s st (15 + k) (omega arith) near)
+
+  pub parsing-on : (st₀ st : V0Row) (out₀ out out′ dirs₀ dirs : List ℕ) (k d : ℕ) (b : ReadBlock) → k < n → n ≤ length dirs
+      → b ≡ whole-block s st → d ≡ cond (b .up) 1 0 → length out′ ≡ length out → out′ ≡ store-samples 0 w (k * 16) order (b .residuals) out
+      → Parsing s w n st₀ st out₀ out dirs₀ dirs k → Parsing s w n st₀ (b .row) out₀ out′ dirs₀ (set dirs k d) (k + 1)
+  unfolding store-blocks
+  parsing-on st₀ st out₀ out out′ dirs₀ dirs k d b h enough eb ed same eo g =
+      record {
+        below = omega arith;
+        same-samples = same ∙ g .same-samples;
+        same-dirs = length-set dirs k d ∙ g .same-dirs;
+        near = row-near st b k eb (g .near);
+        cells-are = sym samples-left ∙ g .cells-are;
+        dirs-are = ap (λ xs. xs ++ map direction rest) taken ∙ append-snoc (take k dirs) d (map direction rest) ∙ sym dirs-left ∙ g .dirs-are;
+        rest-is = drop-set-lt n dirs k d h ∙ g .rest-is;
+      }
+    where
+      rest : List BlockRecord
+      rest = block-records s (n - (k + 1)) (b .row)
+
+      samples-left : store-blocks 0 w (k * 16) (block-records s (n - k) st) out ≡ store-blocks 0 w ((k + 1) * 16) rest out′
+      samples-left =
+          let next : (k + 1) * 16 ≡ k * 16 + 16 = omega arith in
+          rw (blocks-left st b k h eb, next, eo)
+
+      dirs-left : take k dirs ++ map direction (block-records s (n - k) st) ≡ take k dirs ++ (d ∷ map direction rest)
+      dirs-left = rw (blocks-left st b k h eb, ed)
+
+      taken : take (k + 1) (set dirs k d) ≡ take k dirs ++ (d ∷ [])
+      taken = rw (add-one k) (take-suc-set dirs k d (omega arith))
+
+  pub parsing-done : (st₀ st : V0Row) (offset : ℕ) (out₀ out dirs₀ dirs : List ℕ) (k : ℕ) → n ≤ k → n ≡ blocks-in w → st₀ ≡ fresh-row 2 offset
+      → Parsing s w n st₀ st out₀ out dirs₀ dirs k
+      → (out ≡ store-blocks 0 w 0 (row-records s w 2 offset) out₀) × (dirs ≡ map direction (row-records s w 2 offset) ++ drop (blocks-in w) dirs₀)
+  unfolding store-blocks block-records row-records
+  parsing-done st₀ st offset out₀ out dirs₀ dirs k l en est g =
+      let e : k ≡ n = omega (arith, g .below) in
+      let g′ : Parsing s w n st₀ st out₀ out dirs₀ dirs n = rw e at g in
+      let none : n - n ≡ 0 = omega arith in
+      let c = rw none at (g′ .cells-are) in
+      let d = rw (none, append-nil) at (g′ .dirs-are) in
+      rw (← en, ← est) (c, sym (take-append-drop n dirs) ∙ ap (λ xs. xs ++ drop n dirs) d ∙ ap (λ xs. map direction (block-records s n st₀) ++ xs) (g′ .rest-is))

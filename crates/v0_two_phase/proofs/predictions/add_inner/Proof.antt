@@ -1,0 +1,45 @@
+-- Phase two does the direct decoder's operations, by direction.
+use mathlib.Core.Path.{sym, _∙_}
+use native.Mathlib.Omega.{arith}
+use borrow.Author.Needs.{needs}
+use Rattle.rules.specs.Phases.{sample-stage}
+use Rattle.v0_two_phase.proofs.PredictionLaws.{late-inside, inner-block}
+use Rattle.v0_two_phase.proofs.predictions.add_inner.Statement.{statement}
+use Rattle.v0_two_phase.proofs.predictions.add_inner.Tie as tie
+
+mul-base : tie.Need-mul-base
+mul-base c = search needs
+
+add-base : tie.Need-add-base
+add-base c = search needs
+
+add-up-requires : tie.Need-add-up-requires
+add-up-requires c κs = let a = c .before .before .before in late-inside (a .args .col) (a .pre .0) (a .pre .1 .0) (a .pre .1 .1)
+
+same-length : tie.Need-same-length
+same-length c = search needs
+
+returns : tie.Need-returns
+returns c =
+    let a = c .before .before .before .before .before .before in
+    rw (c .before .before .before .before .if1 .taken)
+    (c .before .before .add-up .ensures
+    ∙ sym (inner-block sample-stage (a .args .w) (a .args .row) (a .args .col) _ (a .pre .0 .rows-above) (a .pre .1 .0) (a .pre .1 .1) (a .args .out .now)))
+
+add-left-requires : tie.Need-add-left-requires
+add-left-requires c κs = let a = c .before .before .before in late-inside (a .args .col) (a .pre .0) (a .pre .1 .0) (a .pre .1 .1)
+
+same-length-2 : tie.Need-same-length-2
+same-length-2 c = search needs
+
+returns-2 : tie.Need-returns-2
+returns-2 c =
+    let a = c .before .before .before .before .before .before in
+    rw (c .before .before .before .before .if1 .left)
+    (c .before .before .add-left .ensures
+    ∙ sym (inner-block sample-stage (a .args .w) (a .args .row) (a .args .col) _ (a .pre .0 .rows-above) (a .pre .1 .0) (a .pre .1 .1) (a .args .out .now)))
+
+pub add-inner-spec : {M : Type 1} → statement M
+add-inner-spec =
+    tie.close
+    (tie.spec mul-base add-base add-up-requires same-length returns add-left-requires same-length-2 returns-2)

@@ -1,0 +1,78 @@
+-- What is left from row r + 2 on comes to all rows.
+use mathlib.Core.Path.{_∙_}
+use Prim.Native.Nat.{_+_, _-_, _/_}
+use native.Mathlib.Omega.{arith}
+use borrow.Author.Needs.{needs}
+use Rattle.rules.specs.Phases.{sample-stage}
+use Rattle.v0_two_phase.proofs.PredictionLaws.{Rows, rows-begun, rows-on, rows-done}
+use Rattle.v0_two_phase.proofs.RowsLaws.{row-within, directions-within}
+use Rattle.v0_two_phase.proofs.predictions.add_rows.Statement.{statement}
+use Rattle.v0_two_phase.proofs.predictions.add_rows.Tie as tie
+
+abbrev Inv-loop : tie.InvT-loop
+Inv-loop out₀ dirs w h blocks r₀ out r = Rows sample-stage w h dirs out₀ out r
+
+abbrev μ-loop : tie.MeasureT-loop
+μ-loop out₀ dirs w h blocks r₀ out r = h - r
+
+add-blocks : tie.Need-add-blocks Inv-loop μ-loop
+add-blocks c = search needs
+
+loop-holds : tie.Need-loop-holds Inv-loop μ-loop
+loop-holds c = rows-begun _ _ _ _ _
+
+add-loop : tie.Need-add-loop Inv-loop μ-loop
+add-loop c = search needs
+
+mul-add-row : tie.Need-mul-add-row Inv-loop μ-loop
+mul-add-row c = omega (arith, directions-within ((c .before .before .before .before .before .args .size .width + 15) / 16) (c .before .before .before .before .before .args .size .height) (c .before .before .loop .r) _ (omega arith) (c .before .before .before .before .before .pre .directions-lent))
+
+add-add-row : tie.Need-add-add-row Inv-loop μ-loop
+add-add-row c = search needs
+
+add-row-requires : tie.Need-add-row-requires Inv-loop μ-loop
+add-row-requires c κs =
+    let p = c .before .before .before .before .before .pre in
+    let l = c .before .before .loop in
+    let h = c .before .before .before .before .before .args .size .height in (
+      record {
+        width = p .frame .width;
+        rows-above = omega arith;
+        row-below = omega (arith, p .frame .height);
+        row-lent = row-within _ h (l .r) _ (omega arith) (l .inv .same-length ∙ p .frame .lent);
+      },
+      directions-within _ h (l .r) _ (omega arith) (p .directions-lent),
+    )
+
+add-r : tie.Need-add-r Inv-loop μ-loop
+add-r c = search needs
+
+loop-less : tie.Need-loop-less Inv-loop μ-loop
+loop-less c = search needs
+
+loop-again : tie.Need-loop-again Inv-loop μ-loop
+loop-again c = rows-on _ _ _ _ _ _ _ _ (omega arith) (c .before .before .add-row .kept .0) (c .before .before .add-row .ensures) (c .before .before .before .before .before .loop .inv)
+
+same-length : tie.Need-same-length Inv-loop μ-loop
+same-length c = search needs
+
+returns : tie.Need-returns Inv-loop μ-loop
+returns c = rows-done _ _ _ _ _ _ _ (omega arith) (c .before .loop .inv)
+
+pub add-rows-spec : {M : Type 1} → statement M
+add-rows-spec =
+    tie.close
+    (tie.spec
+    Inv-loop
+    μ-loop
+    add-blocks
+    loop-holds
+    add-loop
+    mul-add-row
+    add-add-row
+    add-row-requires
+    add-r
+    loop-less
+    loop-again
+    same-length
+    returns)

@@ -1,0 +1,78 @@
+-- What is left from row r + 2 on comes to all rows.
+use mathlib.Core.Path.{_∙_}
+use Prim.Native.Nat.{_+_, _-_, _/_}
+use native.Mathlib.Omega.{arith}
+use borrow.Author.Needs.{needs}
+use Rattle.rules.specs.Map.{mark-stage}
+use Rattle.v0_two_phase.proofs.PredictionLaws.{Rows, rows-begun, rows-on, rows-done}
+use Rattle.v0_two_phase.proofs.RowsLaws.{row-within, directions-within}
+use Rattle.v0_two_phase.proofs.predictions.mark_rows.Statement.{statement}
+use Rattle.v0_two_phase.proofs.predictions.mark_rows.Tie as tie
+
+abbrev Inv-loop : tie.InvT-loop
+Inv-loop map₀ dirs w h blocks r₀ map r = Rows mark-stage w h dirs map₀ map r
+
+abbrev μ-loop : tie.MeasureT-loop
+μ-loop map₀ dirs w h blocks r₀ map r = h - r
+
+add-blocks : tie.Need-add-blocks Inv-loop μ-loop
+add-blocks c = search needs
+
+loop-holds : tie.Need-loop-holds Inv-loop μ-loop
+loop-holds c = rows-begun _ _ _ _ _
+
+add-loop : tie.Need-add-loop Inv-loop μ-loop
+add-loop c = search needs
+
+mul-mark-row : tie.Need-mul-mark-row Inv-loop μ-loop
+mul-mark-row c = omega (arith, directions-within ((c .before .before .before .before .before .args .size .width + 15) / 16) (c .before .before .before .before .before .args .size .height) (c .before .before .loop .r) _ (omega arith) (c .before .before .before .before .before .pre .directions-lent))
+
+add-mark-row : tie.Need-add-mark-row Inv-loop μ-loop
+add-mark-row c = search needs
+
+mark-row-requires : tie.Need-mark-row-requires Inv-loop μ-loop
+mark-row-requires c κs =
+    let p = c .before .before .before .before .before .pre in
+    let l = c .before .before .loop in
+    let h = c .before .before .before .before .before .args .size .height in (
+      record {
+        width = p .frame .width;
+        rows-above = omega arith;
+        row-below = omega (arith, p .frame .height);
+        row-lent = row-within _ h (l .r) _ (omega arith) (l .inv .same-length ∙ p .frame .lent);
+      },
+      directions-within _ h (l .r) _ (omega arith) (p .directions-lent),
+    )
+
+add-r : tie.Need-add-r Inv-loop μ-loop
+add-r c = search needs
+
+loop-less : tie.Need-loop-less Inv-loop μ-loop
+loop-less c = search needs
+
+loop-again : tie.Need-loop-again Inv-loop μ-loop
+loop-again c = rows-on _ _ _ _ _ _ _ _ (omega arith) (c .before .before .mark-row .kept .0) (c .before .before .mark-row .ensures) (c .before .before .before .before .before .loop .inv)
+
+same-length : tie.Need-same-length Inv-loop μ-loop
+same-length c = search needs
+
+returns : tie.Need-returns Inv-loop μ-loop
+returns c = rows-done _ _ _ _ _ _ _ (omega arith) (c .before .loop .inv)
+
+pub mark-rows-spec : {M : Type 1} → statement M
+mark-rows-spec =
+    tie.close
+    (tie.spec
+    Inv-loop
+    μ-loop
+    add-blocks
+    loop-holds
+    add-loop
+    mul-mark-row
+    add-mark-row
+    mark-row-requires
+    add-r
+    loop-less
+    loop-again
+    same-length
+    returns)

@@ -1,0 +1,147 @@
+-- What is left from row r + 2 on comes to all rows; a row's two parts lie within what is lent.
+use mathlib.Core.Path.{_∙_}
+use Prim.Native.Nat.{ℕ, _+_, _-_, _*_, _/_, _≤_}
+use native.Mathlib.Omega.{arith}
+use lib.ListN.{length, length-drop}
+use borrow.Rule.Slice.PartMut.{same-len-mid}
+use borrow.Author.Needs.{needs}
+use Rattle.rules.specs.Phases.{scratch}
+use Rattle.v0_cells.proofs.CellLaws.{product}
+use Rattle.v0_two_phase.proofs.RowsLaws.{Rows, rows-begun, rows-on, rows-done, tail-lent, row-within, directions-within}
+use Rattle.v0_two_phase.proofs.residuals.parse_rows.Statement.{statement}
+use Rattle.v0_two_phase.proofs.residuals.parse_rows.Tie as tie
+
+abbrev Inv-loop : tie.InvT-loop
+Inv-loop src offsets out₀ dirs₀ w h blocks r₀ out dirs r = Rows src offsets w h out₀ out dirs₀ dirs r
+
+abbrev μ-loop : tie.MeasureT-loop
+μ-loop src offsets out₀ dirs₀ w h blocks r₀ out dirs r = h - r
+
+-- The row lies within the frame, and its directions within theirs.
+samples-room : (c : tie.In-loop Inv-loop μ-loop)
+    → (c .before .loop .r + 2) * c .before .before .before .before .before .before .args .size .width + c .before .before .before .before .before .before .args .size .width ≤ length (c .before .loop .out)
+samples-room c =
+    row-within _ (c .before .before .before .before .before .before .args .size .height) _ _ (omega arith) (c .before .loop .inv .same-samples ∙ c .before .before .before .before .before .before .pre .0 .frame .lent)
+
+dirs-room : (c : tie.In-loop Inv-loop μ-loop)
+    → c .before .loop .r * ((c .before .before .before .before .before .before .args .size .width + 15) / 16) + (c .before .before .before .before .before .before .args .size .width + 15) / 16
+    ≤ length (c .before .loop .dirs)
+dirs-room c =
+    directions-within _ (c .before .before .before .before .before .before .args .size .height) _ _ (omega arith)
+    (omega (arith, c .before .loop .inv .same-dirs, c .before .before .before .before .before .before .pre .0 .directions-lent))
+
+add-blocks : tie.Need-add-blocks Inv-loop μ-loop
+add-blocks c = search needs
+
+loop-holds : tie.Need-loop-holds Inv-loop μ-loop
+loop-holds c = rows-begun _ _ _ _ _ _
+
+add-loop : tie.Need-add-loop Inv-loop μ-loop
+add-loop c = search needs
+
+add-row : tie.Need-add-row Inv-loop μ-loop
+add-row c = search needs
+
+mul-first : tie.Need-mul-first Inv-loop μ-loop
+mul-first c = omega (arith, samples-room c)
+
+mul-start : tie.Need-mul-start Inv-loop μ-loop
+mul-start c = omega (arith, dirs-room c)
+
+mul-parse-v0-residuals : tie.Need-mul-parse-v0-residuals Inv-loop μ-loop
+mul-parse-v0-residuals c = search needs
+
+shared-slice-read-parse-v0-residuals :
+    tie.Need-shared-slice-read-parse-v0-residuals Inv-loop μ-loop
+shared-slice-read-parse-v0-residuals c = search needs
+
+mul-parse-v0-residuals-2 : tie.Need-mul-parse-v0-residuals-2 Inv-loop μ-loop
+mul-parse-v0-residuals-2 c = omega (arith, product (c .before .before .loop .r + 2) (c .before .before .before .before .before .before .before .args .size .width) (omega (arith, c .before .before .before .before .before .before .before .pre .0 .frame .height)) (omega (arith, c .before .before .before .before .before .before .before .pre .0 .frame .width)))
+
+sub-parse-v0-residuals : tie.Need-sub-parse-v0-residuals Inv-loop μ-loop
+sub-parse-v0-residuals c = omega (arith, samples-room (c .before))
+
+part-parse-v0-residuals-start : tie.Need-part-parse-v0-residuals-start Inv-loop μ-loop
+part-parse-v0-residuals-start c = omega (arith, samples-room (c .before))
+
+part-parse-v0-residuals-end : tie.Need-part-parse-v0-residuals-end Inv-loop μ-loop
+part-parse-v0-residuals-end c = search needs
+
+sub-parse-v0-residuals-2 : tie.Need-sub-parse-v0-residuals-2 Inv-loop μ-loop
+sub-parse-v0-residuals-2 c = omega (arith, dirs-room (c .before .before))
+
+part-parse-v0-residuals-start-2 : tie.Need-part-parse-v0-residuals-start-2 Inv-loop μ-loop
+part-parse-v0-residuals-start-2 c = omega (arith, dirs-room (c .before .before))
+
+part-parse-v0-residuals-end-2 : tie.Need-part-parse-v0-residuals-end-2 Inv-loop μ-loop
+part-parse-v0-residuals-end-2 c = search needs
+
+parse-v0-residuals-requires : tie.Need-parse-v0-residuals-requires Inv-loop μ-loop
+parse-v0-residuals-requires c κs =
+    let l = c .before .before .before .before .loop in
+    let w = c .before .before .before .before .before .before .before .before .before .args .size .width in
+    record {
+      width = c .before .before .before .before .before .before .before .before .before .pre .0 .frame .width;
+      samples-lent = rw (tail-lent ((l .r + 2) * w) (l .out)) (omega (arith, samples-room (c .before .before .before), length-drop ((l .r + 2) * w) (l .out)));
+      directions-lent =
+          rw (tail-lent (l .r * ((w + 15) / 16)) (l .dirs)) (omega (arith, dirs-room (c .before .before .before), length-drop (l .r * ((w + 15) / 16)) (l .dirs)));
+    }
+
+add-r : tie.Need-add-r Inv-loop μ-loop
+add-r c = search needs
+
+loop-less : tie.Need-loop-less Inv-loop μ-loop
+loop-less c = search needs
+
+loop-again : tie.Need-loop-again Inv-loop μ-loop
+loop-again c =
+    let l = c .before .before .before .before .before .before .before .before .before .loop in
+    let z = c .before .before .before .before .before .before .before .before .before .before .before .before .before .before .args .size in
+    let n = (z .width + 15) / 16 in
+    let first = (l .r + 2) * z .width in
+    let p = c .before .before .before .before .parse-v0-residuals in
+    let enough : n * (z .height - 2) ≤ length (l .dirs) = omega (arith, l .inv .same-dirs, c .before .before .before .before .before .before .before .before .before .before .before .before .before .before .pre .0 .directions-lent) in
+    rows-on _ _ _ _ _ _ _ (omega arith) (directions-within n (z .height) (l .r) (n * (z .height - 2)) (omega arith) (omega arith)) enough _ _ _ _
+    (same-len-mid {X = ℕ} first (length (l .out) - first) (l .out) (p .last .1 .1 .1 .0) (p .kept .1 .1 .1 .0))
+    (same-len-mid {X = ℕ} (l .r * n) (length (l .dirs) - l .r * n) (l .dirs) (p .last .1 .1 .1 .1 .0) (p .kept .1 .1 .1 .1 .0))
+    (p .ensures .0) (p .ensures .1) (l .inv)
+
+same-length : tie.Need-same-length Inv-loop μ-loop
+same-length c = search needs
+
+same-length-2 : tie.Need-same-length-2 Inv-loop μ-loop
+same-length-2 c = search needs
+
+returns : tie.Need-returns Inv-loop μ-loop
+unfolding scratch
+returns c =
+    rows-done _ _ _ _ _ _ _ _ _ (omega arith) (omega (arith, c .before .loop .inv .same-dirs, c .before .before .before .before .before .before .pre .0 .directions-lent)) (c .before .loop .inv)
+
+pub parse-rows-spec : {M : Type 1} → statement M
+parse-rows-spec =
+    tie.close
+    (tie.spec
+    Inv-loop
+    μ-loop
+    add-blocks
+    loop-holds
+    add-loop
+    add-row
+    mul-first
+    mul-start
+    mul-parse-v0-residuals
+    shared-slice-read-parse-v0-residuals
+    mul-parse-v0-residuals-2
+    sub-parse-v0-residuals
+    part-parse-v0-residuals-start
+    part-parse-v0-residuals-end
+    sub-parse-v0-residuals-2
+    part-parse-v0-residuals-start-2
+    part-parse-v0-residuals-end-2
+    parse-v0-residuals-requires
+    add-r
+    loop-less
+    loop-again
+    same-length
+    same-length-2
+    returns)

@@ -1,0 +1,260 @@
+// Phase two: the prediction of each sample from row 2 on, added to the residual that phase one left in its place; and the marks,
+// which need no residual.
+ghost use mathlib.Core.Path.{_≡_};
+ghost use mathlib.Core.Bool.{true, false, cond};
+ghost use mathlib.Core.List.{[], _∷_};
+ghost use Prim.Native.Nat.{_+_, _-_, _%_, _≤_, _<_};
+ghost use lib.Dec.{eqb};
+ghost use lib.ListN.{length, getD, take, drop};
+ghost use Rattle.rules.specs.V0.{order, blocks-in, sample-kind};
+ghost use Rattle.rules.specs.Phases.{late-predictor, predict-samples, predict-blocks, phase-two, sample-stage};
+ghost use Rattle.rules.specs.Map.{mark-stage};
+ghost use Rattle.v0_cells.specs.Places.{Inside};
+ghost use Rattle.v0_cells.specs.Inner.{Replaced};
+ghost use Rattle.v0_two_phase.specs.Inner.{predict-inner};
+ghost use Rattle.v0_two_phase.specs.Lent.{LateSample, LateRow, PhaseLent, MapLent};
+use rules::Predictor;
+use rules::Size;
+use rules::V0Row;
+use v0_cells::cells::put;
+use v0_cells::cells::put_mark;
+use v0_cells::inner::mark_inner;
+use v0_stream::order::stream_column;
+
+// How many rows up sample c looks.
+fn rows_up(c: usize) -> usize
+    ensures { λ r. ⌜ r ≡ 1 + c % 2 ⌝ }
+{
+    c % 2 + 1
+}
+
+// Where sample c predicts from.
+fn predictor(w: usize, row: usize, col: usize, up: bool, c: usize) -> Predictor
+    requires { ⌜ LateSample w row col c ⌝ }
+    ensures { λ r. ⌜ r ≡ late-predictor w row col up c ⌝ }
+{
+    if up {
+        let p = (row - rows_up(c)) * w + col + c;
+        return Predictor::Sample(p);
+    }
+    if 0 < col {
+        let p = row * w + col - (2 - c % 2);
+        return Predictor::Sample(p);
+    }
+    Predictor::Constant
+}
+
+// Sample c of a block, if it lies within the row.
+fn add_sample(out: &mut [u16], w: usize, row: usize, col: usize, up: bool, c: usize)
+    requires { ⌜ LateRow w row (now out) × ((col < w) × (c < 16)) ⌝ }
+    ensures { λ _. ⌜ now (out .exit) ≡ predict-samples sample-stage w row col up (c ∷ []) (now (out .entry)) ⌝ }
+{
+    if col + c < w {
+        let place = row * w + col + c;
+        let from = predictor(w, row, col, up, c);
+        let residual = out[place];
+        put(out, place, from, residual);
+    }
+}
+
+// A block at an edge of its row: sample by sample.
+fn add_edge(out: &mut [u16], w: usize, row: usize, col: usize, up: bool)
+    requires { ⌜ LateRow w row (now out) × (col < w) ⌝ }
+    ensures { λ _. ⌜ now (out .exit) ≡ predict-samples sample-stage w row col up order (now (out .entry)) ⌝ }
+{
+    let mut k: usize = 0;
+    while k < V0Row::BLOCK {
+        let c = stream_column(k);
+        add_sample(out, w, row, col, up, c);
+        k += 1;
+    }
+}
+
+// Of two samples the one for a column: even columns take the first, odd ones the second.
+fn sample_of(c: usize, even: u16, odd: u16) -> u16
+    ensures { λ r. ⌜ r ≡ cond (eqb (c % 2) 0) even odd ⌝ }
+{
+    if c % 2 == 0 { even } else { odd }
+}
+
+// The samples of a block, once all are known.
+fn store_samples(out: &mut [u16], base: usize, values: [u16; 16])
+    requires { ⌜ (base + 16 ≤ length (now out)) × (base < 1_000_000_000) ⌝ }
+    ensures { λ _. ⌜ Replaced sample-kind base 16 (λ c. getD values c 0) (now (out .entry)) (now (out .exit)) ⌝ }
+{
+    let mut c: usize = 0;
+    while c < V0Row::BLOCK {
+        out[base + c] = values[c];
+        c += 1;
+    }
+}
+
+// An inner block of direction 1. As for its marks, all sums are made first and then stored.
+fn add_up(out: &mut [u16], w: usize, base: usize)
+    requires { ⌜ Inside w base (now out) × (base < 1_000_000_000) ⌝ }
+    ensures { λ _. ⌜ now (out .exit) ≡ predict-inner w base true (now (out .entry)) ⌝ }
+{
+    let mut values = [0; V0Row::BLOCK];
+    let mut c: usize = 0;
+    while c < V0Row::BLOCK {
+        let one = out[base + c - w];
+        let two = out[base + c - 2 * w];
+        let p = sample_of(c, one, two);
+        values[c] = std::num::wrapping_add_u16(p, out[base + c]);
+        c += 1;
+    }
+    store_samples(out, base, values);
+}
+
+// An inner block of direction 0. The row length is for the contract alone.
+fn add_left(out: &mut [u16], w: usize, base: usize)
+    requires { ⌜ Inside w base (now out) × (base < 1_000_000_000) ⌝ }
+    ensures { λ _. ⌜ now (out .exit) ≡ predict-inner w base false (now (out .entry)) ⌝ }
+{
+    let two = out[base - 2];
+    let one = out[base - 1];
+    let mut values = [0; V0Row::BLOCK];
+    let mut c: usize = 0;
+    while c < V0Row::BLOCK {
+        let p = sample_of(c, two, one);
+        values[c] = std::num::wrapping_add_u16(p, out[base + c]);
+        c += 1;
+    }
+    store_samples(out, base, values);
+}
+
+// A block after column 0 that lies within its row: every sample has a predictor before the block.
+fn add_inner(out: &mut [u16], w: usize, row: usize, col: usize, up: bool)
+    requires { ⌜ LateRow w row (now out) × ((0 < col) × (col + 16 ≤ w)) ⌝ }
+    ensures { λ _. ⌜ now (out .exit) ≡ predict-samples sample-stage w row col up order (now (out .entry)) ⌝ }
+{
+    let base = row * w + col;
+    if up {
+        add_up(out, w, base);
+        return;
+    }
+    add_left(out, w, base);
+}
+
+// The samples of a block.
+fn add_block(out: &mut [u16], w: usize, row: usize, col: usize, up: bool)
+    requires { ⌜ LateRow w row (now out) × (col < w) ⌝ }
+    ensures { λ _. ⌜ now (out .exit) ≡ predict-samples sample-stage w row col up order (now (out .entry)) ⌝ }
+{
+    if col == 0 {
+        add_edge(out, w, row, col, up);
+        return;
+    }
+    if w < col + V0Row::BLOCK {
+        add_edge(out, w, row, col, up);
+        return;
+    }
+    add_inner(out, w, row, col, up);
+}
+
+// A row, whose directions begin at `start`.
+fn add_row(out: &mut [u16], dirs: &[u8], start: usize, w: usize, row: usize)
+    requires { ⌜ LateRow w row (now out) × (start + blocks-in w ≤ length (now dirs)) ⌝ }
+    ensures { λ _. ⌜ now (out .exit) ≡ predict-blocks sample-stage w row 0 (take (blocks-in w) (drop start (now (dirs .entry)))) (now (out .entry)) ⌝ }
+{
+    let blocks = (w + 15) / V0Row::BLOCK;
+    let mut k: usize = 0;
+    while k < blocks {
+        add_block(out, w, row, k * V0Row::BLOCK, dirs[start + k] != 0);
+        k += 1;
+    }
+}
+
+// The samples of rows 2 on.
+pub fn add_rows(out: &mut [u16], dirs: &[u8], size: Size)
+    requires { ⌜ PhaseLent size (now out) (now dirs) ⌝ }
+    ensures { λ _. ⌜ now (out .exit) ≡ phase-two sample-stage (size .width) (size .height - 2) 2 (now (dirs .entry)) (now (out .entry)) ⌝ }
+{
+    let w = size.width;
+    let h = size.height;
+    let blocks = (w + 15) / V0Row::BLOCK;
+    let mut r: usize = 0;
+    while r + 2 < h {
+        add_row(out, dirs, r * blocks, w, r + 2);
+        r += 1;
+    }
+}
+
+// The mark of sample c of a block, if it lies within the row.
+fn mark_sample(map: &mut [u8], w: usize, row: usize, col: usize, up: bool, c: usize)
+    requires { ⌜ LateRow w row (now map) × ((col < w) × (c < 16)) ⌝ }
+    ensures { λ _. ⌜ now (map .exit) ≡ predict-samples mark-stage w row col up (c ∷ []) (now (map .entry)) ⌝ }
+{
+    if col + c < w {
+        let from = predictor(w, row, col, up, c);
+        put_mark(map, row * w + col + c, from);
+    }
+}
+
+// The marks of a block at an edge of its row.
+fn mark_edge(map: &mut [u8], w: usize, row: usize, col: usize, up: bool)
+    requires { ⌜ LateRow w row (now map) × (col < w) ⌝ }
+    ensures { λ _. ⌜ now (map .exit) ≡ predict-samples mark-stage w row col up order (now (map .entry)) ⌝ }
+{
+    let mut k: usize = 0;
+    while k < V0Row::BLOCK {
+        let c = stream_column(k);
+        mark_sample(map, w, row, col, up, c);
+        k += 1;
+    }
+}
+
+// The marks of a block.
+fn mark_block(map: &mut [u8], w: usize, row: usize, col: usize, up: bool)
+    requires { ⌜ LateRow w row (now map) × (col < w) ⌝ }
+    ensures { λ _. ⌜ now (map .exit) ≡ predict-samples mark-stage w row col up order (now (map .entry)) ⌝ }
+{
+    if col == 0 {
+        mark_edge(map, w, row, col, up);
+        return;
+    }
+    if w < col + V0Row::BLOCK {
+        mark_edge(map, w, row, col, up);
+        return;
+    }
+    mark_inner(map, w, row * w + col, up);
+}
+
+// The marks of a row, whose directions begin at `start`.
+fn mark_row(map: &mut [u8], dirs: &[u8], start: usize, w: usize, row: usize)
+    requires { ⌜ LateRow w row (now map) × (start + blocks-in w ≤ length (now dirs)) ⌝ }
+    ensures { λ _. ⌜ now (map .exit) ≡ predict-blocks mark-stage w row 0 (take (blocks-in w) (drop start (now (dirs .entry)))) (now (map .entry)) ⌝ }
+{
+    let blocks = (w + 15) / V0Row::BLOCK;
+    let mut k: usize = 0;
+    while k < blocks {
+        mark_block(map, w, row, k * V0Row::BLOCK, dirs[start + k] != 0);
+        k += 1;
+    }
+}
+
+// The marks of rows 2 on.
+fn mark_rows(map: &mut [u8], dirs: &[u8], size: Size)
+    requires { ⌜ PhaseLent size (now map) (now dirs) ⌝ }
+    ensures { λ _. ⌜ now (map .exit) ≡ phase-two mark-stage (size .width) (size .height - 2) 2 (now (dirs .entry)) (now (map .entry)) ⌝ }
+{
+    let w = size.width;
+    let h = size.height;
+    let blocks = (w + 15) / V0Row::BLOCK;
+    let mut r: usize = 0;
+    while r + 2 < h {
+        mark_row(map, dirs, r * blocks, w, r + 2);
+        r += 1;
+    }
+}
+
+// The same, if a map is lent.
+pub fn mark_lent(map: &mut [u8], dirs: &[u8], size: Size)
+    requires { ⌜ MapLent size (now map) (now dirs) ⌝ }
+    ensures { λ _. ⌜ now (map .exit) ≡ phase-two mark-stage (size .width) (size .height - 2) 2 (now (dirs .entry)) (now (map .entry)) ⌝ }
+{
+    if map.len() == 0 {
+        return;
+    }
+    mark_rows(map, dirs, size);
+}

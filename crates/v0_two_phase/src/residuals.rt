@@ -1,0 +1,109 @@
+// Phase one: a row's residuals to its samples, and the directions of its blocks to the scratch.
+ghost use mathlib.Core.Path.{_≡_};
+ghost use mathlib.Core.Bool.{cond};
+ghost use mathlib.Core.List.{_++_, map};
+ghost use Prim.Native.Nat.{_+_, _-_, _≤_, _<_};
+ghost use lib.Dec.{ltb};
+ghost use lib.ListN.{length, set, drop};
+ghost use Rattle.rules.specs.V0.{order, blocks-in};
+ghost use Rattle.rules.specs.Answer.{scratch-bytes};
+ghost use Rattle.rules.specs.Phases.{store-samples, store-blocks, row-records, direction, phase-one, scratch};
+ghost use Rattle.v0_two_phase.specs.Lent.{RowLent, PhaseLent};
+use rules::Size;
+use rules::V0Row;
+use v0_stream::block::read_block;
+use v0_stream::order::stream_column;
+
+// A block's direction as a byte.
+fn direction_byte(up: bool) -> u8
+    ensures { λ r. ⌜ r ≡ cond up 1 0 ⌝ }
+{
+    if up { 1 } else { 0 }
+}
+
+// A residual to column i of a row; past the row's end it is dropped.
+fn store_residual(out: &mut [u16], width: usize, i: usize, residual: u16)
+    requires { ⌜ width ≤ length (now out) ⌝ }
+    ensures { λ _. ⌜ now (out .exit) ≡ cond (ltb i width) (set (now (out .entry)) i residual) (now (out .entry)) ⌝ }
+{
+    if i < width {
+        out[i] = residual;
+    }
+}
+
+// The residuals of a block that may reach past its row's end.
+fn store_edge(out: &mut [u16], width: usize, col: usize, residuals: [u16; 16])
+    requires { ⌜ (width ≤ length (now out)) × (col < 16_384) ⌝ }
+    ensures { λ _. ⌜ now (out .exit) ≡ store-samples 0 width col order residuals (now (out .entry)) ⌝ }
+{
+    let mut k: usize = 0;
+    while k < V0Row::BLOCK {
+        let c = stream_column(k);
+        store_residual(out, width, col + c, residuals[k]);
+        k += 1;
+    }
+}
+
+// The residuals of a block that lies within its row.
+fn store_inner(out: &mut [u16], width: usize, col: usize, residuals: [u16; 16])
+    requires { ⌜ (width ≤ length (now out)) × ((col + 16 ≤ width) × (width ≤ 16_384)) ⌝ }
+    ensures { λ _. ⌜ now (out .exit) ≡ store-samples 0 width col order residuals (now (out .entry)) ⌝ }
+{
+    let mut k: usize = 0;
+    while k < V0Row::BLOCK {
+        let c = stream_column(k);
+        out[col + c] = residuals[k];
+        k += 1;
+    }
+}
+
+// The residuals of the block at a column of a row.
+fn store_residuals(out: &mut [u16], width: usize, col: usize, residuals: [u16; 16])
+    requires { ⌜ (width ≤ length (now out)) × ((col < 16_384) × (width ≤ 16_384)) ⌝ }
+    ensures { λ _. ⌜ now (out .exit) ≡ store-samples 0 width col order residuals (now (out .entry)) ⌝ }
+{
+    if col + V0Row::BLOCK <= width {
+        store_inner(out, width, col, residuals);
+        return;
+    }
+    store_edge(out, width, col, residuals);
+}
+
+// A row from row 2 on, whose first sample is the first of `out`, and its first block's direction the first of `dirs`.
+pub fn parse_v0_residuals(src: &[u8], offset: u32, width: usize, out: &mut [u16], dirs: &mut [u8])
+    requires { ⌜ RowLent width (now out) (now dirs) ⌝ }
+    ensures residuals { λ _. ⌜ now (out .exit) ≡ store-blocks 0 width 0 (row-records (now (src .entry)) width 2 offset) (now (out .entry)) ⌝ }
+    ensures directions { λ _. ⌜ now (dirs .exit) ≡ map direction (row-records (now (src .entry)) width 2 offset) ++ drop (blocks-in width) (now (dirs .entry)) ⌝ }
+{
+    let blocks = (width + 15) / V0Row::BLOCK;
+    let mut row = V0Row::fresh(2, offset);
+    let mut k: usize = 0;
+    while k < blocks {
+        let block = read_block(src, row, true);
+        dirs[k] = direction_byte(block.up);
+        let residuals = block.residuals;
+        store_residuals(out, width, k * V0Row::BLOCK, residuals);
+        row = block.row;
+        k += 1;
+    }
+}
+
+// Rows 2 on: each is lent as the part of the samples that starts at its first, and the part of the scratch that starts at its
+// first direction.
+pub fn parse_rows(src: &[u8], offsets: &[u32], size: Size, out: &mut [u16], dirs: &mut [u8])
+    requires { ⌜ PhaseLent size (now out) (now dirs) × (size .height ≤ length (now offsets)) ⌝ }
+    ensures residuals { λ _. ⌜ now (out .exit) ≡ phase-one (now (src .entry)) (now (offsets .entry)) (size .width) (size .height - 2) 2 (now (out .entry)) ⌝ }
+    ensures directions { λ _. ⌜ now (dirs .exit) ≡ scratch (now (src .entry)) (now (offsets .entry)) size ++ drop (scratch-bytes size) (now (dirs .entry)) ⌝ }
+{
+    let w = size.width;
+    let h = size.height;
+    let blocks = (w + 15) / V0Row::BLOCK;
+    let mut r: usize = 0;
+    while r + 2 < h {
+        let row = r + 2;
+        let first = row * w;
+        let start = r * blocks;
+        parse_v0_residuals(src, offsets[row], w, &mut out[first..], &mut dirs[start..]);
+        r += 1;
+    }
+}
