@@ -2,7 +2,7 @@
 ghost use mathlib.Core.Path.{_≡_};
 ghost use Rattle.rules.specs.Answer.{done};
 
-// A number and a row. Number 0 is done, 1 to 8 are refusals.
+// A number and a row. Number 0 is done, the others are refusals.
 #[repr(C)]
 pub struct Answer {
     pub number: u32,
@@ -33,6 +33,12 @@ impl Answer {
 
     // V2: a row is finished and the reader has overrun.
     pub const OVERRUN: u32 = 8;
+
+    // In bands: a number of bands or a block width that the frame can't be cut by.
+    pub const BAD_CUT: u32 = 11;
+
+    // In bands: the list is too short or too long, or a step is no block's number or isn't ready.
+    pub const BAD_STEPS: u32 = 12;
 
     pub fn done() -> Answer
         ensures { λ r. ⌜ r ≡ done ⌝ }
