@@ -18,8 +18,9 @@ use Rattle.rules.specs.Phases as Phases
 use Rattle.rules.specs.Map as Map
 use Rattle.rules.proofs.Cells.{nil, more}
 use Rattle.rules.proofs.Isolation.{Calls, start, call, Samples, Same, is-direct, position-of, amount-of}
-use Rattle.samsung.proofs.Isolation.{returned}
-use Rattle.razvolk.proofs.Isolation.{Export, entry, exported, step, isolation}
+use Rattle.samsung.proofs.Isolation.{returned, ended}
+use Rattle.samsung.proofs.Isolation as Entries
+use Rattle.razvolk.proofs.Isolation.{Export, entry, exported, plain, step, last, final, isolation}
 use Rattle.razvolk.proofs.Isolation as Exports
 
 -- ── A call for every input ──
@@ -133,7 +134,8 @@ module _ (s offsets : List ℕ) (w h : ℕ) (samples : List ℕ) where
 
 -- After every list of calls each call may follow that is lent the first k samples of the buffer as it is now; the others stay.
 pub one-more : {b x : List ℕ} → Calls step b x → (k : ℕ) (c : Export) → exported c .found .samples ≡ take k x → Calls step b (exported c .left .samples ++ drop k x)
-one-more {x = x} cs k c e = call cs c (drop k x) (sym (rw e (take-append-drop k x)))
+unfolding step Entries.step
+one-more {x = x} cs k c e = call cs (plain c) (drop k x) (sym (rw e (take-append-drop k x)))
 
 -- ── Document 01's frame of 2 by 2 ──
 
@@ -161,9 +163,9 @@ two-by-two-marks = (refl, (refl, refl))
 module _ (b b′ x y : List ℕ) (h : Samples b) (h′ : Samples b′) (cs : Calls step b x) (ds : Calls step b′ y)
     (old old′ rest rest′ : List ℕ) (four : length old ≡ 4) (four′ : length old′ ≡ 4) (e : x ≡ old ++ rest) (e′ : y ≡ old′ ++ rest′) where
   same : Same (exported (two-by-two old)) (exported (two-by-two old′))
-  unfolding returned entry
+  unfolding returned entry final ended
   same =
-      isolation b b′ x y h h′ cs ds (two-by-two old) (two-by-two old′) rest rest′ e e′
+      isolation b b′ x y h h′ cs ds (last (two-by-two old)) (last (two-by-two old′)) rest rest′ e e′
       (record { ask = refl; samples = four ∙ sym four′; scratch = refl; map = λ m n p q. absurd (Option·none-ne-some m p) })
       (inl (ap (λ a. a .number) (two-by-two-done old four))) (inl (ap (λ a. a .number) (two-by-two-done old′ four′)))
 
