@@ -316,9 +316,10 @@ static void any_lengths(ask *a) {
     }
 }
 
-/* A band count, a block width and a list of steps: mostly ones that fit. */
-static void any_cut(ask *a) {
-    static uint32_t list[64 * 1024 + 1];
+/* A band count and a block width that fit, and a good list: how many steps it has. */
+static uint32_t list[64 * 1024 + 1];
+
+static size_t good_steps(ask *a) {
     size_t progress[64] = {0}, count = 0;
     bool large = a->width > 16384 || a->height > 16384;
     a->bands = below(3) == 0 ? most_bands(a) : 1 + below(most_bands(a));
@@ -330,6 +331,12 @@ static void any_cut(ask *a) {
             band = (band + 1) % a->bands;
         list[count++] = (uint32_t)(band * blocks + progress[band]++);
     }
+    return count;
+}
+
+/* A band count, a block width and a list of steps: mostly ones that fit. */
+static void any_cut(ask *a) {
+    size_t count = good_steps(a);
     size_t one = count > 0 ? below(count) : 0, other = count > 0 ? below(count) : 0;
     uint32_t kept = list[one];
     switch (below(24)) {
@@ -689,7 +696,8 @@ static to_write any_frame(void) {
 /* What was written gives the samples back by each V0 entry, and no map byte is 1. */
 static void decodes_back(const to_write *w) {
     size_t n = w->width * w->height;
-    ask a = {false, w->stream, w->offsets, w->width, w->height, n, n, RAZVOLK_SCRATCH(w->width, w->height)};
+    ask a = {false, w->stream, w->offsets, w->width, w->height, n, n, RAZVOLK_SCRATCH(w->width, w->height), 0, 0, {0}};
+    a.steps = copy(list, 4 * good_steps(&a));
     slice old = lend(2 * n);
     scatter(old.data, old.bytes);
     for (const entry *e = entries; e < entries_end; e++) {
@@ -702,6 +710,7 @@ static void decodes_back(const to_write *w) {
             expect(out.map.data[i] == 0, "what is written decodes with no map byte 1");
         end(out);
     }
+    give_back(a.steps);
     give_back(old);
 }
 
