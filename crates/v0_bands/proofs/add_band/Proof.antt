@@ -13,43 +13,33 @@ Inv-loop out₀ dirs w block-width block row n blocks from to r₀ out r = Band 
 abbrev μ-loop : tie.MeasureT-loop
 μ-loop out₀ dirs w block-width block row n blocks from to r₀ out r = n - r
 
--- src/lib.rt:37:19
 add-blocks : tie.Need-add-blocks Inv-loop μ-loop
 add-blocks c = omega (arith, c .before .before .pre .width)
 
--- src/lib.rt:38:16
 mul-from : tie.Need-mul-from Inv-loop μ-loop
 mul-from c = omega (arith, from-low (c .before .before .pre), c .before .before .pre .width)
 
--- src/lib.rt:39:20
 add-least : tie.Need-add-least Inv-loop μ-loop
 add-least c = omega (arith, from-low (c .before .before .pre), c .before .before .pre .width)
 
--- src/lib.rt:39:9
 least-requires : tie.Need-least-requires Inv-loop μ-loop
 least-requires c κs = search needs
 
--- src/lib.rt:41:5
 loop-holds : tie.Need-loop-holds Inv-loop μ-loop
 loop-holds c = band-begun _ _ _ _ _ _ _ _
 
--- src/lib.rt:42:30
 add-add-part : tie.Need-add-add-part Inv-loop μ-loop
 add-add-part c = omega (arith, c .before .before .before .before .before .before .pre .rows-below)
 
--- src/lib.rt:42:30
 sub-add-part : tie.Need-sub-add-part Inv-loop μ-loop
 sub-add-part c = omega (arith, c .before .before .before .before .before .before .pre .rows-above)
 
--- src/lib.rt:42:29
 mul-add-part : tie.Need-mul-add-part Inv-loop μ-loop
 mul-add-part c = omega (arith, directions-within (c .before .before .before .before .before .before .pre) (c .before .before .loop .r) (omega arith))
 
--- src/lib.rt:42:66
 add-add-part-2 : tie.Need-add-add-part-2 Inv-loop μ-loop
 add-add-part-2 c = omega (arith, c .before .before .before .before .before .before .pre .rows-below)
 
--- src/lib.rt:42:9
 add-part-requires : tie.Need-add-part-requires Inv-loop μ-loop
 add-part-requires c κs =
     let p = c .before .before .before .before .before .before .pre in
@@ -58,24 +48,19 @@ add-part-requires c κs =
       (omega (arith, directions-within p (l .r) (omega arith), c .before .before .before .least .ensures), omega (arith, c .before .before .before .least .ensures)),
     )
 
--- src/lib.rt:43:9
 add-r : tie.Need-add-r Inv-loop μ-loop
 add-r c = omega arith
 
--- src/lib.rt:41:5
 loop-less : tie.Need-loop-less Inv-loop μ-loop
 loop-less c = omega arith
 
--- src/lib.rt:41:5
 loop-again : tie.Need-loop-again Inv-loop μ-loop
 loop-again c =
     band-on _ _ _ _ _ _ _ _ _ _ _ (omega arith) (c .before .before .before .before .before .before .before .before .before .pre .multiple) (directions-within (c .before .before .before .before .before .before .before .before .before .pre) _ (omega arith)) (c .before .before .add-part .kept .0) _ (c .before .before .before .before .before .before .least .ensures) (c .before .before .add-part .ensures) (c .before .before .before .before .before .loop .inv)
 
--- src/lib.rt:33:1
 same-length : tie.Need-same-length Inv-loop μ-loop
 same-length c = search needs
 
--- src/lib.rt:33:1
 returns : tie.Need-returns Inv-loop μ-loop
 returns c = band-done _ _ _ _ _ _ _ _ _ _ (omega arith) (c .before .loop .inv)
 

@@ -16,88 +16,67 @@ Inv-loop out₀ dirs w h bands block-width steps blocks late i₀ out i = Steps 
 abbrev μ-loop : tie.MeasureT-loop
 μ-loop out₀ dirs w h bands block-width steps blocks late i₀ out i = length steps - i
 
--- src/lib.rt:54:9
 blocks-in-band-requires : tie.Need-blocks-in-band-requires Inv-loop μ-loop
 blocks-in-band-requires c κs = some-column _ _ _ _ (c .before .before .before .pre .width) (c .before .before .before .pre .cut-fits)
 
--- src/lib.rt:55:9
 late-rows-requires : tie.Need-late-rows-requires Inv-loop μ-loop
 late-rows-requires c κs = search needs
 
--- src/lib.rt:57:5
 loop-holds : tie.Need-loop-holds Inv-loop μ-loop
 loop-holds c = steps-begun _ _ _ _ _
 
--- src/lib.rt:58:17
 mul-n : tie.Need-mul-n Inv-loop μ-loop
 mul-n c = search needs
 
--- src/lib.rt:58:17
 shared-slice-read-n : tie.Need-shared-slice-read-n Inv-loop μ-loop
 shared-slice-read-n c = omega arith
 
--- src/lib.rt:58:17
 cast-n : tie.Need-cast-n Inv-loop μ-loop
 cast-n c = omega (arith, c .shared-slice-known3 .given (c .before .before .loop .i))
 
--- src/lib.rt:59:20
 div-band : tie.Need-div-band Inv-loop μ-loop
 div-band c = blocks-some (c .before .before .before .before .before .before .before .before .pre) (c .before .before .loop .i) (omega arith) _ _ (c .before .before .before .before .blocks-in-band .ensures) (c .before .before .before .late-rows .ensures)
 
--- src/lib.rt:60:21
 mul-first : tie.Need-mul-first Inv-loop μ-loop
 mul-first c = omega (arith, first-most (c .before .before .before .before .before .before .before .before .pre) (c .before .before .loop .i) (omega arith) _ _ (c .before .before .before .before .blocks-in-band .ensures) (c .before .before .before .late-rows .ensures))
 
--- src/lib.rt:60:21
 div-first : tie.Need-div-first Inv-loop μ-loop
 div-first c = bands-some (c .before .before .before .before .before .before .before .before .pre) (c .before .before .loop .i) (omega arith)
 
--- src/lib.rt:61:20
 add-end : tie.Need-add-end Inv-loop μ-loop
 add-end c = omega (arith, band-low (c .before .before .before .before .before .before .before .before .pre) (c .before .before .loop .i) (omega arith) _ _ (c .before .before .before .before .blocks-in-band .ensures) (c .before .before .before .late-rows .ensures), bands-most _ _ _ _ (c .before .before .before .before .before .before .before .before .pre .width) (c .before .before .before .before .before .before .before .before .pre .cut-fits))
 
--- src/lib.rt:61:19
 mul-end : tie.Need-mul-end Inv-loop μ-loop
 mul-end c = omega (arith, rows-most (c .before .before .before .before .before .before .before .before .pre) (c .before .before .loop .i) (omega arith) _ _ (c .before .before .before .before .blocks-in-band .ensures) (c .before .before .before .late-rows .ensures))
 
--- src/lib.rt:61:19
 div-end : tie.Need-div-end Inv-loop μ-loop
 div-end c = bands-some (c .before .before .before .before .before .before .before .before .pre) (c .before .before .loop .i) (omega arith)
 
--- src/lib.rt:62:41
 rem-add-band : tie.Need-rem-add-band Inv-loop μ-loop
 rem-add-band c = blocks-some (c .before .before .before .before .before .before .before .before .before .pre) (c .before .before .before .loop .i) (omega arith) _ _ (c .before .before .before .before .before .blocks-in-band .ensures) (c .before .before .before .before .late-rows .ensures)
 
--- src/lib.rt:62:53
 add-add-band : tie.Need-add-add-band Inv-loop μ-loop
 add-add-band c = omega (arith, start-end (c .before .before .before .before .before .before .before .before .before .pre) (c .before .before .before .loop .i) (omega arith) _ _ (c .before .before .before .before .before .blocks-in-band .ensures) (c .before .before .before .before .late-rows .ensures), end-low (c .before .before .before .before .before .before .before .before .before .pre) (c .before .before .before .loop .i) (omega arith) _ _ (c .before .before .before .before .before .blocks-in-band .ensures) (c .before .before .before .before .late-rows .ensures), c .before .before .before .before .before .before .before .before .before .pre .height)
 
--- src/lib.rt:62:64
 sub-add-band : tie.Need-sub-add-band Inv-loop μ-loop
 sub-add-band c = start-end (c .before .before .before .before .before .before .before .before .before .pre) (c .before .before .before .loop .i) (omega arith) _ _ (c .before .before .before .before .before .blocks-in-band .ensures) (c .before .before .before .before .late-rows .ensures)
 
--- src/lib.rt:62:9
 add-band-requires : tie.Need-add-band-requires Inv-loop μ-loop
 add-band-requires c κs = band-lent (c .before .before .before .before .before .before .before .before .before .pre) (c .before .before .before .loop .i) (omega arith) _ _ (c .before .before .before .before .before .blocks-in-band .ensures) (c .before .before .before .before .late-rows .ensures) _ (c .before .before .before .loop .inv .same-length)
 
--- src/lib.rt:63:9
 add-i : tie.Need-add-i Inv-loop μ-loop
 add-i c = omega arith
 
--- src/lib.rt:57:5
 loop-less : tie.Need-loop-less Inv-loop μ-loop
 loop-less c = omega arith
 
--- src/lib.rt:57:5
 loop-again : tie.Need-loop-again Inv-loop μ-loop
 loop-again c =
     steps-on _ _ _ _ _ _ _ _ (omega arith) (c .before .before .add-band .kept .0) _ _ (c .before .before .before .before .before .before .before .before .blocks-in-band .ensures) (c .before .before .before .before .before .before .before .late-rows .ensures) (c .before .before .add-band .ensures) (c .before .before .before .before .before .before .loop .inv)
 
--- src/lib.rt:50:1
 same-length : tie.Need-same-length Inv-loop μ-loop
 same-length c = search needs
 
--- src/lib.rt:50:1
 returns : tie.Need-returns Inv-loop μ-loop
 returns c = steps-done _ _ _ _ _ _ _ (omega arith) (c .before .loop .inv)
 
