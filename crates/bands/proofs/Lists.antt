@@ -16,11 +16,11 @@ use Rattle.bands.proofs.Calls.{yields-plain, samples-kept}
 
 module _ (c : Call) (r : Answer) (out dirs : List ℕ) (y : Yields c r out dirs) where
   -- Number 0 is done.
-  done-passed : r .number ≡ 0 → refusal c ≡ 0
+  pub done-passed : r .number ≡ 0 → refusal c ≡ 0
   unfolding answer
   done-passed e = sym (ap (λ a. a .number) (y .answered)) ∙ e
 
-  passed-returned : refusal c ≡ 0 → Returned
+  unfoldable pub passed-returned : refusal c ≡ 0 → Returned
   passed-returned ok =
       record {
         ask = plain c;
@@ -31,11 +31,11 @@ module _ (c : Call) (r : Answer) (out dirs : List ℕ) (y : Yields c r out dirs)
       }
 
   -- The plain call that it then is.
-  pub returned : r .number ≡ 0 → Returned
+  unfoldable pub returned : r .number ≡ 0 → Returned
   returned e = passed-returned (done-passed e)
 
   -- What it does to the sample buffer, done or not.
-  pub step : Step
+  unfoldable pub step : Step
   unfolding passed-returned
   step = record { found = c .samples; left = out; below = go (eqb (refusal c) 0) refl }
     where
