@@ -32,11 +32,12 @@ mutate:
 compare:
 	$(cargo_run) -p compare -- long
 
-# As many calls as docs/TESTING.md tells: ten million of V0, a hundred thousand streams of V2, pairs of lists, two hundred thousand
-# frames written. SEED picks others.
+# As many calls as docs/TESTING.md tells: ten million of V0, a hundred thousand frames in bands, as many streams of V2, pairs of
+# lists, two hundred thousand frames written. SEED picks others.
 SEED = 1
 compare-long:
-	$(cargo_run) -p compare -- v0 1_250_000 $(SEED)
+	$(cargo_run) -p compare -- v0 1_000_000 $(SEED)
+	$(cargo_run) -p compare -- bands 100_000 $(SEED)
 	$(cargo_run) -p compare -- lists 20_000 $(SEED)
 	$(cargo_run) -p compare -- v2 100_000 $(SEED)
 	$(cargo_run) -p compare -- write 200_000 $(SEED)

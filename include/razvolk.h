@@ -28,9 +28,11 @@ extern "C" {
  *   8  V2: the stream ended                                               that row and those before it are written
  *   9  a sample to be written is above 16,383                             every buffer as it was
  *  10  the stream or the offsets to be written do not fit their buffer    every buffer as it was
+ *  11  in bands: the band count or the block width is none that the frame can be cut by             every buffer as it was
+ *  12  in bands: the list is too short or too long, or a step is no block's number or is not ready  every buffer as it was
  *
- * 1 to 4 are tested in this order; then the stream decides. 9 and 10 are a writer's, which tests 1, 3, 9 and 10. `row` is the
- * row at fault of 5 to 8, else 0. Samples and map bytes from N on never change. */
+ * 1 to 4 are tested in this order, then in bands 11 and 12; then the stream decides. 9 and 10 are a writer's, which tests 1, 3, 9
+ * and 10. `row` is the row at fault of 5 to 8, else 0. Samples and map bytes from N on never change. */
 typedef struct {
     uint32_t number;
     uint32_t row;
@@ -68,6 +70,25 @@ razvolk_answer razvolk_decode_v0(const uint8_t *src, size_t src_len, const uint3
 razvolk_answer razvolk_decode_v0_map(const uint8_t *src, size_t src_len, const uint32_t *offsets, size_t offsets_len,
                                      size_t width, size_t height, uint16_t *samples, size_t samples_len, uint8_t *map,
                                      size_t map_len, uint8_t *scratch, size_t scratch_len);
+
+/* V0 in two phases, the second in bands: the same samples and scratch, whatever the sequence of the steps. There is no map.
+ *
+ * Rows 2 on are cut into 1 to RAZVOLK_MOST_BANDS(height) bands. With R rows from row 2 on, band k has those from k times R
+ * divided by bands up to but not (k + 1) times R divided by bands, rounded down. Columns are cut into blocks of block_width, a
+ * multiple of 16 and not 0; it may be above the width. A step is band times blocks in a band plus block, and is ready if it is
+ * not done, and the block to its left and the same block in the band above are. The list of RAZVOLK_STEPS(..) steps does each
+ * block once, each when it is ready; while blocks remain, one is.
+ * 0                samples and scratch as of razvolk_decode_v0
+ * 1, 3, 4, 11, 12  nothing is written, neither samples nor scratch */
+razvolk_answer razvolk_decode_v0_bands(const uint8_t *src, size_t src_len, const uint32_t *offsets, size_t offsets_len,
+                                       size_t width, size_t height, uint16_t *samples, size_t samples_len, uint8_t *scratch,
+                                       size_t scratch_len, size_t bands, size_t block_width, const uint32_t *steps,
+                                       size_t steps_len);
+
+/* The most bands that a frame of so many rows can be cut into, and how many steps a frame has that is cut so. */
+#define RAZVOLK_MOST_BANDS(height) ((height) < 6 ? (size_t)1 : (height) > 130 ? (size_t)64 : ((size_t)(height) - 2) / 2)
+#define RAZVOLK_STEPS(width, height, bands, block_width) \
+    ((width) > 0 && (height) > 2 ? (((size_t)(width) - 1) / (size_t)(block_width) + 1) * (size_t)(bands) : (size_t)0)
 
 /* V2. The last (width modulo 16) samples of a row are not written: they keep what the buffer held, and later rows may build on
  * them.

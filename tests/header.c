@@ -92,6 +92,28 @@ static void v0(void) {
     expect(answer.number == 4 && answer.row == 0, "no scratch for a frame of 3 rows is refused by 4");
 }
 
+static void v0_bands(void) {
+    static const uint32_t steps[1] = {0};
+    razvolk_answer answer;
+    before();
+    done(razvolk_decode_v0_bands(stream, 12, offsets, 3, 2, 3, samples, 7, scratch, 2, 1, 16, steps, 1), false, true,
+         "decode_v0_bands");
+    before();
+    answer = razvolk_decode_v0_bands(stream, 12, offsets, 3, 2, 3, samples, 7, scratch, 2, 2, 16, steps, 1);
+    expect(answer.number == 11 && answer.row == 0, "two bands of one row are refused by 11");
+    answer = razvolk_decode_v0_bands(stream, 12, offsets, 3, 2, 3, samples, 7, scratch, 2, 1, 8, steps, 1);
+    expect(answer.number == 11 && answer.row == 0, "blocks of 8 columns are refused by 11");
+    answer = razvolk_decode_v0_bands(stream, 12, offsets, 3, 2, 3, samples, 7, scratch, 2, 1, 16, steps, 0);
+    expect(answer.number == 12 && answer.row == 0, "no steps for a frame of 3 rows are refused by 12");
+    expect(samples[4] == 11 && scratch[0] == 9, "and nothing is written");
+    expect(RAZVOLK_MOST_BANDS(0) == 1 && RAZVOLK_MOST_BANDS(5) == 1 && RAZVOLK_MOST_BANDS(6) == 2 &&
+               RAZVOLK_MOST_BANDS(129) == 63 && RAZVOLK_MOST_BANDS(130) == 64 && RAZVOLK_MOST_BANDS(16384) == 64,
+           "RAZVOLK_MOST_BANDS");
+    expect(RAZVOLK_STEPS(33, 9, 3, 16) == 9 && RAZVOLK_STEPS(32, 9, 3, SIZE_MAX - 15) == 3 && RAZVOLK_STEPS(0, 9, 1, 16) == 0 &&
+               RAZVOLK_STEPS(33, 2, 1, 16) == 0,
+           "RAZVOLK_STEPS");
+}
+
 static void v2(void) {
     const size_t n = 646 * 436;
     static const uint8_t zeros[16] = {0};
@@ -166,6 +188,7 @@ int main(void) {
     reader();
     v0_reference();
     v0();
+    v0_bands();
     v2();
     planes();
     write_v0();

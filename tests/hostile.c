@@ -1,8 +1,8 @@
 /* Calls every decoder with streams that are random, written or damaged, with right and with short buffers, and holds it to what
- * can be told without a second decoder: the refusal among 1 to 4, what each answer leaves, that the entries of one decoder and
- * both V0 decoders agree, and that a sample marked 0 is the same over any old samples. Calls the writer with any samples, sizes
- * and buffers, and holds it to its refusal, to the length that is worked out apart, and to the decoders, which must give the
- * samples back.
+ * can be told without a second decoder: the refusal among 1 to 4, 11 and 12, what each answer leaves, that the entries of one
+ * decoder and all V0 decoders agree, and that a sample marked 0 is the same over any old samples. Calls the writer with any
+ * samples, sizes and buffers, and holds it to its refusal, to the length that is worked out apart, and to the decoders, which
+ * must give the samples back.
  *
  *     hostile [pages|heap [COUNT[s] [SEED]]]      COUNT rounds, or COUNT seconds; by itself: pages, 300 rounds
  *
@@ -20,7 +20,7 @@
 #include <unistd.h>
 
 /* The highest number that is answered. */
-#define MOST_NUMBER 10
+#define MOST_NUMBER 12
 
 static bool heap = false;
 static unsigned long rounds = 0, calls = 0, numbers[MOST_NUMBER + 1];
@@ -109,9 +109,40 @@ typedef struct {
     slice src, offsets;
     size_t width, height;
     size_t samples, map, scratch; /* how many are lent */
+    size_t bands, block_width;    /* how the frame is cut for the decoder in bands */
+    slice steps;
 } ask;
 
 static size_t cells(const ask *a) { return a->width * a->height; }
+
+/* The most bands, and how many blocks each has, by the words of the rules. */
+static size_t most_bands(const ask *a) {
+    size_t half = a->height > 2 ? (a->height - 2) / 2 : 0;
+    return half < 1 ? 1 : half > 64 ? 64 : half;
+}
+
+static size_t blocks_in_band(const ask *a) {
+    return a->width > 0 && a->height > 2 ? (a->width - 1) / a->block_width + 1 : 0;
+}
+
+/* Refusal 11 or 12 of a frame within the limits, or 0. What is done is kept step by step. */
+static uint32_t refusal_of_cut(const ask *a) {
+    static bool done[64 * 1024];
+    if (a->bands < 1 || a->bands > most_bands(a) || a->block_width < 1 || a->block_width % 16 != 0)
+        return 11;
+    size_t blocks = blocks_in_band(a), count = a->bands * blocks;
+    if (a->steps.bytes / 4 != count)
+        return 12;
+    memset(done, 0, count);
+    for (size_t i = 0; i < count; i++) {
+        uint32_t step;
+        memcpy(&step, a->steps.data + 4 * i, 4);
+        if (step >= count || done[step] || (step % blocks > 0 && !done[step - 1]) || (step >= blocks && !done[step - blocks]))
+            return 12;
+        done[step] = true;
+    }
+    return 0;
+}
 
 /* The refusal among 1 to 4, or 0. */
 static uint32_t refusal(const ask *a, bool with_map, bool with_scratch) {
@@ -216,7 +247,7 @@ static void any_bytes(size_t len) {
 }
 
 static ask any_v0(void) {
-    ask a = {false, {0}, {0}, below(70), below(12), 0, 0, 0};
+    ask a = {false, {0}, {0}, below(70), below(12), 0, 0, 0, 0, 0, {0}};
     switch (below(40)) {
     case 0:
         a.width = 16384, a.height = below(3);
@@ -229,6 +260,9 @@ static ask any_v0(void) {
         break;
     case 3:
         a.height = SIZE_MAX - below(2);
+        break;
+    case 4:
+        a.height = below(300);
         break;
     }
     any_bytes(below(4) == 0 ? 0 : below(4096));
@@ -246,7 +280,7 @@ static ask any_v0(void) {
 }
 
 static ask any_v2(void) {
-    ask a = {true, {0}, {0}, 646 + below(40), 436 + below(4), 0, 0, 0};
+    ask a = {true, {0}, {0}, 646 + below(40), 436 + below(4), 0, 0, 0, 0, 0, {0}};
     if (below(8) == 0)
         any_bytes(below(4096));
     else
@@ -282,6 +316,56 @@ static void any_lengths(ask *a) {
     }
 }
 
+/* A band count and a block width that fit, and a good list: how many steps it has. */
+static uint32_t list[64 * 1024 + 1];
+
+static size_t good_steps(ask *a) {
+    size_t progress[64] = {0}, count = 0;
+    bool large = a->width > 16384 || a->height > 16384;
+    a->bands = below(3) == 0 ? most_bands(a) : 1 + below(most_bands(a));
+    a->block_width = below(3) == 0 ? 16 : below(8) == 0 ? SIZE_MAX - 15 : 16 * (1 + below(6));
+    size_t blocks = large ? 0 : blocks_in_band(a);
+    while (count < a->bands * blocks) {
+        size_t band = below(a->bands); /* from here down, the first band whose next block is ready; around, if there is none */
+        while (progress[band] == blocks || (band > 0 && progress[band] == progress[band - 1]))
+            band = (band + 1) % a->bands;
+        list[count++] = (uint32_t)(band * blocks + progress[band]++);
+    }
+    return count;
+}
+
+/* A band count, a block width and a list of steps: mostly ones that fit. */
+static void any_cut(ask *a) {
+    size_t count = good_steps(a);
+    size_t one = count > 0 ? below(count) : 0, other = count > 0 ? below(count) : 0;
+    uint32_t kept = list[one];
+    switch (below(24)) {
+    case 0:
+        count = one;
+        break;
+    case 1:
+        list[count++] = (uint32_t)other;
+        break;
+    case 2:
+        list[one] = list[other];
+        break;
+    case 3:
+        list[one] = (uint32_t)(below(2) == 0 ? count + below(3) : number());
+        break;
+    case 4:
+    case 5:
+        list[one] = list[other], list[other] = kept;
+        break;
+    case 6:
+        a->bands = below(2) == 0 ? below(70) : below(2) == 0 ? most_bands(a) + 1 : SIZE_MAX - below(70);
+        break;
+    case 7:
+        a->block_width = below(2) == 0 ? below(70) : SIZE_MAX - below(70);
+        break;
+    }
+    a->steps = copy(list, 4 * count);
+}
+
 /* ---- The decoders' entries. */
 
 typedef struct {
@@ -291,11 +375,11 @@ typedef struct {
 
 /* Slices as C hands them over. */
 #define BYTES(lent) (lent).data, (lent).bytes
-#define OFFSETS(lent) (const uint32_t *)(const void *)(lent).data, (lent).bytes / 4
+#define WORDS(lent) (const uint32_t *)(const void *)(lent).data, (lent).bytes / 4
 #define SAMPLES(lent) (uint16_t *)(void *)(lent).data, (lent).bytes / 2
 
 /* What V0's and V2's entries are all asked. */
-#define V0(a) BYTES((a)->src), OFFSETS((a)->offsets), (a)->width, (a)->height
+#define V0(a) BYTES((a)->src), WORDS((a)->offsets), (a)->width, (a)->height
 #define V2(a) BYTES((a)->src), (a)->width, (a)->height
 
 static razvolk_answer direct(const ask *a, const outcome *o) {
@@ -314,6 +398,10 @@ static razvolk_answer two_phase_map(const ask *a, const outcome *o) {
     return razvolk_decode_v0_map(V0(a), SAMPLES(o->samples), BYTES(o->map), BYTES(o->scratch));
 }
 
+static razvolk_answer bands(const ask *a, const outcome *o) {
+    return razvolk_decode_v0_bands(V0(a), SAMPLES(o->samples), BYTES(o->scratch), a->bands, a->block_width, WORDS(a->steps));
+}
+
 static razvolk_answer v2(const ask *a, const outcome *o) {
     return razvolk_decode_v2(V2(a), SAMPLES(o->samples));
 }
@@ -324,17 +412,18 @@ static razvolk_answer v2_map(const ask *a, const outcome *o) {
 
 /* An entry: of which version, what it is lent besides samples, and how it is called. A new decoder is a row here. */
 typedef struct {
-    bool v2, with_map, with_scratch;
+    bool v2, with_map, with_scratch, with_steps;
     razvolk_answer (*call)(const ask *, const outcome *);
 } entry;
 
 static const entry entries[] = {
-    {false, false, false, direct},
-    {false, true, false, direct_map},
-    {false, false, true, two_phase},
-    {false, true, true, two_phase_map},
-    {true, false, false, v2},
-    {true, true, false, v2_map},
+    {false, false, false, false, direct},
+    {false, true, false, false, direct_map},
+    {false, false, true, false, two_phase},
+    {false, true, true, false, two_phase_map},
+    {false, false, true, true, bands},
+    {true, false, false, false, v2},
+    {true, true, false, false, v2_map},
 };
 static const entry *const entries_end = entries + sizeof entries / sizeof *entries;
 
@@ -352,6 +441,8 @@ static void check_bytes(slice lent, size_t from, const char *what) {
 /* Calls an entry over old samples, and checks what it answers and leaves. */
 static outcome run(const ask *a, const entry *e, const uint8_t *old) {
     uint32_t refused = refusal(a, e->with_map, e->with_scratch);
+    if (refused == 0 && e->with_steps)
+        refused = refusal_of_cut(a);
     size_t n = refused == 0 ? cells(a) : 0, directions = RAZVOLK_SCRATCH(a->width, a->height);
     size_t marks = refused == 0 && e->with_map ? n : 0, scratched = refused == 0 && e->with_scratch ? directions : 0;
     outcome out = {{0, 0}, copy(old, 2 * a->samples), lend(a->map), lend(a->scratch)};
@@ -363,7 +454,7 @@ static outcome run(const ask *a, const entry *e, const uint8_t *old) {
     expect(out.answer.number <= MOST_NUMBER, "the answer is a number of the list");
     numbers[out.answer.number]++;
     if (refused > 0 || !a->v2)
-        expect(out.answer.number == refused && out.answer.row == 0, "the refusal among 1 to 4");
+        expect(out.answer.number == refused && out.answer.row == 0, "the refusal among 1 to 4, 11 and 12");
     else
         expect(out.answer.number == 0 ? out.answer.row == 0 : begun(out.answer) && out.answer.row < a->height,
                "V2 answers 0 or 5 to 8, with a row of the frame");
@@ -389,7 +480,7 @@ static void play(const ask *a) {
     const entry *marked = entries;
     while (marked->v2 != a->v2 || !marked->with_map)
         marked++;
-    outcome first = run(a, marked, old.data);
+    outcome first = run(a, marked, old.data), phased = {{1, 0}, {0}, {0}, {0}};
     for (const entry *e = entries; e < entries_end; e++) {
         if (e->v2 != a->v2)
             continue;
@@ -400,7 +491,14 @@ static void play(const ask *a) {
             if (e->with_map)
                 expect(memcmp(next.map.data, first.map.data, first.map.bytes) == 0, "maps agree");
         }
-        end(next);
+        if (!e->with_scratch || phased.answer.number == 0) {
+            if (e->with_scratch && next.answer.number == 0)
+                expect(memcmp(next.scratch.data, phased.scratch.data, phased.scratch.bytes) == 0, "scratch agrees");
+            end(next);
+        } else {
+            end(phased);
+            phased = next;
+        }
     }
     if (begun(first.answer)) {
         outcome over = run(a, marked, other.data);
@@ -412,6 +510,7 @@ static void play(const ask *a) {
         }
         end(over);
     }
+    end(phased);
     end(first);
     give_back(old);
     give_back(other);
@@ -421,11 +520,14 @@ static void play(const ask *a) {
 static void play_decoders(void) {
     ask a = rounds % 8 == 7 ? any_v2() : any_v0();
     any_lengths(&a);
+    any_cut(&a);
     close_for_writing(a.src);
     close_for_writing(a.offsets);
+    close_for_writing(a.steps);
     play(&a);
     give_back(a.src);
     give_back(a.offsets);
+    give_back(a.steps);
 }
 
 /* The reader, in any state. */
@@ -594,7 +696,8 @@ static to_write any_frame(void) {
 /* What was written gives the samples back by each V0 entry, and no map byte is 1. */
 static void decodes_back(const to_write *w) {
     size_t n = w->width * w->height;
-    ask a = {false, w->stream, w->offsets, w->width, w->height, n, n, RAZVOLK_SCRATCH(w->width, w->height)};
+    ask a = {false, w->stream, w->offsets, w->width, w->height, n, n, RAZVOLK_SCRATCH(w->width, w->height), 0, 0, {0}};
+    a.steps = copy(list, 4 * good_steps(&a));
     slice old = lend(2 * n);
     scatter(old.data, old.bytes);
     for (const entry *e = entries; e < entries_end; e++) {
@@ -607,6 +710,7 @@ static void decodes_back(const to_write *w) {
             expect(out.map.data[i] == 0, "what is written decodes with no map byte 1");
         end(out);
     }
+    give_back(a.steps);
     give_back(old);
 }
 

@@ -48,8 +48,10 @@ impl Written {
 /// | 8 | V2: the stream ended | that row and those before it are written |
 /// | 9 | a sample to be written is above 16,383 | every buffer as it was |
 /// | 10 | the stream or the offsets to be written do not fit their buffer | every buffer as it was |
+/// | 11 | in bands: the band count or the block width is none that the frame can be cut by | every buffer as it was |
+/// | 12 | in bands: the list is too short or too long, or a step is no block's number or is not ready | every buffer as it was |
 ///
-/// A decoder tests 1 to 4 in this order, a writer 1, 3, 9 and 10. After 5 to 8 the map describes the samples as they are left; the row in which the stream
+/// A decoder tests 1 to 4 in this order, in bands then 11 and 12, a writer 1, 3, 9 and 10. After 5 to 8 the map describes the samples as they are left; the row in which the stream
 /// ended has ones in place of the missing bits.
 ///
 /// ```
@@ -92,6 +94,8 @@ impl fmt::Display for Refusal {
             8 => write!(f, "the stream ends in row {row}"),
             9 => write!(f, "a sample is above 16,383"),
             10 => write!(f, "the buffer for the stream or the offsets is too short"),
+            11 => write!(f, "the frame can't be cut into so many bands, or into blocks of that width"),
+            12 => write!(f, "the steps don't do each block of the frame once, each when it is ready"),
             _ => write!(f, "refusal {number} in row {row}"),
         }
     }
@@ -105,9 +109,9 @@ mod tests {
 
     #[test]
     fn each_refusal_has_a_message_of_its_own() {
-        let texts: Vec<String> = (1..=11).map(|number| Refusal { number, row: 7 }.to_string()).collect();
+        let texts: Vec<String> = (1..=13).map(|number| Refusal { number, row: 7 }.to_string()).collect();
         for (i, text) in texts.iter().enumerate() {
-            assert_eq!(text.contains("row 7"), matches!(i + 1, 5..=8 | 11), "{text}");
+            assert_eq!(text.contains("row 7"), matches!(i + 1, 5..=8 | 13), "{text}");
             assert!(!texts[..i].contains(text), "{text}");
         }
         let error: Box<dyn error::Error> = Box::new(Refusal { number: 8, row: 435 });

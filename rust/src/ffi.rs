@@ -56,6 +56,9 @@ exports! {
     fn razvolk_decode_v0_map(
         src: &[u8], offsets: &[u32], width: usize, height: usize, samples: &mut [u16], map: &mut [u8],
         scratch: &mut [u8]) -> Answer;
+    fn razvolk_decode_v0_bands(
+        src: &[u8], offsets: &[u32], width: usize, height: usize, samples: &mut [u16], scratch: &mut [u8], bands: usize,
+        block_width: usize, steps: &[u32]) -> Answer;
     fn razvolk_decode_v2(src: &[u8], width: usize, height: usize, samples: &mut [u16]) -> Answer;
     fn razvolk_decode_v2_map(
         src: &[u8], width: usize, height: usize, samples: &mut [u16], map: &mut [u8]) -> Answer;

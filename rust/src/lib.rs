@@ -23,6 +23,7 @@
 #![deny(unsafe_code)]
 
 mod answer;
+mod bands;
 pub mod bits;
 mod decoder;
 #[allow(unsafe_code)]
@@ -35,6 +36,7 @@ mod v2;
 mod write;
 
 pub use answer::Refusal;
+pub use bands::{Bands, decode_v0_bands};
 pub use decoder::{Decoder, MAX_SIDE};
 pub use marks::Marks;
 pub use ph1bits::Ph1Bits;

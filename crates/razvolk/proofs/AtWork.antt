@@ -16,10 +16,13 @@ use Rattle.rules.specs.Frame as Frame
 use Rattle.rules.specs.V0 as V0
 use Rattle.rules.specs.Phases as Phases
 use Rattle.rules.specs.Map as Map
+use Rattle.bands.specs.Call as Bands
+use Rattle.bands.proofs.Lists as Bands-lists
 use Rattle.rules.proofs.Cells.{nil, more}
 use Rattle.rules.proofs.Isolation.{Calls, start, call, Samples, Same, is-direct, position-of, amount-of}
-use Rattle.samsung.proofs.Isolation.{returned}
-use Rattle.razvolk.proofs.Isolation.{Export, entry, exported, step, isolation}
+use Rattle.samsung.proofs.Isolation.{returned, ended}
+use Rattle.samsung.proofs.Isolation as Entries
+use Rattle.razvolk.proofs.Isolation.{Export, Banded, Any, entry, exported, plain, in-bands, step, last, last-in-bands, final, isolation}
 use Rattle.razvolk.proofs.Isolation as Exports
 
 -- ── A call for every input ──
@@ -104,6 +107,20 @@ module _ (s offsets : List ℕ) (w h : ℕ) (samples : List ℕ) where
         learnt = record { answered = refl; samples = refl; map = refl; scratch = refl };
       })
 
+  -- In bands: by every cut and list of steps.
+  abbrev in-bands-asked : List ℕ → ℕ → ℕ → List ℕ → Bands.Call
+  in-bands-asked scratch bands block-width steps = Bands.call s offsets w h samples scratch bands block-width steps
+
+  abbrev pub in-bands-call : List ℕ → ℕ → ℕ → List ℕ → Banded
+  in-bands-call scratch bands block-width steps =
+      record {
+        κs = ([], ([], ([], ([], ([], tt)))));
+        args = (slice s, (slice offsets, (w, (h, (slice samples, (slice scratch, (bands, (block-width, (slice steps, tt)))))))));
+        result = Bands.answer (in-bands-asked scratch bands block-width steps);
+        exit = (slice s, (slice offsets, (w, (h, (slice (Bands.samples-after (in-bands-asked scratch bands block-width steps)), (slice (Bands.scratch-after (in-bands-asked scratch bands block-width steps)), (bands, (block-width, (slice steps, tt)))))))));
+        learnt = record { answered = refl; samples = refl; scratch = refl };
+      }
+
   -- They ask and find what they are given.
   pub direct-finds : (exported direct-call .ask ≡ direct-ask) × (exported direct-call .found ≡ buffers samples none none)
   unfolding returned entry
@@ -129,10 +146,23 @@ module _ (s offsets : List ℕ) (w h : ℕ) (samples : List ℕ) where
   unfolding returned entry
   v2-map-finds m = (refl, refl)
 
+  pub in-bands-finds : (scratch : List ℕ) (k n : ℕ) (steps : List ℕ)
+      → (step (in-bands (in-bands-call scratch k n steps)) .found ≡ samples)
+      × (step (in-bands (in-bands-call scratch k n steps)) .left ≡ Bands.samples-after (in-bands-asked scratch k n steps))
+  unfolding step Entries.step Bands-lists.step
+  in-bands-finds scratch k n steps = (refl, refl)
+
+  -- At a list's end, done, it is the two-phase call.
+  pub in-bands-ends : (scratch : List ℕ) (k n : ℕ) (steps : List ℕ) (done : in-bands-call scratch k n steps .result .number ≡ 0)
+      → (final (last-in-bands (in-bands-call scratch k n steps) done) .ask ≡ two-phase-ask)
+      × (final (last-in-bands (in-bands-call scratch k n steps) done) .found ≡ buffers samples none (some scratch))
+  unfolding final ended Bands-lists.returned Bands-lists.passed-returned
+  in-bands-ends scratch k n steps done = (refl, refl)
+
 -- ── A list, and one call more ──
 
 -- After every list of calls each call may follow that is lent the first k samples of the buffer as it is now; the others stay.
-pub one-more : {b x : List ℕ} → Calls step b x → (k : ℕ) (c : Export) → exported c .found .samples ≡ take k x → Calls step b (exported c .left .samples ++ drop k x)
+pub one-more : {b x : List ℕ} → Calls step b x → (k : ℕ) (c : Any) → step c .found ≡ take k x → Calls step b (step c .left ++ drop k x)
 one-more {x = x} cs k c e = call cs c (drop k x) (sym (rw e (take-append-drop k x)))
 
 -- ── Document 01's frame of 2 by 2 ──
@@ -161,9 +191,9 @@ two-by-two-marks = (refl, (refl, refl))
 module _ (b b′ x y : List ℕ) (h : Samples b) (h′ : Samples b′) (cs : Calls step b x) (ds : Calls step b′ y)
     (old old′ rest rest′ : List ℕ) (four : length old ≡ 4) (four′ : length old′ ≡ 4) (e : x ≡ old ++ rest) (e′ : y ≡ old′ ++ rest′) where
   same : Same (exported (two-by-two old)) (exported (two-by-two old′))
-  unfolding returned entry
+  unfolding returned entry final ended
   same =
-      isolation b b′ x y h h′ cs ds (two-by-two old) (two-by-two old′) rest rest′ e e′
+      isolation b b′ x y h h′ cs ds (last (two-by-two old)) (last (two-by-two old′)) rest rest′ e e′
       (record { ask = refl; samples = four ∙ sym four′; scratch = refl; map = λ m n p q. absurd (Option·none-ne-some m p) })
       (inl (ap (λ a. a .number) (two-by-two-done old four))) (inl (ap (λ a. a .number) (two-by-two-done old′ four′)))
 
@@ -199,8 +229,8 @@ abbrev six-after-two : List ℕ
 six-after-two = exported in-phases-next .left .samples ++ drop 4 six-after-one
 
 pub two-calls : Calls step six six-after-two
-unfolding returned entry
-two-calls = one-more (one-more start 6 refused-first refl) 4 in-phases-next refl
+unfolding returned entry step Entries.step
+two-calls = one-more (one-more start 6 (plain refused-first) refl) 4 (plain in-phases-next) refl
 
 -- On a buffer of four zeros: nothing before.
 abbrev zeros : List ℕ

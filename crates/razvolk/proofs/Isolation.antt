@@ -1,8 +1,9 @@
 -- No earlier frame reaches a sample that is marked 0: the claim holds of the exports too. What an export's contract says of a call
 -- that has returned is what its entry's contract says of it, so each call of an export is a call of its entry.
-use Rattle.rules.proofs.Isolation.{Returned, Step, decodes}
+use mathlib.Core.Path.{_≡_}
+use Rattle.rules.proofs.Isolation.{Returned, Step}
 use Rattle.rules.proofs.Isolation as Rules
-use Rattle.samsung.proofs.Isolation.{Made, Call, returned}
+use Rattle.samsung.proofs.Isolation.{Made, Call, returned, ended}
 use Rattle.samsung.proofs.Isolation as Entries
 use Rattle.samsung.proofs.TwoPhase.{Paired, SameFrame, same-frame}
 use Rattle.razvolk.proofs.direct.razvolk_decode_v0_reference.Kinds as direct-kinds
@@ -21,6 +22,10 @@ use Rattle.razvolk.proofs.two_phase.razvolk_decode_v0_map.Kinds as two-
 use Rattle.razvolk.proofs.two_phase.razvolk_decode_v0_map.Reads as two-phase-map-reads
 use Rattle.razvolk.proofs.two_phase.razvolk_decode_v0_map.Statement as two-phase-map-stated
 use Rattle.razvolk.proofs.two_phase.razvolk_decode_v0_map.Met as two-phase-map-thm
+use Rattle.razvolk.proofs.in_bands.razvolk_decode_v0_bands.Kinds as bands-kinds
+use Rattle.razvolk.proofs.in_bands.razvolk_decode_v0_bands.Reads as bands-reads
+use Rattle.razvolk.proofs.in_bands.razvolk_decode_v0_bands.Statement as bands-stated
+use Rattle.razvolk.proofs.in_bands.razvolk_decode_v0_bands.Met as bands-thm
 use Rattle.razvolk.proofs.v2.razvolk_decode_v2.Kinds as v2-kinds
 use Rattle.razvolk.proofs.v2.razvolk_decode_v2.Reads as v2-reads
 use Rattle.razvolk.proofs.v2.razvolk_decode_v2.Statement as v2-stated
@@ -30,7 +35,7 @@ use Rattle.razvolk.proofs.v2.razvolk_decode_v2_map.Reads as v2-map-read
 use Rattle.razvolk.proofs.v2.razvolk_decode_v2_map.Statement as v2-map-stated
 use Rattle.razvolk.proofs.v2.razvolk_decode_v2_map.Met as v2-map-thm
 
--- A call of one of the six exported decoders.
+-- A call of one of the six exported decoders whose contracts are the plain rules.
 pub data Export : Type 0 where
   direct : Made direct-kinds.ps direct-kinds.r direct-reads.Learnt → Export
   direct-map : Made direct-map-kinds.ps direct-map-kinds.r direct-map-reads.Learnt → Export
@@ -48,19 +53,41 @@ entry (two-phase-map c) = Entries.two-phase-map (record { κs = c .κs; args = c
 entry (v2 c) = Entries.v2 (record { κs = c .κs; args = c .args; result = c .result; exit = c .exit; learnt = c .learnt })
 entry (v2-map c) = Entries.v2-map (record { κs = c .κs; args = c .args; result = c .result; exit = c .exit; learnt = c .learnt })
 
--- What it asked, found, answered and left, and what it does to the sample buffer.
+-- What it asked, found, answered and left.
 abbrev pub exported : Export → Returned
 exported c = returned (entry c)
 
-abbrev pub step : Export → Step
-step c = decodes (exported c)
+-- A call of the export in bands, and the same call of its entry.
+abbrev pub Banded : Type 0
+Banded = Made bands-kinds.ps bands-kinds.r bands-reads.Learnt
+
+abbrev pub banded : Banded → Entries.Banded
+banded c = record { κs = c .κs; args = c .args; result = c .result; exit = c .exit; learnt = c .learnt }
+
+-- A call of one of the seven, and what it does to the sample buffer.
+pub data Any : Type 0 where
+  plain : Export → Any
+  in-bands : Banded → Any
+
+unfoldable pub step : Any → Step
+step (plain c) = Entries.step (Entries.plain (entry c))
+step (in-bands c) = Entries.step (Entries.in-bands (banded c))
+
+-- A last call: of the plain ones any, in bands one that is done.
+pub data Final : Type 0 where
+  last : Export → Final
+  last-in-bands : (c : Banded) → c .result .number ≡ 0 → Final
+
+unfoldable pub final : Final → Returned
+final (last c) = ended (Entries.last (entry c))
+final (last-in-bands c e) = ended (Entries.last-in-bands (banded c) e)
 
 -- The claim of `samsung`, for lists of calls of the exports.
 abbrev pub Isolation : Type 0
-Isolation = Rules.Isolation step exported
+Isolation = Rules.Isolation step final
 
 pub isolation : Isolation
-isolation = Rules.isolation step exported
+isolation = Rules.isolation step final
 
 -- Two-phase equals direct, of the exports: called alike, with scratch long enough, they give the same answer, samples and marks.
 abbrev pub TwoPhase : Type 0
@@ -75,6 +102,7 @@ pub record OfTheCode (M : Type 1) : Type 2 where
   pub decode-v0-reference-map : direct-map-stated.statement M
   pub decode-v0 : two-phase-stated.statement M
   pub decode-v0-map : two-phase-map-stated.statement M
+  pub decode-v0-bands : bands-stated.statement M
   pub decode-v2 : v2-stated.statement M
   pub decode-v2-map : v2-map-stated.statement M
   pub isolation : Isolation
@@ -87,6 +115,7 @@ of-the-code =
       decode-v0-reference-map = direct-map-thm.met;
       decode-v0 = two-phase-thm.met;
       decode-v0-map = two-phase-map-thm.met;
+      decode-v0-bands = bands-thm.met;
       decode-v2 = v2-thm.met;
       decode-v2-map = v2-map-thm.met;
       isolation = isolation;

@@ -40,6 +40,12 @@ impl Answer {
     // The writer: the buffer for the stream or for the offsets is too short.
     pub const SHORT_OUTPUT: u32 = 10;
 
+    // In bands: a number of bands or a block width that the frame can't be cut by.
+    pub const BAD_CUT: u32 = 11;
+
+    // In bands: the list is too short or too long, or a step is no block's number or isn't ready.
+    pub const BAD_STEPS: u32 = 12;
+
     pub fn done() -> Answer
         ensures { λ r. ⌜ r ≡ done ⌝ }
     {

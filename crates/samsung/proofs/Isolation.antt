@@ -1,4 +1,4 @@
--- No earlier frame reaches a sample that is marked 0: the claim of the six entry points.
+-- No earlier frame reaches a sample that is marked 0: the claim of the seven entry points.
 --
 -- Promised. Take every two lists of calls of the entry points, of any decoders, with or without a map, refused ones among them,
 -- each list on one sample buffer: a call is lent the buffer, or the part of it that starts at its first sample, as the call before
@@ -7,11 +7,14 @@
 -- map that either is lent are the rules' marks, which stream, offsets and size alone set, so they are equal too; (c) every one of
 -- the first N samples that is marked 0 is equal; (d) in V0 a sample marked 1 is the sample that its call found at one position
 -- plus an amount, modulo 65,536, both set by stream, offsets and size alone, and the position is below N.
+-- A call in bands that is done counts as the two-phase call that it equals, by whatever cut and list of steps; the rules' marks are
+-- that call's.
 -- Free. How long the lists are and what came before; what the buffers first held; what maps and scratch hold at entry.
--- Not promised. Samples marked 1 in V2, what lies past N, and calls that end with 1 to 4, which change nothing.
+-- Not promised. Samples marked 1 in V2, what lies past N, and calls that end with 1 to 4, 11 or 12, which change nothing.
 --
 -- A call that has returned is what was handed in, what came out, and what the function's own contract, as `src/` states it, says of
 -- them (`Learnt`); that the code meets those contracts is each function's theorem `met`, and `of-the-code` holds all of it together.
+use mathlib.Core.Path.{_≡_}
 use mathlib.Core.List.{List, []}
 use mathlib.Core.Option.{none, some}
 use Prim.Native.Nat.{ℕ}
@@ -39,6 +42,12 @@ use Rattle.samsung.proofs.two_phase.decode_v0_map.Kinds as phases-map-k
 use Rattle.samsung.proofs.two_phase.decode_v0_map.Reads as phases-map-reads
 use Rattle.samsung.proofs.two_phase.decode_v0_map.Statement as phases-map-stated
 use Rattle.samsung.proofs.two_phase.decode_v0_map.Met as phases-map-thm
+use Rattle.bands.specs.Call as Bands
+use Rattle.bands.proofs.Lists as Bands-lists
+use Rattle.samsung.proofs.in_bands.decode_v0_bands.Kinds as bands-kinds
+use Rattle.samsung.proofs.in_bands.decode_v0_bands.Reads as bands-reads
+use Rattle.samsung.proofs.in_bands.decode_v0_bands.Statement as bands-stated
+use Rattle.samsung.proofs.in_bands.decode_v0_bands.Met as bands-thm
 use Rattle.samsung.proofs.v2_entries.decode_v2.Kinds as v2-kinds
 use Rattle.samsung.proofs.v2_entries.decode_v2.Reads as v2-reads
 use Rattle.samsung.proofs.v2_entries.decode_v2.Statement as v2-stated
@@ -58,7 +67,7 @@ pub record Made {n : ℕ} (ps : List (PK n)) (r : RK n) (Learnt : Out n ps r) : 
   pub exit : AtExit (endedOf n ps r) κs
   pub learnt : Learnt κs args result exit
 
--- A call of one of the six entry points.
+-- A call of one of the six entry points whose contracts are the plain rules.
 pub data Call : Type 0 where
   direct : Made direct-kinds.ps direct-kinds.r direct-reads.Learnt → Call
   direct-map : Made direct-map-kinds.ps direct-map-kinds.r direct-map-reads.Learnt → Call
@@ -119,16 +128,42 @@ returned (v2-map c) =
       yields = c .learnt;
     }
 
--- What it does to the sample buffer.
-abbrev pub step : Call → Step
-step c = decodes (returned c)
+-- A call of the entry point in bands: what it was handed, and what its contract says of it.
+abbrev pub Banded : Type 0
+Banded = Made bands-kinds.ps bands-kinds.r bands-reads.Learnt
+
+abbrev pub called : Banded → Bands.Call
+called c =
+    Bands.call (now (c .args .0)) (now (c .args .1 .0)) (c .args .1 .1 .0) (c .args .1 .1 .1 .0) (now (c .args .1 .1 .1 .1 .0))
+    (now (c .args .1 .1 .1 .1 .1 .0)) (c .args .1 .1 .1 .1 .1 .1 .0) (c .args .1 .1 .1 .1 .1 .1 .1 .0) (now (c .args .1 .1 .1 .1 .1 .1 .1 .1 .0))
+
+abbrev pub yielded : (c : Banded) → Bands.Yields (called c) (c .result) (now (c .exit .1 .1 .1 .1 .0)) (now (c .exit .1 .1 .1 .1 .1 .0))
+yielded c = c .learnt
+
+-- A call of one of the seven entry points, and what it does to the sample buffer.
+pub data Entry : Type 0 where
+  plain : Call → Entry
+  in-bands : Banded → Entry
+
+unfoldable pub step : Entry → Step
+step (plain c) = decodes (returned c)
+step (in-bands c) = Bands-lists.step (called c) (c .result) _ _ (yielded c)
+
+-- A last call: of the plain ones any, in bands one that is done.
+pub data Last : Type 0 where
+  last : Call → Last
+  last-in-bands : (c : Banded) → c .result .number ≡ 0 → Last
+
+unfoldable pub ended : Last → Returned
+ended (last c) = returned c
+ended (last-in-bands c e) = Bands-lists.returned (called c) (c .result) _ _ (yielded c) e
 
 -- The claim: of every two lists of calls of the entry points.
 abbrev pub Isolation : Type 0
-Isolation = Rules.Isolation step returned
+Isolation = Rules.Isolation step ended
 
 pub isolation : Isolation
-isolation = Rules.isolation step returned
+isolation = Rules.isolation step ended
 
 -- The claim, beside each entry point's theorem that its code meets the contract that the claim speaks of.
 pub record OfTheCode (M : Type 1) : Type 2 where
@@ -136,6 +171,7 @@ pub record OfTheCode (M : Type 1) : Type 2 where
   pub decode-v0-reference-map : direct-map-stated.statement M
   pub decode-v0 : phases-stated.statement M
   pub decode-v0-map : phases-map-stated.statement M
+  pub decode-v0-bands : bands-stated.statement M
   pub decode-v2 : v2-stated.statement M
   pub decode-v2-map : v2-map-stated.statement M
   pub claim : Isolation
@@ -147,6 +183,7 @@ of-the-code =
       decode-v0-reference-map = direct-map-thm.met;
       decode-v0 = phases-thm.met;
       decode-v0-map = phases-map-thm.met;
+      decode-v0-bands = bands-thm.met;
       decode-v2 = v2-thm.met;
       decode-v2-map = v2-map-thm.met;
       claim = isolation;

@@ -8,8 +8,8 @@ use Prim.Native.Nat.{ℕ, zero, suc, _+_, _-_, _*_, _≤_, _<_}
 use native.Mathlib.Omega.{arith}
 use native.Mathlib.Nat.{mul-le-mul-right}
 use native.Mathlib.Numerals.{add-one}
-use lib.ListN.{length, getD, take, drop, length-drop, drop-of-length-le}
-use lib.Seq.{drop-cons, drop-drop, getD-take, getD-drop, length-take-le, take-append-le, drop-append-le}
+use lib.ListN.{length, getD, take, drop, length-drop}
+use lib.Seq.{drop-cons, drop-drop, take-append-le, drop-append-le}
 use borrow.Author.Tests.{lt-ltb, le-ltb, ne-eqb}
 use Rattle.rules.specs.V0.{put, apply, order, blocks-in, rows-up, columns-back}
 use Rattle.rules.specs.Phases.{Stage, upward, late-predictor, predict-samples, predict-blocks, phase-two}
@@ -118,38 +118,44 @@ module _ (g : Stage ℕ) (w row col : ℕ) (up : Bool) (two : 2 ≤ row) (after 
 
 -- ── A row's blocks ──
 
-module _ (g : Stage ℕ) (w row n : ℕ) (ds : List ℕ) where
-  pub record Blocks (f₀ f : List ℕ) (k : ℕ) : Type 0 where
-    pub below : k ≤ n
+-- The blocks of a row from number `from` up to `to`; the row's direction bytes begin at `start`.
+module _ (g : Stage ℕ) (w row start from to : ℕ) (dirs : List ℕ) where
+  -- The direction bytes from block k on.
+  abbrev pub directions-from : ℕ → List ℕ
+  directions-from k = take (to - k) (drop (start + k) dirs)
+
+  pub record Part (f₀ f : List ℕ) (k : ℕ) : Type 0 where
     pub same-length : length f ≡ length f₀
-    pub cells-are : predict-blocks g w row (k * 16) (drop k ds) f ≡ predict-blocks g w row 0 ds f₀
+    pub cells-are : predict-blocks g w row (k * 16) (directions-from k) f ≡ predict-blocks g w row (from * 16) (directions-from from) f₀
 
-  pub blocks-begun : (f : List ℕ) → Blocks f f 0
-  blocks-begun f = record { below = omega arith; same-length = refl; cells-are = refl }
+  pub part-begun : (f : List ℕ) → Part f f from
+  part-begun f = record { same-length = refl; cells-are = refl }
 
-  pub blocks-on : (f₀ f f′ : List ℕ) (k d : ℕ) → k < n → length ds ≡ n → d ≡ getD ds k 0 → length f′ ≡ length f
-      → f′ ≡ predict-samples g w row (k * 16) (upward d) order f → Blocks f₀ f k → Blocks f₀ f′ (k + 1)
+  pub part-on : (f₀ f f′ : List ℕ) (k d : ℕ) → k < to → start + to ≤ length dirs → d ≡ getD dirs (start + k) 0 → length f′ ≡ length f
+      → f′ ≡ predict-samples g w row (k * 16) (upward d) order f → Part f₀ f k → Part f₀ f′ (k + 1)
   unfolding predict-blocks
-  blocks-on f₀ f f′ k d h all ed same q p =
-      record { below = omega arith; same-length = same ∙ p .same-length; cells-are = sym left ∙ p .cells-are }
+  part-on f₀ f f′ k d l lent ed same q p =
+      record { same-length = same ∙ p .same-length; cells-are = sym left ∙ p .cells-are }
     where
-      left : predict-blocks g w row (k * 16) (drop k ds) f ≡ predict-blocks g w row ((k + 1) * 16) (drop (k + 1) ds) f′
+      left : predict-blocks g w row (k * 16) (directions-from k) f ≡ predict-blocks g w row ((k + 1) * 16) (directions-from (k + 1)) f′
       left =
           let next : (k + 1) * 16 ≡ k * 16 + 16 = omega arith in
-          rw (next, add-one k, drop-cons ds k 0 (omega arith), ← ed, q)
+          let more : to - k ≡ suc (to - (k + 1)) = omega arith in
+          let at : start + (k + 1) ≡ suc (start + k) = omega arith in
+          rw (next, at, more, drop-cons dirs (start + k) 0 (omega arith), ← ed, q)
 
-  pub blocks-done : (f₀ f : List ℕ) (k : ℕ) → n ≤ k → length ds ≡ n → Blocks f₀ f k → f ≡ predict-blocks g w row 0 ds f₀
+  pub part-done : (f₀ f : List ℕ) (k : ℕ) → to ≤ k → Part f₀ f k → f ≡ predict-blocks g w row (from * 16) (directions-from from) f₀
   unfolding predict-blocks
-  blocks-done f₀ f k l all p =
-      let none : drop k ds ≡ [] = drop-of-length-le ds {i = k} (omega arith) in
-      rw none at (p .cells-are)
+  part-done f₀ f k l p = let none : to - k ≡ 0 = omega arith in rw none at (p .cells-are)
 
--- Byte k of a row's directions.
-pub direction-at : (dirs : List ℕ) (start n k : ℕ) → k < n → getD (take n (drop start dirs)) k 0 ≡ getD dirs (start + k) 0
-direction-at dirs start n k h = getD-take n (drop start dirs) k 0 h ∙ getD-drop start dirs k 0
-
-pub directions-of : (dirs : List ℕ) (start n : ℕ) → start + n ≤ length dirs → length (take n (drop start dirs)) ≡ n
-directions-of dirs start n h = length-take-le n (drop start dirs) (omega (arith, length-drop start dirs))
+-- From block 0 on it is the whole row.
+pub whole-row : (g : Stage ℕ) (w row start n : ℕ) (dirs f f₀ : List ℕ)
+    → f ≡ predict-blocks g w row (0 * 16) (take (n - 0) (drop (start + 0) dirs)) f₀
+    → f ≡ predict-blocks g w row 0 (take n (drop start dirs)) f₀
+whole-row g w row start n dirs f f₀ e =
+    let all : n - 0 ≡ n = omega arith in
+    let first : start + 0 ≡ start = omega arith in
+    rw (all, first) at e
 
 -- ── Rows ──
 

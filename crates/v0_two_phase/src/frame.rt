@@ -26,7 +26,7 @@ fn head_rows(height: usize) -> usize
 }
 
 // Rows 0 and 1, finished, and then phase one of the others: its residuals lie over what row 1 spilled.
-fn store_rows(
+pub fn store_rows(
     src: &[u8],
     offsets: &[u32],
     size: Size,

@@ -3,7 +3,7 @@
 ghost use mathlib.Core.Path.{_≡_};
 ghost use mathlib.Core.Bool.{true, false, cond};
 ghost use mathlib.Core.List.{[], _∷_};
-ghost use Prim.Native.Nat.{_+_, _-_, _%_, _≤_, _<_};
+ghost use Prim.Native.Nat.{_+_, _-_, _*_, _%_, _≤_, _<_};
 ghost use lib.Dec.{eqb};
 ghost use lib.ListN.{length, getD, take, drop};
 ghost use Rattle.rules.specs.V0.{order, blocks-in, sample-kind};
@@ -152,14 +152,21 @@ fn add_block(out: &mut [u16], w: usize, row: usize, col: usize, up: bool)
     add_inner(out, w, row, col, up);
 }
 
-// A row, whose directions begin at `start`.
-fn add_row(out: &mut [u16], dirs: &[u8], start: usize, w: usize, row: usize)
-    requires { ⌜ LateRow w row (now out) × (start + blocks-in w ≤ length (now dirs)) ⌝ }
-    ensures { λ _. ⌜ now (out .exit) ≡ predict-blocks sample-stage w row 0 (take (blocks-in w) (drop start (now (dirs .entry)))) (now (out .entry)) ⌝ }
+// The blocks of a row from number `from` up to but not `to`. The row's directions begin at `start`.
+pub fn add_part(
+    out: &mut [u16],
+    dirs: &[u8],
+    start: usize,
+    from: usize,
+    to: usize,
+    w: usize,
+    row: usize,
+)
+    requires { ⌜ LateRow w row (now out) × ((start + to ≤ length (now dirs)) × (to ≤ blocks-in w)) ⌝ }
+    ensures { λ _. ⌜ now (out .exit) ≡ predict-blocks sample-stage w row (from * 16) (take (to - from) (drop (start + from) (now (dirs .entry)))) (now (out .entry)) ⌝ }
 {
-    let blocks = (w + 15) / V0Row::BLOCK;
-    let mut k: usize = 0;
-    while k < blocks {
+    let mut k = from;
+    while k < to {
         add_block(out, w, row, k * V0Row::BLOCK, dirs[start + k] != 0);
         k += 1;
     }
@@ -175,7 +182,7 @@ pub fn add_rows(out: &mut [u16], dirs: &[u8], size: Size)
     let blocks = (w + 15) / V0Row::BLOCK;
     let mut r: usize = 0;
     while r + 2 < h {
-        add_row(out, dirs, r * blocks, w, r + 2);
+        add_part(out, dirs, r * blocks, 0, blocks, w, r + 2);
         r += 1;
     }
 }

@@ -1,8 +1,11 @@
 //! Who decodes a frame: the Rust, and each of Razvolk's entries, all into the same buffers.
 
 use crate::measure::Contender;
-use compare::call::{Answer, Ask, Decoder, Lent, razvolk_of};
+use compare::bands::Cut;
+use compare::call::{Answer, Ask, Decoder, Entry, Lent, razvolk_of};
+use razvolk::Bands;
 use std::cell::RefCell;
+use std::rc::Rc;
 use streams::{Frame, Version};
 
 /// The buffers that all contenders share. They are not cleared between runs.
@@ -38,21 +41,48 @@ fn rust(version: Version) -> &'static [(&'static str, Rust)] {
     }
 }
 
-/// The Rust's decoders of a frame, and Razvolk's entries. Frames that are refused are run, too.
+/// A name, and how the frame is cut for it.
+type Named = (&'static str, Cut);
+
+/// How an entry is run. The one in bands is, with eight bands, or as many as there can be, in blocks of 256 columns, in two
+/// sequences.
+fn runs(entry: &Entry, frame: &Frame) -> Vec<Named> {
+    let (count, block_width) = (Bands::most(frame.height).min(8), 256);
+    match Bands::new(frame.width, frame.height, count, block_width) {
+        Some(bands) if entry.decoder == Decoder::Bands => {
+            let cut = |steps| Cut { bands: count, block_width, steps };
+            vec![
+                ("decode_v0_bands, band by band", cut(bands.by_bands().collect())),
+                ("decode_v0_bands, by diagonals", cut(bands.by_diagonals().collect())),
+            ]
+        }
+        _ => vec![(entry.name, Cut::NONE)],
+    }
+}
+
+/// The Rust's decoders of a frame, and Razvolk's entries. Frames that are refused are run, too. The decoder in bands is compared
+/// with Razvolk's own in two phases.
 pub fn of<'a>(frame: &'a Frame, buffers: &'a RefCell<Buffers>) -> Vec<Contender<'a>> {
     let mut contenders = Vec::new();
     for (against, &(name, decode)) in rust(frame.version).iter().enumerate() {
         let run = move || decode(frame, &mut buffers.borrow_mut().samples).is_ok();
         contenders.push(Contender { name, against, run: Box::new(run) });
     }
-    for entry in razvolk_of(frame.version) {
-        let against = usize::from(entry.decoder == Decoder::TwoPhase);
-        let name = entry.name;
-        let run = move || {
-            let Buffers { samples, map, scratch } = &mut *buffers.borrow_mut();
-            entry.call(&Ask::of(frame), &mut Lent { samples, map, scratch }) == Answer::DONE
+    for entry in razvolk_of(frame.version).into_iter().map(Rc::new) {
+        let plain = contenders.iter().position(|contender| contender.name == "decode_v0");
+        let against = match entry.decoder {
+            Decoder::Bands => plain.unwrap_or(0),
+            decoder => usize::from(decoder == Decoder::TwoPhase),
         };
-        contenders.push(Contender { name, against, run: Box::new(run) });
+        for (name, cut) in runs(&entry, frame) {
+            let entry = Rc::clone(&entry);
+            let run = move || {
+                let Buffers { samples, map, scratch } = &mut *buffers.borrow_mut();
+                let ask = Ask { cut: &cut, ..Ask::of(frame) };
+                entry.call(&ask, &mut Lent { samples, map, scratch }) == Answer::DONE
+            };
+            contenders.push(Contender { name, against, run: Box::new(run) });
+        }
     }
     contenders
 }

@@ -1,24 +1,30 @@
 //! A call of a decoder, whichever it is: what is asked for, what is lent, and what is answered.
 
+use crate::bands::Cut;
 use std::fmt;
 use streams::{Frame, Version};
 
-/// How many numbers an answer may have: done, and refusals 1 to 8.
-pub const NUMBERS: usize = 9;
+/// How many numbers an answer may have: done, and refusals 1 to 12.
+pub const NUMBERS: usize = 13;
 
-/// What a call asks for. V2 has no offsets.
+/// The cut of a call that takes none.
+static UNCUT: Cut = Cut::NONE;
+
+/// What a call asks for. V2 has no offsets, and only the decoder in bands takes a cut.
 #[derive(Clone, Copy, Debug)]
 pub struct Ask<'a> {
     pub src: &'a [u8],
     pub offsets: &'a [u32],
     pub width: usize,
     pub height: usize,
+    pub cut: &'a Cut,
 }
 
 impl<'a> Ask<'a> {
+    /// A frame, not cut.
     pub fn of(frame: &'a Frame) -> Ask<'a> {
         let offsets = if frame.version == Version::V0 { &frame.offsets[..] } else { &[] };
-        Ask { src: &frame.stream, offsets, width: frame.width, height: frame.height }
+        Ask { src: &frame.stream, offsets, width: frame.width, height: frame.height, cut: &UNCUT }
     }
 
     /// How many samples the frame has.
@@ -46,14 +52,14 @@ pub struct Answer {
 impl Answer {
     pub const DONE: Answer = Answer { number: 0, row: 0 };
 
-    /// Refusals 1 to 4, which name no row.
+    /// Refusals 1 to 4, 11 and 12, which name no row.
     pub fn refused(number: u32) -> Answer {
         Answer { number, row: 0 }
     }
 
     /// Whether the stream was decoded, to its end or up to a refusal.
     pub fn is_decoded(self) -> bool {
-        !(1..=4).contains(&self.number)
+        matches!(self.number, 0 | 5..=8)
     }
 }
 
@@ -68,12 +74,18 @@ impl fmt::Display for Answer {
 pub enum Decoder {
     Direct,
     TwoPhase,
+    Bands,
     V2,
 }
 
 impl Decoder {
     pub fn version(self) -> Version {
         if self == Decoder::V2 { Version::V2 } else { Version::V0 }
+    }
+
+    /// Whether it decodes in two phases, with scratch.
+    pub fn in_phases(self) -> bool {
+        matches!(self, Decoder::TwoPhase | Decoder::Bands)
     }
 }
 
@@ -125,6 +137,21 @@ pub fn razvolk() -> Vec<Entry> {
         Entry::new("decode_v0_map", Decoder::TwoPhase, true, |a, l| {
             answer(razvolk::decode_v0_map(a.src, a.offsets, a.width, a.height, l.samples, l.map, l.scratch))
         }),
+        Entry::new("decode_v0_bands", Decoder::Bands, false, |a, l| {
+            let Cut { bands, block_width, steps } = a.cut;
+            let (samples, scratch) = (&mut *l.samples, &mut *l.scratch);
+            answer(razvolk::decode_v0_bands(
+                a.src,
+                a.offsets,
+                a.width,
+                a.height,
+                samples,
+                scratch,
+                *bands,
+                *block_width,
+                steps,
+            ))
+        }),
         Entry::new("decode_v2", Decoder::V2, false, |a, l| {
             answer(razvolk::decode_v2(a.src, a.width, a.height, l.samples))
         }),
@@ -137,6 +164,11 @@ pub fn razvolk() -> Vec<Entry> {
 /// Those of V0, or those of V2.
 pub fn razvolk_of(version: Version) -> Vec<Entry> {
     razvolk().into_iter().filter(|entry| entry.decoder.version() == version).collect()
+}
+
+/// Those that take a cut.
+pub fn razvolk_in_bands() -> Vec<Entry> {
+    razvolk().into_iter().filter(|entry| entry.decoder == Decoder::Bands).collect()
 }
 
 /// A difference that a comparison found, with what is needed to have it again.

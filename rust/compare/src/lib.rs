@@ -5,6 +5,7 @@
 //! `main` has the table of them. The models are decoders of their own, written from the rules: they tell what the Rust does
 //! not, and with a fault they must be found out.
 
+pub mod bands;
 pub mod call;
 mod faults;
 pub mod jobs;

@@ -2,6 +2,7 @@
 //! the same samples where the mark is 0; in V0 a sample marked 1 is the old value at one position plus an amount, and both are
 //! set by stream, offsets and size alone.
 
+use crate::bands::Cut;
 use crate::call::{Answer, Ask, Decoder, Difference, Entry, Lent, NUMBERS};
 use crate::v0::compare::{marks, rust};
 use crate::v2::model;
@@ -19,7 +20,7 @@ pub struct Seen {
     pub seed: u64,
     pub pairs: u64,
     pub calls: u64,
-    /// How many calls got number 0 to 8, in the lists' histories and as the last.
+    /// How many calls got number 0 to 12, in the lists' histories and as the last.
     pub before: [u64; NUMBERS],
     pub last: [u64; NUMBERS],
     /// Samples compared, those of V0 that are marked 1, and pairs in which only one of the last two was lent a map.
@@ -33,7 +34,7 @@ impl fmt::Display for Seen {
         let Seen { seed, pairs, calls, before, last, samples, origins, mixed } = self;
         writeln!(
             f,
-            "lists, seed {seed}: {calls} calls; answers 0 to 8 before the last: {before:?}, of the last: {last:?}"
+            "lists, seed {seed}: {calls} calls; answers 0 to 12 before the last: {before:?}, of the last: {last:?}"
         )?;
         writeln!(f, "lists: {samples} samples, {origins} of them the old value at a position plus an amount")?;
         write!(
@@ -50,11 +51,12 @@ enum Asked {
     V2(usize),
 }
 
-/// A call to come: an entry by number, and what is lent.
+/// A call to come: an entry by number, how the frame is cut for one in bands, and what is lent.
 #[derive(Clone)]
 struct Coming {
     entry: usize,
     asked: Asked,
+    cut: Cut,
     samples: usize,
     map: usize,
     scratch: usize,
@@ -80,7 +82,11 @@ impl Pool {
         Pool(streams.into_iter().map(|frame| (frame.clone(), marks(&frame))).collect())
     }
 
-    fn ask<'a>(&'a self, asked: &'a Asked) -> Ask<'a> {
+    fn ask<'a>(&'a self, coming: &'a Coming) -> Ask<'a> {
+        Ask { cut: &coming.cut, ..self.uncut(&coming.asked) }
+    }
+
+    fn uncut<'a>(&'a self, asked: &'a Asked) -> Ask<'a> {
         match asked {
             Asked::V0(frame) => Ask::of(frame),
             Asked::V2(i) => Ask::of(&self.0[*i].0),
@@ -104,10 +110,11 @@ fn asked(random: &mut Random, decoder: Decoder, pool: &Pool) -> Asked {
 /// A call with buffers that are long enough, for the whole buffer or a part of it.
 fn good(random: &mut Random, entries: &[Entry], entry: usize, pool: &Pool) -> Coming {
     let asked = asked(random, entries[entry].decoder, pool);
-    let ask = pool.ask(&asked);
+    let ask = pool.uncut(&asked);
+    let cut = Cut::fitting(entries[entry].decoder, random, ask.width, ask.height);
     let (n, scratch) = (ask.n(), razvolk::scratch_len(ask.width, ask.height));
     let samples = if random.below(2) == 0 { SAMPLES } else { n + random.index(SAMPLES - n + 1) };
-    Coming { entry, samples, map: n + random.index(9), scratch: scratch + random.index(9), asked }
+    Coming { entry, samples, map: n + random.index(9), scratch: scratch + random.index(9), asked, cut }
 }
 
 /// A call of a list's history, refused ones among them.
@@ -115,8 +122,12 @@ fn any(random: &mut Random, entries: &[Entry], pool: &Pool) -> Coming {
     let entry = random.index(entries.len());
     let mut coming = good(random, entries, entry, pool);
     if random.once_in(6) {
-        let n = pool.ask(&coming.asked).n();
+        let Ask { width, height, .. } = pool.uncut(&coming.asked);
+        let n = width * height;
         match random.below(4) {
+            _ if entries[entry].decoder == Decoder::Bands && random.below(2) == 0 => {
+                coming.cut = coming.cut.any_broken(random, width, height).1;
+            }
             0 => coming.samples = n.saturating_sub(1),
             1 => coming.map = n.saturating_sub(1),
             2 => coming.scratch = 0,
@@ -140,7 +151,7 @@ struct Returned {
 fn call(entries: &[Entry], coming: &Coming, buffer: &mut [u16], random: &mut Random, pool: &Pool) -> (Answer, Vec<u8>) {
     let (mut map, mut scratch) = (random.bytes(coming.map), random.bytes(coming.scratch));
     let mut lent = Lent { samples: &mut buffer[..coming.samples], map: &mut map, scratch: &mut scratch };
-    (entries[coming.entry].call(&pool.ask(&coming.asked), &mut lent), map)
+    (entries[coming.entry].call(&pool.ask(coming), &mut lent), map)
 }
 
 /// A list: a fresh buffer of any content, up to seven calls, and the last one.
@@ -195,7 +206,10 @@ fn pair(entries: &[Entry], random: &mut Random, pool: &Pool, seen: &mut Seen) ->
     let one = good(random, entries, entry, pool);
     // The other last call is of the same decoder, with or without a map.
     let same: Vec<usize> = (0..entries.len()).filter(|&e| entries[e].decoder == decoder).collect();
-    let other = Coming { entry: same[random.index(same.len())], ..one.clone() };
+    let mut other = Coming { entry: same[random.index(same.len())], ..one.clone() };
+    // One in bands may take another list: that makes no difference, either.
+    let Ask { width, height, .. } = pool.uncut(&one.asked);
+    other.cut = Cut::fitting(decoder, random, width, height);
     seen.mixed += u64::from(entries[one.entry].map != entries[other.entry].map);
     let returned = [list(entries, &one, random, pool, seen)?, list(entries, &other, random, pool, seen)?];
     let name = entries[one.entry].name;

@@ -1,7 +1,7 @@
 //! The comparisons with the Rust, as long as wanted. Each prints its seed, and how much was compared.
 
-use compare::call::{Difference, Entry, razvolk, razvolk_of};
-use compare::{jobs, lists, planes, reader, record, refusals, v0, v2, write};
+use compare::call::{Difference, Entry, razvolk, razvolk_in_bands, razvolk_of};
+use compare::{bands, jobs, lists, planes, reader, record, refusals, v0, v2, write};
 use std::fmt::Display;
 use std::path::Path;
 use std::process::ExitCode;
@@ -10,7 +10,7 @@ use streams::Version::{V0, V2};
 
 const USAGE: &str = "usage: compare quick [SEED]
        compare long [SEED]
-       compare reader|v0|v2|v2-full|refusals|lists|planes|write COUNT [SEED]
+       compare reader|v0|bands|v2|v2-full|refusals|lists|planes|write COUNT [SEED]
        compare record FILE           writes recorded calls of the Rust
        compare record-check FILE     finds them equal
        compare jobs FOLDER           writes the job program's cases
@@ -25,7 +25,7 @@ struct Comparison {
     run: fn(u64, u64) -> Result<String, Difference>,
 }
 
-const COMPARISONS: [Comparison; 8] = [
+const COMPARISONS: [Comparison; 9] = [
     Comparison {
         name: "reader",
         quick: 20_000_000,
@@ -37,6 +37,12 @@ const COMPARISONS: [Comparison; 8] = [
         quick: 60_000,
         long: 1_000_000,
         run: |seed, n| of(&razvolk_of(V0), |entries| v0::compare(entries, seed, n)),
+    },
+    Comparison {
+        name: "bands",
+        quick: 20_000,
+        long: 100_000,
+        run: |seed, n| of(&razvolk_in_bands(), |entries| bands::compare(entries, seed, n)),
     },
     Comparison {
         name: "v2",

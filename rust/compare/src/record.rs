@@ -66,7 +66,7 @@ impl File {
 
     /// One call, up to the seed; then what came of it.
     fn call(&mut self, frame: &Frame, lent: usize, seed: u16, answer: Answer, after: &[u16]) {
-        let Ask { src, offsets, width, height } = Ask::of(frame);
+        let Ask { src, offsets, width, height, .. } = Ask::of(frame);
         self.calls += 1;
         // The decoder's number is its version's.
         self.number(if frame.version == Version::V0 { 0 } else { 2 });

@@ -1,5 +1,6 @@
 //! Refusals 1 to 4: sizes and lengths about their limits, in every order of faults; and that nothing is touched.
 
+use crate::bands::Cut;
 use crate::call::{Answer, Ask, Decoder, Difference, Entry, Lent, NUMBERS};
 use std::fmt;
 use streams::random::Random;
@@ -33,7 +34,7 @@ pub fn number(decoder: Decoder, map: bool, width: usize, height: usize, lens: Le
         width > 16_384 || height > 16_384,
         v2 && (height < 436 || width < 646),
         (lens.samples as u128) < n || !v2 && lens.offsets < height,
-        map && (lens.map as u128) < n || decoder == Decoder::TwoPhase && (lens.scratch as u128) < scratch,
+        map && (lens.map as u128) < n || decoder.in_phases() && (lens.scratch as u128) < scratch,
     ];
     (1..).zip(faults).find_map(|(number, fault)| fault.then_some(number))
 }
@@ -71,14 +72,14 @@ fn about(random: &mut Random, want: u128) -> usize {
 pub struct Seen {
     pub seed: u64,
     pub calls: u64,
-    /// How many got number 0 to 8.
+    /// How many got number 0 to 12.
     pub numbers: [u64; NUMBERS],
 }
 
 impl fmt::Display for Seen {
     fn fmt(&self, f: &mut fmt::Formatter<'_>) -> fmt::Result {
         let Seen { seed, calls, numbers } = self;
-        writeln!(f, "refusals, seed {seed}: answers 0 to 8: {numbers:?}")?;
+        writeln!(f, "refusals, seed {seed}: answers 0 to 12: {numbers:?}")?;
         write!(f, "refusals: {calls} calls with sizes and lengths about the limits, each answered by the rules")
     }
 }
@@ -117,7 +118,8 @@ fn one(
     let offsets: Vec<u32> = (0..lens.offsets).map(|i| i as u32 % 70).collect();
     let old = (random.samples(lens.samples), random.bytes(lens.map), random.bytes(lens.scratch));
     let mut new = old.clone();
-    let ask = Ask { src: &src, offsets: &offsets, width, height };
+    let cut = Cut::fitting(entry.decoder, random, width, height);
+    let ask = Ask { src: &src, offsets: &offsets, width, height, cut: &cut };
     let answer = entry.call(&ask, &mut Lent { samples: &mut new.0, map: &mut new.1, scratch: &mut new.2 });
     let what = format!("{}, {width} by {height}, {lens:?}", entry.name);
     seen.calls += 1;

@@ -2,13 +2,14 @@
 //! must find out.
 
 use compare::call::{Answer, Ask, Decoder, Entry, Lent, razvolk};
-use compare::{lists, v0, v2};
+use compare::{bands, lists, v0, v2};
 use std::cell::Cell;
 
-/// Six entries of decoders of their own.
+/// Entries of decoders of their own.
 fn own(fault: v0::model::Fault, fault_2: v2::model::Fault) -> Vec<Entry> {
     let v0 = [(Decoder::Direct, false), (Decoder::Direct, true), (Decoder::TwoPhase, false), (Decoder::TwoPhase, true)];
     let mut entries: Vec<Entry> = v0.map(|(decoder, map)| v0::model::entry(fault, decoder, map)).into();
+    entries.push(bands::model::entry(bands::model::Fault::None));
     entries.extend([false, true].map(|map| v2::model::entry(fault_2, map)));
     entries
 }
@@ -19,7 +20,7 @@ fn no_earlier_frame_reaches_a_sample_marked_0() {
     let seen = lists::compare(&entries, 0x5eed, 150).unwrap_or_else(|difference| panic!("{difference}"));
     println!("{seen}");
     assert!(seen.pairs == 150 && seen.origins > 10_000 && seen.mixed > 10, "{seen}");
-    assert!(seen.before[0] > 100 && seen.before[3] > 0 && seen.before[4] > 0, "{seen}");
+    assert!(seen.before[0] > 100 && [3, 4, 11, 12].iter().all(|&number| seen.before[number] > 0), "{seen}");
 }
 
 #[test]

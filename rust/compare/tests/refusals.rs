@@ -8,7 +8,8 @@ fn refusing(
     number: fn(Decoder, bool, usize, usize, Lens) -> Option<u32>,
     touch: fn(Option<u32>, &mut Lent),
 ) -> Vec<Entry> {
-    let all = [Decoder::Direct, Decoder::TwoPhase, Decoder::V2].map(|decoder| [(decoder, false), (decoder, true)]);
+    let decoders = [Decoder::Direct, Decoder::TwoPhase, Decoder::Bands, Decoder::V2];
+    let all = decoders.map(|decoder| [(decoder, false), (decoder, true)]);
     let entry = move |(decoder, map)| {
         Entry::new("refusing", decoder, map, move |ask: &Ask, lent: &mut Lent| {
             let number = number(decoder, map, ask.width, ask.height, Lens::of(ask, lent));

@@ -2,7 +2,8 @@
 //! against the directions read on their own.
 
 use super::parse;
-use crate::call::{Answer, Ask, Decoder, Difference, Entry, Lent, first_difference};
+use crate::bands::Cut;
+use crate::call::{Answer, Ask, Difference, Entry, Lent, first_difference};
 use std::fmt;
 use streams::random::Random;
 use streams::{Frame, v0};
@@ -96,14 +97,14 @@ pub fn frame(entries: &[Entry], frame: &Frame, random: &mut Random, seen: &mut S
             let scratch = random.bytes(expected.directions.len() + more[2]);
             let (mut new_map, mut new_scratch) = (map.clone(), scratch.clone());
             let mut lent = Lent { samples: &mut samples, map: &mut new_map, scratch: &mut new_scratch };
-            let answer = entry.call(&Ask::of(frame), &mut lent);
+            let cut = Cut::fitting(entry.decoder, random, frame.width, frame.height);
+            let answer = entry.call(&Ask { cut: &cut, ..Ask::of(frame) }, &mut lent);
             seen.calls += 1;
             if answer != Answer::DONE {
                 return Err(format!("{}: answer {answer}, expected done", entry.name));
             }
             let marks = if entry.map { &expected.marks[..] } else { &[] };
-            let two_phase = entry.decoder == Decoder::TwoPhase;
-            let directions = if two_phase { &expected.directions[..] } else { &[] };
+            let directions = if entry.decoder.in_phases() { &expected.directions[..] } else { &[] };
             let over = |old: &[u8], first: &[u8]| [first, &old[first.len()..]].concat();
             let found = [
                 ("samples", first_difference(&samples, &expected.samples[run])),

@@ -82,7 +82,7 @@ pub fn decode(fault: Fault, decoder: Decoder, map: bool, ask: &Ask, lent: &mut L
         let cells = if fault == Fault::MapNotExchanged { &before } else { &work.cells };
         leave_marks(fault, &cells[..n], lent.map);
     }
-    if decoder == Decoder::TwoPhase {
+    if decoder.in_phases() {
         leave_directions(fault, ask, &work.directions, lent.scratch);
     }
     Answer::DONE
@@ -130,7 +130,7 @@ impl Work<'_> {
     fn rows(&mut self, decoder: Decoder) -> bool {
         let mut overrun = false;
         for row in 0..self.ask.height {
-            overrun |= self.row(row, decoder == Decoder::TwoPhase && row >= 2);
+            overrun |= self.row(row, decoder.in_phases() && row >= 2);
         }
         if self.fault == Fault::SpillOverResiduals && self.ask.height > 2 {
             let directions = self.directions.len();

@@ -16,7 +16,7 @@ pub struct Seen {
     pub streams: u64,
     pub calls: u64,
     pub samples: u64,
-    /// How many calls got number 0 to 8, how many were done or refused after row 2, and how many samples were marked 1 of
+    /// How many calls got number 0 to 12, how many were done or refused after row 2, and how many samples were marked 1 of
     /// those that were written or not.
     pub numbers: [u64; NUMBERS],
     pub deep: u64,
@@ -34,7 +34,7 @@ impl fmt::Display for Seen {
             "{name}, seed {seed}: {streams} streams, {calls} calls, {samples} samples, {marked} of them marked 1"
         )?;
         let rows = ends.iter().filter(|&&n| n > 0).count();
-        writeln!(f, "{name}: answers 0 to 8: {numbers:?}; done or refused after row 2: {deep}; ends in {rows} rows")?;
+        writeln!(f, "{name}: answers 0 to 12: {numbers:?}; done or refused after row 2: {deep}; ends in {rows} rows")?;
         let Used { motions, flags, none, scales, held } = used;
         writeln!(f, "{name}: motions 0 to 7: {motions:?}, flags 0 to 3: {flags:?}, blocks without lengths: {none}")?;
         writeln!(f, "{name}: scales from {} to {}, samples held to 0 and to the top: {held:?}", scales[0], scales[1])?;

@@ -2,6 +2,7 @@
 //! decoded by Razvolk's entries and by the Rust: the samples come back, and no map byte is 1.
 
 use super::plain::{Ask, Written, plain};
+use crate::bands::Cut;
 use crate::call::{self, Answer, Difference, Entry, Lent, first_difference, razvolk_of};
 use crate::v0::parse;
 use std::fmt;
@@ -144,8 +145,9 @@ fn refused(write: Write, ask: &Ask, lens: (usize, usize), random: &mut Random, s
 fn back(entries: &[Entry], frame: &Frame, samples: &[u16], random: &mut Random, seen: &mut Seen) -> Result<(), String> {
     let (&Frame { width, height, ref stream, ref offsets, .. }, n) = (frame, samples.len());
     let more = random.index(9);
-    let ask = call::Ask { src: stream, offsets, width, height };
     for entry in entries {
+        let cut = Cut::fitting(entry.decoder, random, width, height);
+        let ask = call::Ask { src: stream, offsets, width, height, cut: &cut };
         let (mut out, mut map) = (random.samples(n + more), random.bytes(n));
         let (rest, mut scratch) = (out[n..].to_vec(), random.bytes(razvolk::scratch_len(width, height)));
         let answer = entry.call(&ask, &mut Lent { samples: &mut out, map: &mut map, scratch: &mut scratch });

@@ -1,10 +1,11 @@
 -- What is left from row r + 2 on comes to all rows.
 use mathlib.Core.Path.{_∙_}
-use Prim.Native.Nat.{_+_, _-_, _/_}
+use Prim.Native.Nat.{_+_, _-_, _*_, _/_}
 use native.Mathlib.Omega.{arith}
+use denote.Ref.{now}
 use borrow.Author.Needs.{needs}
 use Rattle.rules.specs.Phases.{sample-stage}
-use Rattle.v0_two_phase.proofs.PredictionLaws.{Rows, rows-begun, rows-on, rows-done}
+use Rattle.v0_two_phase.proofs.PredictionLaws.{Rows, rows-begun, rows-on, rows-done, whole-row}
 use Rattle.v0_two_phase.proofs.RowsLaws.{row-within, directions-within}
 use Rattle.v0_two_phase.proofs.predictions.add_rows.Statement.{statement}
 use Rattle.v0_two_phase.proofs.predictions.add_rows.Tie as tie
@@ -24,14 +25,14 @@ loop-holds c = rows-begun _ _ _ _ _
 add-loop : tie.Need-add-loop Inv-loop μ-loop
 add-loop c = search needs
 
-mul-add-row : tie.Need-mul-add-row Inv-loop μ-loop
-mul-add-row c = omega (arith, directions-within ((c .before .before .before .before .before .args .size .width + 15) / 16) (c .before .before .before .before .before .args .size .height) (c .before .before .loop .r) _ (omega arith) (c .before .before .before .before .before .pre .directions-lent))
+mul-add-part : tie.Need-mul-add-part Inv-loop μ-loop
+mul-add-part c = omega (arith, directions-within ((c .before .before .before .before .before .args .size .width + 15) / 16) (c .before .before .before .before .before .args .size .height) (c .before .before .loop .r) _ (omega arith) (c .before .before .before .before .before .pre .directions-lent))
 
-add-add-row : tie.Need-add-add-row Inv-loop μ-loop
-add-add-row c = search needs
+add-add-part : tie.Need-add-add-part Inv-loop μ-loop
+add-add-part c = search needs
 
-add-row-requires : tie.Need-add-row-requires Inv-loop μ-loop
-add-row-requires c κs =
+add-part-requires : tie.Need-add-part-requires Inv-loop μ-loop
+add-part-requires c κs =
     let p = c .before .before .before .before .before .pre in
     let l = c .before .before .loop in
     let h = c .before .before .before .before .before .args .size .height in (
@@ -41,7 +42,7 @@ add-row-requires c κs =
         row-below = omega (arith, p .frame .height);
         row-lent = row-within _ h (l .r) _ (omega arith) (l .inv .same-length ∙ p .frame .lent);
       },
-      directions-within _ h (l .r) _ (omega arith) (p .directions-lent),
+      (directions-within _ h (l .r) _ (omega arith) (p .directions-lent), omega arith),
     )
 
 add-r : tie.Need-add-r Inv-loop μ-loop
@@ -51,7 +52,12 @@ loop-less : tie.Need-loop-less Inv-loop μ-loop
 loop-less c = search needs
 
 loop-again : tie.Need-loop-again Inv-loop μ-loop
-loop-again c = rows-on _ _ _ _ _ _ _ _ (omega arith) (c .before .before .add-row .kept .0) (c .before .before .add-row .ensures) (c .before .before .before .before .before .loop .inv)
+loop-again c =
+    let a = c .before .before .before .before .before .before .before .before .args in
+    let l = c .before .before .before .before .before .loop in
+    let n = (a .size .width + 15) / 16 in
+    rows-on _ _ _ _ _ _ _ _ (omega arith) (c .before .before .add-part .kept .0)
+    (whole-row _ _ _ (l .r * n) n (now (a .dirs)) _ _ (c .before .before .add-part .ensures)) (l .inv)
 
 same-length : tie.Need-same-length Inv-loop μ-loop
 same-length c = search needs
@@ -68,9 +74,9 @@ add-rows-spec =
     add-blocks
     loop-holds
     add-loop
-    mul-add-row
-    add-add-row
-    add-row-requires
+    mul-add-part
+    add-add-part
+    add-part-requires
     add-r
     loop-less
     loop-again

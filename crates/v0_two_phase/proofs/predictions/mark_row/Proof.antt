@@ -1,17 +1,16 @@
 -- What is left from block k on comes to the whole row.
-use mathlib.Core.Path.{sym}
-use Prim.Native.Nat.{_+_, _-_, _/_, _<_}
+use mathlib.Core.Path.{refl}
+use Prim.Native.Nat.{_+_, _-_, _/_}
 use native.Mathlib.Omega.{arith}
-use lib.ListN.{take, drop}
 use denote.Ref.{now}
 use borrow.Author.Needs.{needs}
 use Rattle.rules.specs.Map.{mark-stage}
-use Rattle.v0_two_phase.proofs.PredictionLaws.{Blocks, blocks-begun, blocks-on, blocks-done, direction-at, directions-of, row-kept}
+use Rattle.v0_two_phase.proofs.PredictionLaws.{Part, part-begun, part-on, part-done, whole-row, row-kept}
 use Rattle.v0_two_phase.proofs.predictions.mark_row.Statement.{statement}
 use Rattle.v0_two_phase.proofs.predictions.mark_row.Tie as tie
 
 abbrev Inv-loop : tie.InvT-loop
-Inv-loop map₀ dirs start w row blocks k₀ map k = Blocks mark-stage w row blocks (take blocks (drop start dirs)) map₀ map k
+Inv-loop map₀ dirs start w row blocks k₀ map k = Part mark-stage w row start 0 blocks dirs map₀ map k
 
 abbrev μ-loop : tie.MeasureT-loop
 μ-loop map₀ dirs start w row blocks k₀ map k = blocks - k
@@ -20,7 +19,7 @@ add-blocks : tie.Need-add-blocks Inv-loop μ-loop
 add-blocks c = search needs
 
 loop-holds : tie.Need-loop-holds Inv-loop μ-loop
-loop-holds c = blocks-begun _ _ _ _ _ _
+loop-holds c = part-begun _ _ _ _ _ _ _ _
 
 mul-mark-block : tie.Need-mul-mark-block Inv-loop μ-loop
 mul-mark-block c = search needs
@@ -42,18 +41,15 @@ loop-less c = search needs
 
 loop-again : tie.Need-loop-again Inv-loop μ-loop
 loop-again c =
-    let l = c .before .before .before .before .before .before .loop in
-    let a = c .before .before .before .before .before .before .before .before .before .args in
-    let n = (a .w + 15) / 16 in
-    let h : l .k < n = omega arith in
-    blocks-on _ _ _ _ _ _ _ _ _ _ h (directions-of (now (a .dirs)) (a .start) n (c .before .before .before .before .before .before .before .before .before .pre .1)) (sym (direction-at (now (a .dirs)) (a .start) n (l .k) h))
-    (c .before .before .mark-block .kept .0) (c .before .before .mark-block .ensures) (l .inv)
+    part-on _ _ _ _ _ _ _ _ _ _ _ _ (omega arith) (c .before .before .before .before .before .before .before .before .before .pre .1) refl (c .before .before .mark-block .kept .0) (c .before .before .mark-block .ensures) (c .before .before .before .before .before .before .loop .inv)
 
 same-length : tie.Need-same-length Inv-loop μ-loop
 same-length c = search needs
 
 returns : tie.Need-returns Inv-loop μ-loop
-returns c = blocks-done _ _ _ _ _ _ _ _ (omega arith) (directions-of _ _ _ (c .before .before .before .before .pre .1)) (c .before .loop .inv)
+returns c =
+    let a = c .before .before .before .before .args in
+    whole-row _ _ _ (a .start) ((a .w + 15) / 16) (now (a .dirs)) _ _ (part-done _ _ _ _ _ _ _ _ _ _ (omega arith) (c .before .loop .inv))
 
 pub mark-row-spec : {M : Type 1} → statement M
 mark-row-spec =
