@@ -1,8 +1,8 @@
 -- Document 01, "Reader record": bits are read from a stream of words. A word is 4 bytes, lowest byte first; its highest bit is
 -- read first. The state is the byte position of the next word, the word fetched last with the count of its bits that are still
--- unread, and whether a word was missing.
+-- unread, and the count of the words that were missing.
 use Prim.Native.Nat.{ℕ, _+_, _-_, _*_, _/_, _%_, _^_, min}
-use mathlib.Core.Bool.{true, false, cond, _||_}
+use mathlib.Core.Bool.{Bool, true, false, cond}
 use mathlib.Core.List.{List, [], _∷_}
 use lib.ListN.{length, getD}
 use lib.Dec.{ltb, leb}
@@ -28,17 +28,25 @@ fetched s p =
 
 -- ── States ──
 
--- A state at p with nothing buffered, that has not overrun.
+-- A state at p with nothing buffered, before any word was missing.
 abbrev pub fresh : ℕ → Bits
-fresh p = record { pos = p; word = 0; count = 0; overrun = false }
+fresh p = record { pos = p; word = 0; count = 0; filler = 0 }
 
--- `reset_at` drops the buffered bits and sets the position; an overrun stays.
+-- `reset_at` drops the buffered bits and sets the position; the count of missing words stays.
 abbrev pub reset-at : Bits → ℕ → Bits
-reset-at b p = record { pos = p; word = 0; count = 0; overrun = b .overrun }
+reset-at b p = record { pos = p; word = 0; count = 0; filler = b .filler }
 
 -- How many bits a state holds: one handed in with more than 31 counts as having none.
 unfoldable pub held : Bits → ℕ
 held b = cond (ltb (b .count) 32) (b .count) 0
+
+-- The greatest count of missing words: 2^64 − 1.
+abbrev pub most-filler : ℕ
+most-filler = 0xffff_ffff_ffff_ffff
+
+-- A count after one more word: a missing word is counted, up to the greatest count.
+unfoldable pub counted : ℕ → Bool → ℕ
+counted n missing = cond missing (min (n + 1) most-filler) n
 
 -- ── Reading ──
 
@@ -51,7 +59,7 @@ abbrev pub from-held : Bits → ℕ → Got
 from-held b k =
     record {
       value = first-bits (b .word) (held b) k;
-      bits = record { pos = b .pos; word = b .word; count = held b - k; overrun = b .overrun };
+      bits = record { pos = b .pos; word = b .word; count = held b - k; filler = b .filler };
     }
 
 -- k bits: those held, and then the first of the word w. The position grows by 4 modulo 2^64, also where the word is missing.
@@ -59,7 +67,7 @@ abbrev pub from-next : Bits → Word → ℕ → Got
 from-next b w k =
     record {
       value = first-bits (b .word * 2 ^ 32 + w .value) (held b + 32) k;
-      bits = record { pos = (b .pos + 4) % 2 ^ 64; word = w .value; count = held b + 32 - k; overrun = b .overrun || w .missing };
+      bits = record { pos = (b .pos + 4) % 2 ^ 64; word = w .value; count = held b + 32 - k; filler = counted (b .filler) (w .missing) };
     }
 
 -- Reading n bits, where n above 32 counts as 32: one word is fetched if fewer than n are held. So n = 0 fetches nothing.

@@ -15,7 +15,7 @@ use Rattle.rules.specs.declared.v0.V0Op.{V0Op}
 use Rattle.rules.specs.declared.v0.V0Row.{V0Row}
 use Rattle.rules.specs.declared.v0.V0Length.{V0Length}
 use Rattle.rules.specs.declared.v0.V0Head.{V0Head}
-use Rattle.rules.specs.Reader.{fresh, read, four, read-residual}
+use Rattle.rules.specs.Reader.{most-filler, fresh, read, four, read-residual}
 
 -- ── A row's state and a block's head ──
 
@@ -144,6 +144,16 @@ row-ops s z row offset =
 unfoldable pub rows : List ℕ → List ℕ → Size → ℕ → ℕ → List V0Op
 rows s offsets z zero row = []
 rows s offsets z (suc n) row = row-ops s z row (getD offsets row 0) .ops ++ rows s offsets z n (suc row)
+
+-- A count k with the missing words of n rows from a row on: each row has a reader of its own. The sum is held as a reader's is.
+unfoldable pub rows-filler : List ℕ → List ℕ → Size → ℕ → ℕ → ℕ → ℕ
+rows-filler s offsets z zero row k = k
+rows-filler s offsets z (suc n) row k =
+    rows-filler s offsets z n (suc row) (min (k + row-ops s z row (getD offsets row 0) .bits .filler) most-filler)
+
+-- The missing words of a whole frame.
+unfoldable pub frame-filler : List ℕ → List ℕ → Size → ℕ
+frame-filler s offsets z = rows-filler s offsets z (z .height) 0 0
 
 -- ── Cells ──
 

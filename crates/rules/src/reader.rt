@@ -3,13 +3,13 @@ ghost use mathlib.Core.Path.{_≡_};
 ghost use Rattle.rules.specs.Reader.{fresh};
 
 // The reader's state. The unread bits are the low `count` bits of `word`, the word fetched last; a `count` above 31 counts as
-// 0. `pos` is the byte position of the next word.
+// 0. `pos` is the byte position of the next word, `filler` how many words were missing so far, held at the greatest count.
 #[repr(C)]
 pub struct Bits {
     pub pos: u64,
     pub word: u32,
     pub count: u32,
-    pub overrun: bool,
+    pub filler: u64,
 }
 
 impl Bits {
@@ -21,7 +21,10 @@ impl Bits {
     // What is read where a word is missing.
     pub const FILLER: u32 = 0xffff_ffff;
 
-    // A reader at a byte position: nothing is buffered, nothing has overrun.
+    // Where the count of missing words is held.
+    pub const MOST_FILLER: u64 = 0xffff_ffff_ffff_ffff;
+
+    // A reader at a byte position: nothing is buffered, no word was missing.
     pub fn new(pos: u64) -> Bits
         ensures { λ r. ⌜ r ≡ fresh pos ⌝ }
     {
@@ -29,7 +32,7 @@ impl Bits {
             pos,
             word: 0,
             count: 0,
-            overrun: false,
+            filler: 0,
         }
     }
 }
