@@ -239,6 +239,13 @@ number (EarlyMotion b) = 5
 number (Outside b) = 6
 number (LongDifference b) = 7
 
+-- The reader's state after an outcome.
+abbrev pub state-after : V2Block → Bits
+state-after (Next b st) = b
+state-after (EarlyMotion b) = b
+state-after (Outside b) = b
+state-after (LongDifference b) = b
+
 -- What lengths and differences give: the outcome, what is remembered, and the differences.
 pub record Tail : Type 0 where
   pub outcome : V2Block
