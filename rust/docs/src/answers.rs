@@ -56,6 +56,14 @@ pub fn names(markdown: &str) -> Vec<String> {
         .collect()
 }
 
+/// The same of a header's constants, whose lines are as `#define RAZVOLK_TOO_LARGE 1u`.
+pub fn defines(header: &str) -> Vec<String> {
+    let lines = header.lines().filter_map(|line| line.strip_prefix("#define RAZVOLK_"));
+    let pairs = lines.filter_map(|line| line.split_once(char::is_whitespace));
+    let numbers = pairs.filter_map(|(name, number)| Some((name, number.trim().strip_suffix('u')?)));
+    numbers.filter(|(name, _)| *name != "DONE").map(|(name, number)| format!("{number} {name}")).collect()
+}
+
 /// The same of the list of refusals in Rust, whose lines are as `1 TooLarge "text";` and `8 Overrun { row } "text";`.
 pub fn refusals(rust: &str) -> Vec<String> {
     let lines = rust.lines().map(|line| line.split_whitespace());
@@ -128,5 +136,8 @@ mod tests {
         let rust =
             "refusals! {\n    /// | 3 | x |\n    1 TooLarge \"x\";\n    2 Short { row } \"{row} y\";\n}\n0 => None,";
         assert_eq!(refusals(rust), names(RULES));
+        let header = "#define RAZVOLK_DONE      0u\n#define RAZVOLK_TOO_LARGE 1u\n#define RAZVOLK_SHORT     2u\n#define \
+            RAZVOLK_MOST_SIDE 9u /* 1 */\n#define RAZVOLK_STEPS(a, b) ((a) * 2u)\n";
+        assert_eq!(defines(header), names(RULES));
     }
 }

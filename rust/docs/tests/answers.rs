@@ -1,7 +1,7 @@
 //! The answers are listed in docs/RULES.md; whatever else lists them says the same. A new number is added there, as a constant
 //! of `Answer` in crates/rules, and wherever this test then fails.
 
-use docs::answers::{Listed, constants, names, of_c, of_tables, refusals};
+use docs::answers::{Listed, constants, defines, names, of_c, of_tables, refusals};
 use docs::{hold, text};
 
 /// The list, done first.
@@ -21,6 +21,11 @@ fn each_number_is_a_constant_of_its_name() {
 #[test]
 fn the_header_lists_the_same() {
     hold(&rules(), "include/razvolk.h", &of_c(&text("include/razvolk.h")));
+}
+
+#[test]
+fn the_header_names_each_refusal() {
+    hold(&names(&text("docs/RULES.md")), "include/razvolk.h", &defines(&text("include/razvolk.h")));
 }
 
 #[test]
