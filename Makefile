@@ -94,11 +94,11 @@ fuzz: $(made)/tests/hostile frames
 	$(made)/tests/hostile pages $(FOR)s $(SEED)
 
 # Frames in a camera's container, to look at and to damage.
-frames:
-	$(cargo_run) --quiet -p streams --example frames -- target/made/frames
+frames: $(archive)
+	$(cargo_run) --quiet -p razvolk-tool --example frames -- target/made/frames
 
 # The picture in the README: a frame with upward blocks from row 0 on, decoded over another.
-picture: frames $(archive)
+picture: frames
 	$(cargo_run) --quiet -p razvolk-tool -- --over target/made/frames/sitting.srw target/made/frames/christening.srw \
 		--force --png ../docs/marked.png
 

@@ -24,11 +24,13 @@ pub struct Decoded<'a> {
     pub marks: Marks<'a>,
     pub width: usize,
     pub height: usize,
+    /// The camera's.
+    pub model: Option<&'a str>,
 }
 
 /// A decoded frame in a form, or why it has none. In a PNG `white` is the sample that is white, else the largest.
 pub fn file(form: Form, frame: Decoded, white: Option<u16>) -> Result<Vec<u8>, String> {
-    let Decoded { samples, marks, width, height } = frame;
+    let Decoded { samples, marks, width, .. } = frame;
     let picture = || samples.iter().max().ok_or("a frame of no samples makes no picture");
     Ok(match form {
         Form::Pgm => picture().map(|_| pgm::file(samples, width))?,
@@ -41,7 +43,7 @@ pub fn file(form: Form, frame: Decoded, white: Option<u16>) -> Result<Vec<u8>, S
         }
         Form::V0 => {
             let refused = |refusal| format!("can't be written as V0: {refusal}");
-            v0::file(samples, width, height).map_err(refused)?
+            v0::file(frame).map_err(refused)?
         }
     })
 }

@@ -1,5 +1,5 @@
 //! The tool `razvolk` as a library, so that its tests and the fuzzer run what its user runs. [`main`] reads the command line
-//! ([`options`]) and the files that it names ([`input`]), finds the frame ([`srw`]), decodes it and tells what it rests on
+//! ([`options`]) and the files that it names ([`input`]), finds the frame ([`razvolk::srw`]), decodes it and tells what it rests on
 //! ([`look`], [`worker`], [`report`]), and writes what is asked for ([`form`]: [`pgm`], [`png`], [`v0`]) without harm to a file
 //! ([`output`]).
 #![forbid(unsafe_code)]
@@ -14,7 +14,6 @@ pub mod pgm;
 pub mod planes;
 pub mod png;
 pub mod report;
-pub mod srw;
 pub mod v0;
 pub mod worker;
 
@@ -23,7 +22,7 @@ use input::Input;
 use look::Look;
 use options::{Asked, Bare, Options};
 use output::{Place, Staged};
-use srw::{Coding, Frame};
+use razvolk::srw::{self, Coding, Frame};
 use std::ffi::OsString;
 use std::io::{self, Write};
 use std::process::ExitCode;
@@ -85,7 +84,7 @@ fn frame<'a>(options: &Options, file: &'a Input, table: Option<&Input>) -> Resul
             Coding::V0(offsets.map_err(|fault| table.fault(fault))?)
         }
     };
-    Ok(Frame { coding, width, height, stream: &file.bytes, missing: 0 })
+    Ok(Frame::new(coding, width, height, &file.bytes))
 }
 
 fn camera(file: &Input) -> Result<Frame<'_>, String> {

@@ -2,8 +2,8 @@
 
 use crate::form::{self, Decoded, Form};
 use crate::report;
-use crate::srw::{self, Fault, Frame};
 use crate::worker::{self, Worker};
+use razvolk::srw::{self, Fault, Frame};
 use razvolk::{MAX_SIDE, Refusal};
 
 /// A frame that was decoded, and what is told of it.
@@ -13,6 +13,7 @@ pub struct Look {
     worker: Worker,
     width: usize,
     height: usize,
+    model: Option<String>,
 }
 
 impl Look {
@@ -31,13 +32,15 @@ impl Look {
         let answer = worker.decode(frame);
         text += &format!("{}\n{}\n", report::heading(name, frame), report::answer(answer));
         text += &report::marks(worker.frame().map(|(_, marks)| marks), frame.width);
-        Ok(Look { text, answer, worker, width: frame.width, height: frame.height })
+        let model = frame.model.map(str::to_string);
+        Ok(Look { text, answer, worker, width: frame.width, height: frame.height, model })
     }
 
     /// The frame's samples and marks, if its stream was begun.
     pub fn decoded(&self) -> Option<Decoded<'_>> {
-        let &Look { width, height, .. } = self;
-        self.worker.frame().map(|(samples, marks)| Decoded { samples, marks, width, height })
+        let &Look { width, height, ref model, .. } = self;
+        let model = model.as_deref();
+        self.worker.frame().map(|(samples, marks)| Decoded { samples, marks, width, height, model })
     }
 }
 

@@ -1,16 +1,29 @@
 //! What is told of a frame, in words.
 
-use crate::srw::Frame;
+use razvolk::srw::{Frame, V2Header};
 use razvolk::{Marks, Refusal};
 use std::fmt::Write;
 use std::path::Path;
 
 /// What the file holds.
 pub fn heading(name: &str, frame: &Frame) -> String {
-    let Frame { coding, width, height, stream, missing } = frame;
+    let Frame { coding, width, height, stream, missing, .. } = frame;
     let mut text = format!("{name}: {coding}, {width} by {height}, {} bytes of stream", stream.len());
     if *missing > 0 {
         write!(text, ", {missing} more are missing").expect("a string");
+    }
+    text + &header(frame)
+}
+
+/// Where V2's own header says something else than the container. A header of 0 by 0 tells no size.
+fn header(frame: &Frame) -> String {
+    let Some(V2Header { width, height, depth }) = frame.v2_header() else { return String::new() };
+    let mut text = String::new();
+    if (width, height) != (0, 0) && (width, height) != (frame.width, frame.height) {
+        write!(text, "\n  its own header says {width} by {height}").expect("a string");
+    }
+    if let Some(bits) = frame.bits.filter(|&bits| bits != depth) {
+        write!(text, "\n  its own header says {depth} bits a sample, the container {bits}").expect("a string");
     }
     text
 }

@@ -1,6 +1,6 @@
 //! What a worker has: one sample buffer and a decoder, from frame to frame.
 
-use crate::srw::{Coding, Frame};
+use razvolk::srw::{Coding, Frame};
 use razvolk::{Decoder, MAX_SIDE, Marks, Refusal};
 
 /// The most samples that a frame may have here: more than twice as many as any camera's. A file of some bytes can't make the

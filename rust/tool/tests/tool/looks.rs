@@ -1,18 +1,17 @@
 //! What is printed of a frame, and written of it.
 
-use crate::folder::{Folder, Ran, bad, done, refused};
+use crate::folder::{Folder, Ran, bad, done, refused, srw};
 use std::fs;
 use std::path::PathBuf;
 use streams::images::{christening, sitting};
-use streams::srw::{self, LONG, SHORT, directory};
 use streams::v0::encode::with_band;
 use streams::{Frame, Version, v0, v2};
 
 #[test]
 fn a_frame_over_another() {
     let folder = Folder::new("over");
-    folder.put("first.srw", srw::file(&v0::encode(&sitting(40, 6), 40, 6)));
-    folder.put("next.srw", srw::file(&with_band(&christening(40, 6), 40, 6, 2)));
+    folder.put("first.srw", srw(&v0::encode(&sitting(40, 6), 40, 6)));
+    folder.put("next.srw", srw(&with_band(&christening(40, 6), 40, 6, 2)));
     let text = "over first.srw: V0, 40 by 6, 408 bytes of stream\ndone\nnext.srw: V0, 40 by 6, 200 bytes of stream\ndone\n\
         80 of 240 samples rest on what the buffer held before\n  rows 0 to 1: 40 of 40 each\n";
     assert_eq!(folder.run("--over first.srw next.srw --pgm next.pgm --png next.png --planes planes.png"), done(text));
@@ -29,8 +28,8 @@ fn a_frame_over_another() {
 #[test]
 fn the_readme_shows_what_the_tool_does() {
     let folder = Folder::new("readme");
-    folder.put("sitting.srw", srw::file(&v0::encode(&sitting(320, 200), 320, 200)));
-    folder.put("christening.srw", srw::file(&with_band(&christening(320, 200), 320, 200, 24)));
+    folder.put("sitting.srw", srw(&v0::encode(&sitting(320, 200), 320, 200)));
+    folder.put("christening.srw", srw(&with_band(&christening(320, 200), 320, 200, 24)));
     let (status, text, _) = folder.run("--over sitting.srw christening.srw --png marked.png");
     let top = PathBuf::from(env!("CARGO_MANIFEST_DIR")).join("../..");
     assert!(status == 0 && folder.get("marked.png") == fs::read(top.join("docs/marked.png")).ok());
@@ -69,10 +68,11 @@ fn stored(folder: &Folder, line: &str) -> (Ran, Ran) {
 fn a_frame_written_as_v0_is_read_again() {
     for (width, height) in [(40, 6), (33, 7), (1, 5), (320, 200)] {
         let folder = Folder::new(&format!("stored_{width}"));
-        folder.put("a.srw", srw::file(&v0::encode(&sitting(width, height), width, height)));
+        folder.put("a.srw", srw(&v0::encode(&sitting(width, height), width, height)));
         let (first, again) = stored(&folder, "a.srw");
         assert!(first.0 == 0 && first.2.is_empty(), "{first:?}");
-        let len = folder.get("stored.srw").expect("a file").len() - 140 - 4 * height;
+        let file = folder.get("stored.srw").expect("a file");
+        let len = razvolk::srw::frame(&file).expect("a frame").stream.len();
         let n = width * height;
         let text = format!(
             "stored.srw: V0, {width} by {height}, {len} bytes of stream\ndone\nall {n} samples rest on the stream\n"
@@ -99,7 +99,7 @@ fn a_frame_of_no_samples_is_written_as_v0() {
 #[test]
 fn samples_that_rest_on_old_values_are_stored_and_told_of() {
     let folder = Folder::new("stored_marked");
-    folder.put("v2.srw", srw::file(&v2::encode(&christening(646, 436), 646, 436)));
+    folder.put("v2.srw", srw(&v2::encode(&christening(646, 436), 646, 436)));
     let ((status, text, fault), again) = stored(&folder, "v2.srw");
     assert!(status == 0 && fault.is_empty());
     let told = "stored.srw: 2616 samples that rest on what the buffer held are stored, and not marked";
@@ -113,7 +113,7 @@ fn what_cannot_be_written_as_v0() {
     let folder = Folder::new("not_stored");
     // A sample above 16,383: refusal 9, and nothing is written, the samples neither.
     let bright: Vec<u16> = (0..240).map(|i| if i == 77 { 16_384 } else { 1_000 }).collect();
-    folder.put("bright.srw", srw::file(&v0::encode(&bright, 40, 6)));
+    folder.put("bright.srw", srw(&v0::encode(&bright, 40, 6)));
     let (status, text, fault) = folder.run("bright.srw --pgm x.pgm --write-v0 x.srw");
     assert_eq!((status, text.lines().last()), (2, Some("all 240 samples rest on the stream")));
     assert_eq!(fault, "razvolk: x.srw: can't be written as V0: a sample is above 16,383\n");
@@ -162,16 +162,14 @@ fn bad_input() {
     assert_eq!(folder.run("--what"), bad("there is no option --what"));
     let text = "a frame of 16384 by 16384 is too large to look at: the limit is 67108864 samples";
     assert_eq!(folder.run("--v2 16384x16384 none"), bad(text));
-    let mut file = b"II*\0\x08\0\0\0".to_vec();
-    file.extend(directory(&[(256, LONG, 16_384), (257, LONG, 16_384), (259, SHORT, 32_773), (273, LONG, 8)]));
-    folder.put("large.srw", file);
+    folder.put("large.srw", srw(&Frame::new(Version::V2, 16_384, 16_384)));
     assert_eq!(folder.run("large.srw"), bad(text));
 }
 
 #[test]
 fn output_that_cannot_be_written() {
     let folder = Folder::new("output");
-    folder.put("v2.srw", srw::file(&Frame { stream: vec![0; 16], ..Frame::new(Version::V2, 646, 436) }));
+    folder.put("v2.srw", srw(&Frame { stream: vec![0; 16], ..Frame::new(Version::V2, 646, 436) }));
     let (status, _, fault) = folder.run("v2.srw --pgm gone/x.pgm");
     assert_eq!((status, fault.as_str()), (2, "razvolk: gone/x.pgm: No such file or directory (os error 2)\n"));
     folder.put("offsets", "");
@@ -192,7 +190,7 @@ fn help_and_version() {
 #[test]
 fn damaged_files_end_with_an_answer() {
     let folder = Folder::new("damaged");
-    let file = srw::file(&with_band(&christening(20, 5), 20, 5, 1));
+    let file = srw(&with_band(&christening(20, 5), 20, 5, 1));
     for i in 0..60 {
         let mut damaged = file.clone();
         let at = i * 37 % damaged.len();
