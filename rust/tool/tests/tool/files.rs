@@ -17,6 +17,12 @@ fn small() -> (streams::Frame, Vec<u8>) {
     (made, file)
 }
 
+fn worker_for(frames: &[&Frame]) -> Worker {
+    let mut worker = Worker::default();
+    frames.iter().try_for_each(|frame| worker.make_room(frame)).expect("few samples");
+    worker
+}
+
 #[test]
 fn a_frame_is_found_and_decoded() {
     let (width, height) = (320, 200);
@@ -27,7 +33,7 @@ fn a_frame_is_found_and_decoded() {
     let mut expected = Frame::new(Coding::V0(made.offsets.clone()), width, height, &made.stream);
     (expected.model, expected.bits) = (Some("Razvolk"), Some(14));
     assert_eq!(found, expected);
-    let mut worker = Worker::of(&[&found]).expect("few samples");
+    let mut worker = worker_for(&[&found]);
     assert_eq!(worker.decode(&found), Ok(()));
     let (samples, marks) = worker.frame().expect("the frame is done");
     assert!(samples == image && marks.is_clean());
@@ -40,7 +46,7 @@ fn a_band_of_another_frame_is_marked() {
     let made = [first, v0::encode::with_band(&christening(width, height), width, height, 24)];
     let files = made.map(|made| srw(&made));
     let [over, band] = [0, 1].map(|i| frame(&files[i]).expect("a frame"));
-    let mut worker = Worker::of(&[&over, &band]).expect("few samples");
+    let mut worker = worker_for(&[&over, &band]);
     assert_eq!([worker.decode(&over), worker.decode(&band)], [Ok(()), Ok(())]);
     let (samples, marks) = worker.frame().expect("the frame is done");
     assert!(marks.bytes().iter().enumerate().all(|(i, &mark)| mark == u8::from(i < 24 * width)));
@@ -48,7 +54,7 @@ fn a_band_of_another_frame_is_marked() {
     assert_eq!(samples[20 * width], first[0], "the band carries down what the first rows held");
     assert_eq!(samples[24 * width..], christening(width, height)[24 * width..]);
     let text = "7680 of 64000 samples rest on what the buffer held before\n  rows 0 to 23: 320 of 320 each\n";
-    assert_eq!(report::marks(Some(marks), width), text);
+    assert_eq!(report::marks(Some(marks), 0), text);
 }
 
 #[test]
@@ -57,7 +63,7 @@ fn a_v2_frame_is_found_and_decoded() {
     let file = srw(&v2::encode(&image, 646, 436));
     let found = frame(&file).expect("a frame");
     assert_eq!((&found.coding, found.width, found.height), (&Coding::V2, 646, 436));
-    let mut worker = Worker::of(&[&found]).expect("few samples");
+    let mut worker = worker_for(&[&found]);
     assert_eq!(worker.decode(&found), Ok(()));
     let (samples, marks) = worker.frame().expect("the frame is done");
     for (i, (sample, mark)) in samples.iter().zip(marks.bytes()).enumerate() {
@@ -65,7 +71,7 @@ fn a_v2_frame_is_found_and_decoded() {
         assert_eq!((*sample, *mark), if coded { (image[i], 0) } else { (0, 1) }, "sample {i}");
     }
     let text = "2616 of 281656 samples rest on what the buffer held before\n  rows 0 to 435: 6 of 646 each\n";
-    assert_eq!(report::marks(Some(marks), 646), text);
+    assert_eq!(report::marks(Some(marks), 0), text);
 }
 
 #[test]
@@ -123,12 +129,12 @@ fn many_bytes_may_be_wrong() {
 fn sizes_without_end_cost_no_memory() {
     for (width, height) in [(u32::MAX as usize, u32::MAX as usize), (16_385, 0), (0, u32::MAX as usize)] {
         let frame = Frame::new(Coding::V2, width, height, &[]);
-        let mut worker = Worker::of(&[&frame]).expect("no samples");
+        let mut worker = worker_for(&[&frame]);
         assert_eq!(worker.decode(&frame), Err(Refusal::TooLarge));
         assert!(worker.frame().is_none());
     }
     // A size within the decoder's limits may still be too much for a look.
-    assert_eq!(Worker::of(&[&Frame::new(Coding::V2, 16_384, 16_384, &[])]).err(), Some((16_384, 16_384)));
+    assert!(Worker::default().make_room(&Frame::new(Coding::V2, 16_384, 16_384, &[])).is_err());
 }
 
 #[test]
@@ -154,5 +160,5 @@ fn answers_in_words() {
     assert_eq!(report::answer(Ok(())), "done");
     assert_eq!(report::answer(Err(Refusal::Overrun { row: 9 })), "refused 8, row 9: the stream ends in row 9");
     assert_eq!(report::answer(Err(Refusal::TooLarge)), "refused 1: width or height is above 16,384");
-    assert_eq!(report::marks(None, 5), "nothing was decoded\n");
+    assert_eq!(report::marks(None, 0), "nothing was decoded\n");
 }

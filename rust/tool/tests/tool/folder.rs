@@ -62,10 +62,20 @@ pub fn done(text: &str) -> Ran {
     (0, text.into(), String::new())
 }
 
+/// Done, and something of it is old or missing.
+pub fn marked(text: &str) -> Ran {
+    (3, text.into(), String::new())
+}
+
 pub fn refused(text: &str) -> Ran {
     (1, text.into(), String::new())
 }
 
 pub fn bad(text: &str) -> Ran {
     (2, String::new(), format!("razvolk: {text}\n"))
+}
+
+/// A line that the tool does not understand.
+pub fn misread(text: &str) -> Ran {
+    bad(&format!("{text}\nrazvolk --help lists what there is"))
 }
