@@ -6,6 +6,7 @@ made = rust/target/made
 
 # The main job: proves and builds the program, and decodes the example with it.
 run:
+	@echo 'Proving what is not proved yet: some five minutes the first time, and a line for each crate.'
 	rt check samrows
 	target/bin/samrows < crates/samrows/stdin
 
