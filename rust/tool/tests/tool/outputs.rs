@@ -146,7 +146,7 @@ fn a_failure_leaves_the_old_file() {
     let (status, _, fault) = run_out_of_room(&folder, "trap '' XFSZ;", line);
     assert_eq!((status, fault.as_str()), (2, "razvolk: old.pgm: File too large (os error 27)\n"));
     // The samples have room, the picture of their noise and its palette have not: both files stay as they were.
-    let noise: Vec<u16> = (0..400).map(|i| i * i * 31 % 16_384).collect();
+    let noise: Vec<u16> = (0..400u32).map(|i| (i * i * 31 % 16_384) as u16).collect();
     folder.put("b.srw", srw(&v0::encode(&noise, 20, 20)));
     let (status, _, fault) = run_out_of_room(&folder, "trap '' XFSZ;", "b.srw --force --pgm old.pgm --png old.png");
     assert_eq!((status, fault.as_str()), (2, "razvolk: old.png: File too large (os error 27)\n"));
