@@ -202,7 +202,7 @@ static void write_v0(void) {
 static void null(void) {
     static const uint32_t one[1] = {0};
     uint16_t sample[1] = {7};
-    razvolk_bits state = {0, 0, 0, false};
+    razvolk_bits state = {0, 0, 0, 0};
     razvolk_answer answer = razvolk_decode_v0_reference(NULL, 0, NULL, 0, 5, 0, NULL, 0);
     expect(answer.number == RAZVOLK_DONE, "decode_v0_reference of NULL");
     answer = razvolk_decode_v0_reference_map(NULL, 0, NULL, 0, 0, 0, NULL, 0, NULL, 0);
