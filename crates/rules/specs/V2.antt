@@ -19,7 +19,7 @@ use Rattle.rules.specs.declared.v2.V2Lengths.{V2Lengths}
 use Rattle.rules.specs.declared.v2.V2Block.{V2Block}
 use Rattle.rules.specs.declared.v2.V2Block.the-variants.{Next, EarlyMotion, Outside, LongDifference}
 use Rattle.rules.specs.Reader.{has-filler, fresh, reset-at, read, fields, four, read-signed}
-use Rattle.rules.specs.Frame.{tabulate, change-cells}
+use Rattle.rules.specs.Frame.{tabulate, ended}
 
 -- ── The header ──
 
@@ -366,9 +366,7 @@ module _ {A : Type 0} (k : Kind A) where
 
   -- One block, and what filler makes of its cells.
   unfoldable pub write : Block → List A → List A
-  write b f =
-      let g = sets f (b .place) (block-cells f b) in
-      cond (b .filler) (change-cells (k .filled) (k .constant 0) 16 (b .place) g) g
+  write b f = ended (k .filled) (k .constant 0) (b .filler) (b .place) (sets f (b .place) (block-cells f b))
 
   unfoldable pub apply : List Block → List A → List A
   apply [] f = f
