@@ -5,7 +5,8 @@
 -- left it, and nobody else writes it. What the buffers first held is free, and so is what maps and scratch hold at entry. If the
 -- last calls of the two lists are alike (in decoder, stream, offsets, size and the lengths of what they are lent) and both end
 -- with done or 5 to 8, then their answers are equal, with the count of missing words; the maps' first N bytes are the rules', whole,
--- which stream, offsets and size alone set; by the first part of its byte a sample is marked 0 or 1: every one of the first N samples that is marked 0 is equal; and in V0 a sample marked 1 is the sample that the call
+-- which stream, offsets and size alone set; by the first part of its byte a sample is marked 0 or 1: every one of the first N
+-- samples that is marked 0 is equal; and in V0 a sample marked 1 is the sample that the call
 -- found at one position plus an amount, modulo 65,536, both set by stream, offsets and size alone.
 -- Nothing is said of samples marked 1 in V2, of what lies past N, or of calls that end with 1 to 4: those change nothing.
 use Prim.Native.Nat.{ℕ, _+_, _%_, _<_, _≤_}

@@ -65,6 +65,33 @@ pub held-none : (b : Bits) → 32 ≤ b .count → held b ≡ 0
 unfolding held
 held-none b h = simp (le-ltb (b .count) 32 h)
 
+-- ── Missing words ──
+
+-- What a count becomes: the same after a word that was there, one more after a missing one, and the greatest stays.
+pub counted-there : (n : ℕ) → counted n false ≡ n
+unfolding counted
+counted-there n = refl
+
+pub counted-missing : (n : ℕ) → n < most-filler → counted n true ≡ n + 1
+unfolding counted
+counted-missing n l = omega arith
+
+pub counted-held : (n : ℕ) → n < 2 ^ 64 → most-filler ≤ n → counted n true ≡ n
+unfolding counted
+counted-held n l m = omega arith
+
+-- A count stays below 2^64.
+pub counted-below : (n : ℕ) (missing : Bool) → n < 2 ^ 64 → counted n missing < 2 ^ 64
+unfolding counted
+counted-below n true l = omega arith
+counted-below n false l = l
+
+-- A count that is 0 after a word was 0 before it, and the word was there.
+pub counted-zero : (n : ℕ) (missing : Bool) → counted n missing ≡ 0 → (n ≡ 0) × (missing ≡ false)
+unfolding counted
+counted-zero n true e = absurd (omega arith)
+counted-zero n false e = (e, refl)
+
 -- ── Reading ──
 
 pub read-held : (s : List ℕ) (b : Bits) (n : ℕ) → min n 32 ≤ held b → read s b n ≡ from-held b (min n 32)
@@ -113,31 +140,6 @@ read-zero s b =
 -- A state that counts as it stands is left as it is by a read of 0 bits.
 pub read-none : (s : List ℕ) (b : Bits) → b .count < 32 → read s b 0 ≡ record { value = 0; bits = b }
 read-none s b h = rw (read-zero s b, held-is b h)
-
--- A count that is 0 after a word was 0 before it, and the word was there.
-pub counted-zero : (n : ℕ) (missing : Bool) → counted n missing ≡ 0 → (n ≡ 0) × (missing ≡ false)
-unfolding counted
-counted-zero n true e = absurd (omega arith)
-counted-zero n false e = (e, refl)
-
--- What a count becomes: the same after a word that was there, one more after a missing one, and the greatest stays.
-pub counted-there : (n : ℕ) → counted n false ≡ n
-unfolding counted
-counted-there n = refl
-
-pub counted-missing : (n : ℕ) → n < most-filler → counted n true ≡ n + 1
-unfolding counted
-counted-missing n l = omega arith
-
-pub counted-held : (n : ℕ) → n < 2 ^ 64 → most-filler ≤ n → counted n true ≡ n
-unfolding counted
-counted-held n l m = omega arith
-
--- A count stays below 2^64.
-pub counted-below : (n : ℕ) (missing : Bool) → n < 2 ^ 64 → counted n missing < 2 ^ 64
-unfolding counted
-counted-below n true l = omega arith
-counted-below n false l = l
 
 -- A count of missing words is never set back to 0 by a read.
 pub read-kept : (s : List ℕ) (b : Bits) (n : ℕ) → read s b n .bits .filler ≡ 0 → b .filler ≡ 0

@@ -24,7 +24,7 @@ done-with n = record { number = 0; row = 0; filler = n }
 abbrev pub done : Answer
 done = done-with 0
 
--- Refusals 1 to 4 come with row 0, before a word is read.
+-- A refusal that comes before a word is read has row 0, and no word was missing.
 abbrev pub refused : ℕ → Answer
 refused n = record { number = n; row = 0; filler = 0 }
 

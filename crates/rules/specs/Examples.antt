@@ -41,7 +41,7 @@ abbrev spill-stream : List ℕ
 spill-stream =
     0x18 ∷ 0x20 ∷ 0xA0 ∷ 0x7F ∷ 0x00 ∷ 0x00 ∷ 0x70 ∷ 0x00 ∷ 0x08 ∷ 0x00 ∷ 0xA0 ∷ 0xFF ∷ 0x00 ∷ 0x00 ∷ 0x00 ∷ 0x00 ∷ []
 
--- Row 0 has no bytes, and its block spills over row 1, whose own reader fetches no filler; with offsets 12 and 0.
+-- Row 0 has no bytes, and its block spills over row 1, whose own reader has its word; with offsets 12 and 0.
 abbrev spilt-filler : List ℕ
 spilt-filler = 0x00 ∷ 0x00 ∷ 0x00 ∷ 0x80 ∷ replicate 8 0x00
 
@@ -62,17 +62,19 @@ one-less depth =
     (V2.read-block (0x00 ∷ 0x00 ∷ 0x00 ∷ 0x40 ∷ []) (record { depth = depth; options = 7; initial = 0 }) 646 0 0
     (fresh 0) V2.fresh-row (replicate 3 (replicate 2 0)) .outcome)
 
--- A header of depth 8.
-abbrev depth-8 : V2Hdr
-depth-8 = record { depth = 8; options = 0; initial = 0 }
-
 -- A V2 frame 32 by 1 whose first length is too long: the second, which would need a word that is missing, is not read.
 abbrev long-length : List ℕ
 long-length = replicate 9 0x00 ++ (0x01 ∷ []) ++ replicate 6 0x00 ++ (0xFF ∷ 0xFF ∷ 0x01 ∷ 0xC0 ∷ [])
 
--- What a V2 frame answers: number, row, and how many words were missing.
-abbrev answered : List ℕ → Size → List ℕ
-answered s z = V2.read-frame s z .answer .number ∷ V2.read-frame s z .answer .row ∷ V2.read-frame s z .answer .filler ∷ []
+-- What a V2 frame of 32 by 1 answers: number, row, and how many words were missing.
+abbrev answered : List ℕ → List ℕ
+answered s =
+    let a = V2.read-frame s (size 32 1) .answer in
+    a .number ∷ a .row ∷ a .filler ∷ []
+
+-- A header of depth 8.
+abbrev depth-8 : V2Hdr
+depth-8 = record { depth = 8; options = 0; initial = 0 }
 
 -- The list, over old samples a, b, c and d.
 unfoldable pub examples : ℕ → ℕ → ℕ → ℕ → List Example
@@ -92,8 +94,9 @@ examples a b c d =
     ∷ record {
       given = Answer.answer one-by-one one-lent .number
           ∷ Answer.answer one-by-one one-lent .row
+          ∷ Answer.answer one-by-one one-lent .filler
           ∷ Answer.samples-after one-by-one one-lent (a ∷ []) ++ Answer.map-after one-by-one one-lent (0 ∷ []);
-      stated = 0 ∷ 0 ∷ a ∷ 3 ∷ [];
+      stated = 0 ∷ 0 ∷ 1 ∷ a ∷ 3 ∷ [];
     }
     ∷ record { given = no-bytes .depth ∷ no-bytes .options ∷ no-bytes .initial ∷ []; stated = 16 ∷ 15 ∷ 16_383 ∷ [] }
     ∷ record { given = of-ℤ (read-signed (0 ∷ 0 ∷ 0 ∷ 0b1000_0000 ∷ []) (fresh 0) 4 .value); stated = 1 ∷ 8 ∷ [] }
@@ -108,12 +111,8 @@ examples a b c d =
     ∷ record { given = tabulate 16 1 one-less; stated = replicate 16 7 }
     ∷ record { given = Map.v0-map spilt-filler (12 ∷ 0 ∷ []) (size 2 2); stated = 3 ∷ 3 ∷ 3 ∷ 3 ∷ [] }
     ∷ record { given = V0.frame-filler spilt-filler (12 ∷ 0 ∷ []) (size 2 2) ∷ []; stated = 1 ∷ [] }
-    ∷ record { given = answered long-length (size 32 1); stated = 7 ∷ 0 ∷ 0 ∷ [] }
-    ∷ record { given = answered [] (size 32 1); stated = 5 ∷ 0 ∷ 5 ∷ [] }
-    ∷ record {
-      given = Answer.answer one-by-one one-lent .number ∷ Answer.answer one-by-one one-lent .filler ∷ [];
-      stated = 0 ∷ 1 ∷ [];
-    }
+    ∷ record { given = answered long-length; stated = 7 ∷ 0 ∷ 0 ∷ [] }
+    ∷ record { given = answered []; stated = 5 ∷ 0 ∷ 5 ∷ [] }
     ∷ []
 
 -- Beside them the job program's example: its input, and the text "done", "0: 0* 131", "1: 0* 126".

@@ -324,7 +324,7 @@ pub record Frame : Type 0 where
   pub answer : Answer
 
 -- A row and the rest of the frame. A refusal keeps the blocks before it; 8 is tested only after a row without 5 to 7, and keeps
--- that row too: a word was missing so far, from the header on. The answer has the count of missing words as it then stands.
+-- that row too: a word was missing so far, from the header on. A refusal's answer has the count of missing words as it then stands.
 unfoldable pub then-rows : ℕ → Row → Frame → Frame
 then-rows row q rest =
     cond (eqb (q .number) 0)

@@ -22,13 +22,7 @@ fn head_rows(height: usize) -> usize
 }
 
 // Rows 0 and 1, finished, and then phase one of the others: its residuals lie over what row 1 spilled.
-pub fn store_rows(
-    src: &[u8],
-    offsets: &[u32],
-    size: Size,
-    out: &mut [u16],
-    scratch: &mut [u8],
-)
+pub fn store_rows(src: &[u8], offsets: &[u32], size: Size, out: &mut [u16], scratch: &mut [u8])
     requires { ⌜ Lends size (now offsets) (now out) (now scratch) ⌝ }
     ensures samples { λ _. ⌜ now (out .exit) ≡ Phases.phase-one (now (src .entry)) (now (offsets .entry)) (size .width) (size .height - 2) 2 (Phases.first-rows sample-kind (now (src .entry)) (now (offsets .entry)) size (now (out .entry))) ⌝ }
     ensures directions { λ _. ⌜ now (scratch .exit) ≡ Phases.scratch (now (src .entry)) (now (offsets .entry)) size ++ drop (scratch-bytes size) (now (scratch .entry)) ⌝ }
@@ -39,13 +33,7 @@ pub fn store_rows(
     parse_rows(src, offsets, size, out, scratch);
 }
 
-pub fn decode_frame(
-    src: &[u8],
-    offsets: &[u32],
-    size: Size,
-    out: &mut [u16],
-    scratch: &mut [u8],
-)
+pub fn decode_frame(src: &[u8], offsets: &[u32], size: Size, out: &mut [u16], scratch: &mut [u8])
     requires { ⌜ Lends size (now offsets) (now out) (now scratch) ⌝ }
     ensures samples { λ _. ⌜ now (out .exit) ≡ Phases.two-phase (now (src .entry)) (now (offsets .entry)) size (now (out .entry)) ⌝ }
     ensures directions { λ _. ⌜ now (scratch .exit) ≡ Phases.scratch (now (src .entry)) (now (offsets .entry)) size ++ drop (length (Phases.scratch (now (src .entry)) (now (offsets .entry)) size)) (now (scratch .entry)) ⌝ }
