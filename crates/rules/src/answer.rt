@@ -1,6 +1,6 @@
 // The answer record of document 01, and the frame's size with its limits.
 ghost use mathlib.Core.Path.{_≡_};
-ghost use Rattle.rules.specs.Answer.{done};
+ghost use Rattle.rules.specs.Answer.{done-with, done};
 
 // A number, a row, and how many words were missing. Number 0 is done, the others are refusals.
 #[repr(C)]
@@ -47,14 +47,21 @@ impl Answer {
     // In bands: the list is too short or too long, or a step is no block's number or isn't ready.
     pub const BAD_STEPS: u32 = 12;
 
-    pub fn done() -> Answer
-        ensures { λ r. ⌜ r ≡ done ⌝ }
+    // Done, and so many words were missing.
+    pub fn done_with(filler: u64) -> Answer
+        ensures { λ r. ⌜ r ≡ done-with filler ⌝ }
     {
         Answer {
             number: 0,
             row: 0,
-            filler: 0,
+            filler,
         }
+    }
+
+    pub fn done() -> Answer
+        ensures { λ r. ⌜ r ≡ done ⌝ }
+    {
+        Answer::done_with(0)
     }
 }
 

@@ -8,7 +8,7 @@ ghost use Rattle.rules.specs.V2 as V2;
 ghost use Rattle.rules.specs.Map.{v2-map};
 ghost use Rattle.rules.specs.Answer.{v2, ask, buffers, Yields};
 ghost use Rattle.v2.specs.Blocks.{Lends};
-use marks::mark_old;
+use maps::mark_old;
 use refusals::Lending;
 use refusals::is_too_small;
 use refusals::refuse;

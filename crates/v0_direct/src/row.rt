@@ -12,7 +12,7 @@ ghost use Rattle.v0_cells.specs.Places.{Whole, InFrame, Inner};
 ghost use Rattle.v0_direct.specs.Lent.{InRow};
 ghost use Rattle.v0_direct.specs.Block.{block-ops, after-block};
 use super::sample::decode_samples;
-use marks::fill_block;
+use maps::fill_block;
 use rules::Bits;
 use rules::Size;
 use rules::V0Row;
@@ -94,9 +94,17 @@ fn end_block(map: &mut [u8], place: usize, bits: Bits)
     fill_block(map, place);
 }
 
-// A row whose data begins at an offset of the stream.
-pub fn decode_row(src: &[u8], size: Size, row: usize, offset: u32, out: &mut [u16], map: &mut [u8])
+// A row whose data begins at an offset of the stream: how many words were missing in it.
+pub fn decode_row(
+    src: &[u8],
+    size: Size,
+    row: usize,
+    offset: u32,
+    out: &mut [u16],
+    map: &mut [u8],
+) -> u64
     requires { ⌜ InRow size row (now out) (now map) ⌝ }
+    ensures { λ r. ⌜ r ≡ V0.row-blocks (now (src .entry)) size row offset .bits .filler ⌝ }
     ensures { λ _. ⌜ now (out .exit) ≡ V0.write-all V0.sample-kind (V0.row-blocks (now (src .entry)) size row offset .blocks) (now (out .entry)) ⌝ }
     ensures { λ _. ⌜ now (map .exit) ≡ V0.write-all v0-marks (V0.row-blocks (now (src .entry)) size row offset .blocks) (now (map .entry)) ⌝ }
 {
@@ -105,8 +113,10 @@ pub fn decode_row(src: &[u8], size: Size, row: usize, offset: u32, out: &mut [u1
     let mut col: usize = 0;
     while col < w {
         state = decode_block(src, size, row, col, state, out, map);
-        let bits = state.bits;
-        end_block(map, row * w + col, bits);
+        let after = state.bits;
+        end_block(map, row * w + col, after);
         col += V0Row::BLOCK;
     }
+    let bits = state.bits;
+    bits.filler
 }

@@ -14,8 +14,8 @@ use super::Place;
 use super::base::along_from;
 use super::base::averages;
 use super::base::reference_plus_5;
-use marks::either_part;
-use marks::fill_block;
+use maps::either_part;
+use maps::fill_block;
 use rules::Bits;
 use rules::V2Row;
 
