@@ -1,11 +1,14 @@
--- Filler over a block's bytes one by one, the parts of two, and a map that is all old.
+-- Filler over a block's bytes one by one, a block's end, the parts of two, and a map that is all old.
 use mathlib.Core.Path.{_≡_, refl, sym, ap, ap₂, _∙_}
 use mathlib.Core.List.{List, [], _∷_, _++_}
 use Prim.Native.Nat.{ℕ, zero, suc, _+_, _-_, _*_, _/_, _%_, _≤_, _<_, max}
 use native.Mathlib.Omega.{arith}
 use lib.ListN.{length, getD, set, replicate}
 use lib.Seq.{set-out}
-use Rattle.rules.specs.Frame.{change-cells}
+use borrow.Author.Tests.{ne-eqb}
+use Rattle.rules.specs.declared.reader.Bits.{Bits}
+use Rattle.rules.specs.Reader.{has-filler}
+use Rattle.rules.specs.Frame.{change-cells, ended}
 use Rattle.rules.specs.Map.{with-filler, either-part}
 use Rattle.rules.proofs.Cells.{change-length}
 
@@ -50,6 +53,16 @@ module _ (place : ℕ) (f₀ : List ℕ) where
   filled f i l r =
       let none : 16 - i ≡ 0 = omega arith in
       sym (ap (λ n. change-cells with-filler 0 n (place + i) f) none) ∙ r .left
+
+-- ── A block's end ──
+
+-- Without filler all bytes stay, with filler all sixteen are filled.
+module _ (b : Bits) (place : ℕ) (f g : List ℕ) (e : g ≡ f) where
+  pub ended-clear : b .filler ≡ 0 → g ≡ ended with-filler 0 (has-filler b) place f
+  ended-clear none = rw none e
+
+  pub ended-filled : (b .filler ≡ 0 → ⊥) → (p : ℕ) (h : List ℕ) → p ≡ place → h ≡ change-cells with-filler 0 16 p g → h ≡ ended with-filler 0 (has-filler b) place f
+  ended-filled some p h ep eh = rw (ne-eqb (b .filler) 0 some) (eh ∙ ap₂ (λ q x. change-cells with-filler 0 16 q x) ep e)
 
 -- ── The parts of two ──
 
