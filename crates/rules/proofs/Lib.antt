@@ -34,5 +34,6 @@ pub mod V2Longer
 pub mod V2Final
 pub mod NoFiller
 pub mod Complete
+pub mod Missing
 pub mod Isolation
 pub mod CutCalls

@@ -1,8 +1,8 @@
--- A frame in which no word was missing carries no filler: V0 whose count is 0, and accepted V2. So V0 without an upward block in rows 0
--- and 1, and accepted V2 of a width divisible by 16, have a map that is all 0.
+-- A frame in which no word was missing carries no filler: V0 whose count is 0, and accepted V2. Its map is then as a map was that knew
+-- no filler. So V0 without an upward block in rows 0 and 1, and accepted V2 of a width divisible by 16, have a map that is all 0.
 use Prim.Native.Nat.{ℕ, zero, suc, _+_, _*_, _/_, _%_, _≤_, _<_, min, max}
 use mathlib.Core.Bool.{Bool, true, false, cond, not}
-use mathlib.Core.Path.{_≡_, refl, sym, ap, _∙_}
+use mathlib.Core.Path.{_≡_, refl, sym, ap, ap₂, _∙_}
 use mathlib.Core.Logic.{_≢_}
 use mathlib.Core.List.{List, [], _∷_, _++_}
 use native.Mathlib.Omega.{arith}
@@ -24,14 +24,16 @@ use Rattle.rules.specs.Reader.{most-filler, has-filler}
 use Rattle.rules.specs.Frame.{cells, tabulate, change-cells}
 use Rattle.rules.specs.V0 as V0
 use Rattle.rules.specs.V2 as V2
-use Rattle.rules.specs.Map.{old-part, either-part, v0-marks, v2-marks, v0-map, v2-map}
-use Rattle.rules.proofs.Cells.{All, nil, more, all-append, all-get, all-set}
+use Rattle.rules.specs.Map.{all-old, old-part, either-part, v0-marks, v2-marks, v0-map, v2-map}
+use Rattle.rules.proofs.Cells.{All, nil, more, all-append, all-get, all-set, Each, none, both}
 use Rattle.rules.proofs.Tests.{clash}
 use Rattle.rules.proofs.Longer.{Longer, Sure}
 use Rattle.rules.proofs.V0Blocks.{block, after}
 use Rattle.rules.proofs.V0Longer.{block-sure}
+use Rattle.rules.proofs.V0NoMarks as V0Old
 use Rattle.rules.proofs.V0NoMarks.{NoUpward, no-marks}
 use Rattle.rules.proofs.V2Longer.{block-filler, blocks-sure}
+use Rattle.rules.proofs.V2NoMarks as V2Old
 use Rattle.rules.proofs.V2NoMarks.{v2-unmarked}
 use Rattle.rules.proofs.V2Rows.{then-rows-cases}
 
@@ -78,6 +80,11 @@ module _ (s offsets : List ℕ) (z : Size) where
 abbrev Low : ℕ → Type 0
 Low x = x < 2
 
+-- Bytes below 2 are their first parts.
+first-parts-are : {xs ys : List ℕ} → All Low xs → Each (λ x y. old-part x ≡ y) xs ys → xs ≡ ys
+first-parts-are nil none = refl
+first-parts-are (more {a = x} l ls) (both {b = y} e es) = let q : x ≡ y = omega arith in ap₂ _∷_ q (first-parts-are ls es)
+
 put-low : (place : ℕ) (p : Predictor) (d : ℕ) {f : List ℕ} → All Low f → All Low (V0.put v0-marks place p d f)
 unfolding V0.put
 put-low place Skipped d h = h
@@ -110,6 +117,10 @@ exchange-low w (suc n) row h = exchange-low w n (row + 2) (columns-low w row (w 
 pub v0-no-filler : (s offsets : List ℕ) (z : Size) → V0.frame-filler s offsets z ≡ 0 → All Low (v0-map s offsets z)
 unfolding V0.frame-filler v0-map V0.frame V0.exchange
 v0-no-filler s offsets z e = exchange-low (z .width) (z .height / 2) 0 (write-low (rows-clear s offsets z (z .height) 0 0 e .1) (entry (cells z)))
+
+-- .. so that its map is that of first parts alone, as a map was that knew no filler ..
+pub v0-as-before : (s offsets : List ℕ) (z : Size) → V0.frame-filler s offsets z ≡ 0 → v0-map s offsets z ≡ V0.frame V0Old.old-kind s offsets z (all-old z)
+v0-as-before s offsets z e = first-parts-are (v0-no-filler s offsets z e) (V0Old.v0-first-parts s offsets z)
 
 -- .. and, without an upward block in rows 0 and 1, only bytes 0.
 pub v0-all-0 : (s offsets : List ℕ) (z : Size) → V0.frame-filler s offsets z ≡ 0 → ((row : ℕ) → row < 2 → row < z .height → NoUpward s offsets z row)
@@ -191,6 +202,10 @@ unfolding v2-map V2.frame V2.read-frame
 v2-no-filler s z e =
     let x = V2.header s in
     v2-apply-low (v2-rows-clear s (x .hdr) (z .width) (z .height) 0 (x .bits) e) (entry (cells z))
+
+-- .. its map is that of first parts alone ..
+pub v2-as-before : (s : List ℕ) (z : Size) → V2.read-frame s z .answer .number ≡ 0 → v2-map s z ≡ V2.frame V2Old.old-kind s z (all-old z)
+v2-as-before s z e = first-parts-are (v2-no-filler s z e) (V2Old.v2-first-parts s z)
 
 -- .. and, at a width divisible by 16, only bytes 0.
 pub v2-all-0 : (s : List ℕ) (z : Size) → 20 ≤ z .width → z .width % 16 ≡ 0 → V2.read-frame s z .answer .number ≡ 0

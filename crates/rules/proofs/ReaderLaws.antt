@@ -80,12 +80,6 @@ pub counted-held : (n : ℕ) → n < 2 ^ 64 → most-filler ≤ n → counted n 
 unfolding counted
 counted-held n l m = omega arith
 
--- A count stays below 2^64.
-pub counted-below : (n : ℕ) (missing : Bool) → n < 2 ^ 64 → counted n missing < 2 ^ 64
-unfolding counted
-counted-below n true l = omega arith
-counted-below n false l = l
-
 -- A count that is 0 after a word was 0 before it, and the word was there.
 pub counted-zero : (n : ℕ) (missing : Bool) → counted n missing ≡ 0 → (n ≡ 0) × (missing ≡ false)
 unfolding counted

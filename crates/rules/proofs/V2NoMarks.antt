@@ -24,7 +24,8 @@ use Rattle.rules.specs.Map.{old-part, either-part, v2-marks, v2-map, all
 use Rattle.rules.specs.Answer.{v2, Ask, Lent, stream-answer, answer, frame-marks, marks}
 use Rattle.rules.specs.Ranges.{reference-5}
 use Rattle.rules.proofs.Cells.{Each, none, both, each-get}
-use Rattle.rules.proofs.V2Cells.{Joined, apply-joined, write-plain}
+use Rattle.rules.proofs.V0NoMarks.{all-joined}
+use Rattle.rules.proofs.V2Cells.{Joined, frame-joined, write-plain}
 use Rattle.rules.proofs.Refusals.{passed, answer-passed, v2-size-least}
 use Rattle.rules.proofs.V2Rows.{then-rows-cases}
 use Rattle.rules.proofs.V2Places.{further, reference-is, reference-before}
@@ -53,10 +54,10 @@ chain-le stop = omega arith
 chain-le (link at before c) = let q = chain-le c in omega arith
 
 -- The first part alone, which filler leaves as it is.
-abbrev old-kind : Kind ℕ
+abbrev pub old-kind : Kind ℕ
 old-kind = record { constant = λ v. 0; average = max; adjust = λ scale d a. a; filled = λ a. a }
 
-abbrev Old : ℕ → ℕ → Type 0
+abbrev pub Old : ℕ → ℕ → Type 0
 Old a b = old-part a ≡ b
 
 old-joined : Joined Old v2-marks old-kind
@@ -66,9 +67,10 @@ old-joined = record { constant = λ v. refl; average = averages; adjust = λ sca
     averages : (a b a′ b′ : ℕ) → Old a b → Old a′ b′ → (max (a % 2) (a′ % 2) + 2 * max (a / 2) (a′ / 2)) % 2 ≡ max b b′
     averages a b a′ b′ e e′ = omega arith
 
-all-joined : (n : ℕ) → Each Old (replicate n 1) (replicate n 1)
-all-joined zero = none
-all-joined (suc n) = both refl (all-joined n)
+-- A map of first parts alone is what every map's first parts are.
+pub v2-first-parts : (s : List ℕ) (z : Size) → Each Old (v2-map s z) (frame old-kind s z (all-old z))
+unfolding v2-map
+v2-first-parts s z = frame-joined Old v2-marks old-kind old-joined s z (all-joined (cells z))
 
 -- The first n marks are 0.
 abbrev Zero : ℕ → List ℕ → Type 0
@@ -203,7 +205,7 @@ pub v2-unmarked : (s : List ℕ) (z : Size) → 20 ≤ z .width → z .width % 1
 unfolding v2-map frame read-frame
 v2-unmarked s z wide whole done i l =
     let x = header s in
-    each-get Old (apply-joined Old v2-marks old-kind old-joined (read-frame s z .blocks) (all-joined (cells z))) i 0 0 refl
+    each-get Old (v2-first-parts s z) i 0 0 refl
     ∙ chain-zero (rows-chain s (x .hdr) (z .width) wide whole (z .height) 0 (x .bits) done) (all-old z)
     (rw length-replicate (omega (arith, mul-comm (z .width) (z .height)))) (λ j h. absurd (omega arith)) i (omega (arith, mul-comm (z .width) (z .height)))
 
