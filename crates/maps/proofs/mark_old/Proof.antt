@@ -7,9 +7,9 @@ use borrow.Author.Needs.{needs}
 use lib.ListN.{length, take, set, replicate, length-set}
 use lib.Seq.{take-suc-set, take-all}
 use native.Mathlib.Numerals.{add-one}
-use Rattle.refusals.proofs.RefusalLaws.{ones-more}
-use Rattle.refusals.proofs.mark_old.Statement.{statement}
-use Rattle.refusals.proofs.mark_old.Tie as tie
+use Rattle.maps.proofs.MapLaws.{ones-more}
+use Rattle.maps.proofs.mark_old.Statement.{statement}
+use Rattle.maps.proofs.mark_old.Tie as tie
 
 abbrev Inv-loop : tie.InvT-loop
 Inv-loop map₀ i₀ map i = (i ≤ length map) × ((length map ≡ length map₀) × (take i map ≡ replicate i 1))
