@@ -160,7 +160,7 @@ two-by-two old = direct-call frame-stream (0 ∷ 4 ∷ []) 2 2 old
 
 -- Over four samples it is done, and no word was missing.
 pub two-by-two-done : (old : List ℕ) → length old ≡ 4 → exported (two-by-two old) .answered ≡ Answer.done
-unfolding returned entry Answer.answer Answer.refusal Answer.too-large Answer.too-small Answer.short-samples Answer.short-offsets Answer.short-map Answer.short-scratch Answer.first-of Answer.stream-answer Reader.fetched Reader.counted Reader.held Reader.read Reader.fields Reader.four Reader.signed Reader.modulo Reader.read-residual V0.fresh-row V0.operated V0.operate V0.head V0.bounded V0.predictor V0.length-of V0.length-bits V0.residual-bits V0.sample V0.samples V0.blocks V0.row-ops V0.rows-filler V0.frame-filler
+unfolding returned entry Answer.answer Answer.refusal Answer.too-large Answer.too-small Answer.short-samples Answer.short-offsets Answer.short-map Answer.short-scratch Answer.first-of Answer.stream-answer Reader.fetched Reader.counted Reader.held Reader.read Reader.fields Reader.four Reader.signed Reader.modulo Reader.read-residual V0.fresh-row V0.operated V0.operate V0.head V0.bounded V0.predictor V0.length-of V0.length-bits V0.residual-bits V0.sample V0.samples V0.blocks V0.row-blocks V0.rows-filler V0.frame-filler
 two-by-two-done old e = rw e
 
 -- Its second and fourth sample are marked 0. Its third is marked 1: it is the old second one.
@@ -186,13 +186,13 @@ module _ (b b′ x y : List ℕ) (h : Samples b) (h′ : Samples b′) (cs : Cal
   pub unmarked-same : (getD (exported (two-by-two old) .left .samples) 1 0 ≡ getD (exported (two-by-two old′) .left .samples) 1 0)
       × (getD (exported (two-by-two old) .left .samples) 3 0 ≡ getD (exported (two-by-two old′) .left .samples) 3 0)
   unfolding returned entry
-  unmarked-same = (same .samples 1 (lit≤ tt) (ap (λ l. getD l 1 0) (two-by-two-marks .0)), same .samples 3 (lit≤ tt) (ap (λ l. getD l 3 0) (two-by-two-marks .0)))
+  unmarked-same = (same .samples 1 (lit≤ tt) (ap (λ l. Map.old-part (getD l 1 0)) (two-by-two-marks .0)), same .samples 3 (lit≤ tt) (ap (λ l. Map.old-part (getD l 3 0)) (two-by-two-marks .0)))
 
   -- The third is what its buffer held at the second place.
   pub marked-old : getD (exported (two-by-two old) .left .samples) 2 0 ≡ (getD old 1 0 + 0) % 65_536
   unfolding returned entry
   marked-old =
-      same .marks-c .old is-direct 2 (lit≤ tt) (ap (λ l. getD l 2 0) (two-by-two-marks .0)) .1
+      same .marks-c .old is-direct 2 (lit≤ tt) (ap (λ l. Map.old-part (getD l 2 0)) (two-by-two-marks .0)) .1
       ∙ (λ i. (getD old (two-by-two-marks .1 .0 i) 0 + two-by-two-marks .1 .1 i) % 65_536)
 
 -- ── Two lists ──
