@@ -1,10 +1,10 @@
 // The reader's core: bits of a stream of words, the state by value. Any state, any stream, any count of bits and any 64-bit
 // position is answered, by document 01's "Reader record".
-ghost use mathlib.Core.Bool.{_||_};
+ghost use mathlib.Core.Bool.{true};
 ghost use mathlib.Core.Path.{_≡_};
 ghost use Prim.Native.Nat.{_+_, _*_, _/_, _%_, _^_, _≤_, _<_, min};
-ghost use Rattle.rules.specs.Reader.{fetched, held, reset-at, read, signed, read-signed, modulo, read-residual};
-ghost use Rattle.bits.specs.Refilled.{Enough, Whole};
+ghost use Rattle.rules.specs.Reader.{fetched, counted, held, reset-at, read, signed, read-signed, modulo, read-residual};
+ghost use Rattle.bits.specs.Refilled.{joined-with, Enough, Whole};
 
 pub mod four;
 
@@ -55,10 +55,14 @@ fn capped(n: u32) -> u32
     }
 }
 
-fn either(a: bool, b: bool) -> bool
-    ensures { λ r. ⌜ r ≡ a || b ⌝ }
+// A count of missing words after one more.
+fn count_missing(filler: u64) -> u64
+    ensures { λ r. ⌜ r ≡ counted filler true ⌝ }
 {
-    a || b
+    if filler < Bits::MOST_FILLER {
+        return filler + 1;
+    }
+    filler
 }
 
 // How many bits a state holds.
@@ -78,7 +82,24 @@ struct Refilled {
     bits: Bits,
 }
 
-// Fetches a word if fewer than k bits are held.
+// The bits held and those of a word that follows them, and the state after it with a count of missing words.
+fn joined(bits: Bits, have: u32, next: Word, filler: u64) -> Refilled
+    requires { ⌜ have < 32 ⌝ }
+    ensures { λ r. ⌜ r ≡ joined-with bits have (next .value) filler ⌝ }
+{
+    Refilled {
+        words: bits.word as u64 * 4_294_967_296 + next.value as u64,
+        bits: Bits {
+            pos: std::num::wrapping_add_u64(bits.pos, Bits::WORD_BYTES),
+            word: next.value,
+            count: have + Bits::WORD_BITS,
+            filler,
+        },
+    }
+}
+
+// Fetches a word if fewer than k bits are held. A missing word has a way out of its own, so that where words are there nothing is
+// spent on the count.
 fn refill(src: &[u8], bits: Bits, k: u32) -> Refilled
     requires { ⌜ k ≤ 32 ⌝ }
     ensures { λ r. ⌜ Enough (now (src .entry)) bits k r ⌝ }
@@ -91,20 +112,15 @@ fn refill(src: &[u8], bits: Bits, k: u32) -> Refilled
                 pos: bits.pos,
                 word: bits.word,
                 count: have,
-                overrun: bits.overrun,
+                filler: bits.filler,
             },
         };
     }
     let next = fetch(src, bits.pos);
-    Refilled {
-        words: bits.word as u64 * 4_294_967_296 + next.value as u64,
-        bits: Bits {
-            pos: std::num::wrapping_add_u64(bits.pos, Bits::WORD_BYTES),
-            word: next.value,
-            count: have + Bits::WORD_BITS,
-            overrun: either(bits.overrun, next.missing),
-        },
+    if next.missing {
+        return joined(bits, have, next, count_missing(bits.filler));
     }
+    joined(bits, have, next, bits.filler)
 }
 
 // Reads n bits, at most 32, and says that a word it fetched has 32 bits: so the value can be cut into shorter fields. Both ways
@@ -123,7 +139,7 @@ pub fn get_whole(src: &[u8], bits: Bits, n: u32) -> Got
             pos: full.pos,
             word: full.word,
             count: left % Bits::WORD_BITS,
-            overrun: full.overrun,
+            filler: full.filler,
         },
     }
 }
@@ -135,16 +151,16 @@ pub fn get(src: &[u8], bits: Bits, n: u32) -> Got
     get_whole(src, bits, n)
 }
 
-// Drops the buffered bits and goes to `pos`; an overrun stays.
+// Drops the buffered bits and goes to `pos`; the count of missing words stays.
 pub fn reset_at(bits: Bits, pos: u64) -> Bits
     ensures { λ r. ⌜ r ≡ reset-at bits pos ⌝ }
 {
-    let overrun = bits.overrun;
+    let filler = bits.filler;
     Bits {
         pos,
         word: 0,
         count: 0,
-        overrun,
+        filler,
     }
 }
 

@@ -89,7 +89,7 @@ Isolation = Rules.Isolation step final
 pub isolation : Isolation
 isolation = Rules.isolation step final
 
--- Two-phase equals direct, of the exports: called alike, with scratch long enough, they give the same answer, samples and marks.
+-- Two-phase equals direct, of the exports: called alike, with scratch long enough, they give the same number, row, samples and marks.
 abbrev pub TwoPhase : Type 0
 TwoPhase = (c d : Export) → Paired (exported c) (exported d) → SameFrame (exported c) (exported d)
 

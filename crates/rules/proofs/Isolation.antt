@@ -4,8 +4,8 @@
 -- them, each list on one buffer: a call is lent the buffer, or the part of it that starts at its first sample, as the call before
 -- left it, and nobody else writes it. What the buffers first held is free, and so is what maps and scratch hold at entry. If the
 -- last calls of the two lists are alike (in decoder, stream, offsets, size and the lengths of what they are lent) and both end
--- with done or 5 to 8, then their answers are equal; the maps' first N bytes are the rules' marks, which stream, offsets and size
--- alone set; every one of the first N samples that is marked 0 is equal; and in V0 a sample marked 1 is the sample that the call
+-- with done or 5 to 8, then their answers are equal, with the count of missing words; the maps' first N bytes are the rules' marks,
+-- which stream, offsets and size alone set; every one of the first N samples that is marked 0 is equal; and in V0 a sample marked 1 is the sample that the call
 -- found at one position plus an amount, modulo 65,536, both set by stream, offsets and size alone.
 -- Nothing is said of samples marked 1 in V2, of what lies past N, or of calls that end with 1 to 4: those change nothing.
 use Prim.Native.Nat.{ℕ, _+_, _%_, _<_, _≤_}
@@ -247,7 +247,7 @@ calls-below step h (call cs c rest e) =
 same : (c d : Returned) → Samples (c .found .samples) → Samples (d .found .samples) → Alike c d → Ran (c .answered) → Ran (d .answered) → Same c d
 same c d below below′ alike ran ran′ =
     record {
-      answers = c .yields .answered ∙ answer-passed (c .ask) (lengths (c .found)) ok ∙ ap (λ a. stream-answer (a .decoder) (a .stream) (a .size)) (alike .ask)
+      answers = c .yields .answered ∙ answer-passed (c .ask) (lengths (c .found)) ok ∙ ap (λ a. stream-answer (a .decoder) (a .stream) (a .offsets) (a .size)) (alike .ask)
           ∙ sym (d .yields .answered ∙ answer-passed (d .ask) (lengths (d .found)) ok′);
       marks-c = marked c ok below;
       marks-d = marked d ok′ below′;

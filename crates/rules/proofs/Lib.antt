@@ -25,4 +25,5 @@ pub mod V2Position
 pub mod V2Rows
 pub mod V2Fixed
 pub mod V2NoMarks
+pub mod Missing
 pub mod Isolation

@@ -165,8 +165,8 @@ module _ (s : List ℕ) (h : V2Hdr) (w : ℕ) (wide : 20 ≤ w) where
   rows-chain whole (suc k) row b =
       let q = read-row s h w row b in
       then-rows-cases (λ x. x .answer .number ≡ 0 → Chain (row * w) (x .blocks) ((row + suc k) * w)) row q (rows s h w k (suc row) (q .bits))
-      (λ r e. absurd (r e)) (λ r e. absurd (let z : 8 ≡ 0 = e in omega arith))
-      (λ r e. rw on (chain-append (this r) (rows-chain whole k (suc row) (q .bits) e)))
+      (λ r e. absurd (r e)) (λ r m e. absurd (let z : 8 ≡ 0 = e in omega arith))
+      (λ r m e. rw on (chain-append (this r) (rows-chain whole k (suc row) (q .bits) e)))
     where
       on : row + suc k ≡ suc row + k
       on = omega arith

@@ -52,7 +52,7 @@ option-4 h = eqb (h .options / 4 % 2) 1
 
 -- ── A row's state ──
 
--- Each row starts at the next multiple of 16 at or after the reader's position; an overrun stays.
+-- Each row starts at the next multiple of 16 at or after the reader's position; the count of missing words stays.
 unfoldable pub aligned : Bits → Bits
 aligned b = reset-at b ((b .pos + (16 - b .pos % 16) % 16) % 2 ^ 64)
 
@@ -239,6 +239,13 @@ number (EarlyMotion b) = 5
 number (Outside b) = 6
 number (LongDifference b) = 7
 
+-- The reader's state after an outcome.
+abbrev pub state-after : V2Block → Bits
+state-after (Next b st) = b
+state-after (EarlyMotion b) = b
+state-after (Outside b) = b
+state-after (LongDifference b) = b
+
 -- What lengths and differences give: the outcome, what is remembered, and the differences.
 pub record Tail : Type 0 where
   pub outcome : V2Block
@@ -309,17 +316,17 @@ pub record Frame : Type 0 where
   pub answer : Answer
 
 -- A row and the rest of the frame. A refusal keeps the blocks before it; 8 is tested only after a row without 5 to 7, and keeps
--- that row too.
+-- that row too: a word was missing so far, from the header on. A refusal's answer has the count of missing words as it then stands.
 unfoldable pub then-rows : ℕ → Row → Frame → Frame
 then-rows row q rest =
     cond (eqb (q .number) 0)
-    (cond (q .bits .overrun) (record { blocks = q .blocks; answer = record { number = 8; row = row } })
-    (record { blocks = q .blocks ++ rest .blocks; answer = rest .answer }))
-    (record { blocks = q .blocks; answer = record { number = q .number; row = row } })
+    (cond (eqb (q .bits .filler) 0) (record { blocks = q .blocks ++ rest .blocks; answer = rest .answer })
+    (record { blocks = q .blocks; answer = record { number = 8; row = row; filler = q .bits .filler } }))
+    (record { blocks = q .blocks; answer = record { number = q .number; row = row; filler = q .bits .filler } })
 
 -- k rows from a row on.
 unfoldable pub rows : List ℕ → V2Hdr → ℕ → ℕ → ℕ → Bits → Frame
-rows s h w zero row b = record { blocks = []; answer = record { number = 0; row = 0 } }
+rows s h w zero row b = record { blocks = []; answer = record { number = 0; row = 0; filler = b .filler } }
 rows s h w (suc k) row b =
     let q = read-row s h w row b in
     then-rows row q (rows s h w k (suc row) (q .bits))

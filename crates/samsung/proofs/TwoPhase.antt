@@ -1,4 +1,5 @@
--- The two-phase entries equal the direct ones: called alike, with scratch long enough, they give the same answer, samples and marks.
+-- The two-phase entries equal the direct ones: called alike, with scratch long enough, they give the same number, row, samples and
+-- marks. The direct ones alone count missing words.
 use mathlib.Core.Path.{_≡_, refl, sym, ap, subst, _∙_}
 use mathlib.Core.Bool.{Bool, true, false, cond}
 use mathlib.Core.List.{List, _++_}
@@ -8,9 +9,10 @@ use lib.Dec.{eqb}
 use lib.ListN.{length, take, drop}
 use lib.Seq.{length-take-le}
 use borrow.Author.Tests.{le-ltb, eqb-true}
+use Rattle.rules.specs.declared.answer.Answer.{Answer}
 use Rattle.rules.specs.declared.answer.Size.{Size}
 use Rattle.rules.specs.Frame.{cells}
-use Rattle.rules.specs.Answer.{direct, two-phase, Ask, Lent, lent, lengths, too-small, short-samples, short-offsets, short-scratch, scratch-bytes, refusal, stream-answer, answer, frame-samples, frame-marks, marks, unless-refused, samples-after, map-after}
+use Rattle.rules.specs.Answer.{done, refused, Decoder, direct, two-phase, Ask, Lent, lent, lengths, too-small, short-samples, short-offsets, short-scratch, scratch-bytes, refusal, stream-answer, answer, frame-samples, frame-marks, marks, unless-refused, samples-after, map-after}
 use Rattle.rules.proofs.Refusals.{samples-enough}
 use Rattle.rules.proofs.TwoPhase.{two-phase-direct, two-phase-map-direct}
 use Rattle.rules.proofs.Isolation.{Returned, Ran, ran-passed, map-marked}
@@ -31,10 +33,14 @@ pub record Paired (c d : Returned) : Type 0 where
   pub maps : lengths (d .found) .map ≡ lengths (c .found) .map
   pub scratch : scratch-bytes (c .ask .size) ≤ lengths (d .found) .scratch
 
--- They answer alike and leave the same samples; over equal maps they leave equal maps, and where they are done the marks of the
+-- An answer without its count of missing words.
+abbrev pub uncounted : Answer → Answer
+uncounted r = record { number = r .number; row = r .row; filler = 0 }
+
+-- They answer with the same number and row, the two-phase one without a count, and leave the same samples; over equal maps they leave equal maps, and where they are done the marks of the
 -- frame's samples are equal whatever the maps held.
 pub record SameFrame (c d : Returned) : Type 0 where
-  pub answers : d .answered ≡ c .answered
+  pub answers : d .answered ≡ uncounted (c .answered)
   pub samples : d .left .samples ≡ c .left .samples
   pub map : d .found .map ≡ c .found .map → d .left .map ≡ c .left .map
   pub marks : Ran (c .answered) → (m m′ : List ℕ) → c .left .map ≡ some m → d .left .map ≡ some m′
@@ -47,9 +53,17 @@ module _ (a : Ask) (is : a .decoder ≡ direct) (n : ℕ) (m : Option ℕ) (k j 
   unfolding refusal too-small short-samples short-offsets short-scratch
   refusal-same = rw (is, le-ltb k (scratch-bytes (a .size)) enough)
 
-  answer-same : answer (in-two-phases a) (lent n m k) ≡ answer a (lent n m j)
+  answer-same : answer (in-two-phases a) (lent n m k) ≡ uncounted (answer a (lent n m j))
   unfolding answer stream-answer
-  answer-same = rw (refusal-same, is)
+  answer-same = rw refusal-same (go (a .decoder) is (eqb r 0))
+    where
+      r : ℕ
+      r = refusal a (lent n m j)
+
+      go : (d : Decoder) → d ≡ direct → (t : Bool)
+          → cond t done (refused r) ≡ uncounted (cond t (stream-answer d (a .stream) (a .offsets) (a .size)) (refused r))
+      go d e true = rw e
+      go d e false = refl
 
   map-same : (buffer : List ℕ) → map-after (in-two-phases a) (lent n m k) buffer ≡ map-after a (lent n m j) buffer
   unfolding map-after unless-refused frame-marks
@@ -110,10 +124,10 @@ same-frame c d p =
     j : ℕ
     j = lengths (c .found) .scratch
 
-    answers : d .answered ≡ c .answered
+    answers : d .answered ≡ uncounted (c .answered)
     answers =
         d .yields .answered ∙ (λ i. answer (p .ask i) (lent (length (p .samples i)) (p .maps i) k))
-        ∙ answer-same (c .ask) (p .decoder) n m k j (p .scratch) ∙ sym (c .yields .answered)
+        ∙ answer-same (c .ask) (p .decoder) n m k j (p .scratch) ∙ ap uncounted (sym (c .yields .answered))
 
 -- ── Of the entries ──
 

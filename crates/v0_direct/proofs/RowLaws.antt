@@ -8,13 +8,12 @@ use lib.Dec.{leb}
 use lib.ListN.{length}
 use borrow.Author.Tests.{leb-true}
 use Rattle.rules.specs.Frame.{cells}
-use Rattle.rules.specs.V0.{Kind, apply, sample-kind, head, predictor, order, blocks, row-ops, fresh-row}
+use Rattle.rules.specs.V0.{Ops, Kind, apply, sample-kind, head, predictor, order, blocks, row-ops, fresh-row}
 use Rattle.rules.specs.Map.{v0-marks}
 use Rattle.rules.specs.declared.answer.Size.{Size}
 use Rattle.rules.specs.declared.reader.Bits.{Bits}
 use Rattle.rules.specs.declared.v0.V0Row.{V0Row}
 use Rattle.rules.specs.declared.v0.V0Head.{V0Head}
-use Rattle.rules.specs.declared.v0.V0Op.{V0Op}
 use Rattle.v0_stream.specs.Lengths.{Within, furthest}
 use Rattle.v0_cells.specs.Places.{Whole, InFrame, Inner}
 use Rattle.v0_direct.specs.Lent.{InRow}
@@ -44,15 +43,16 @@ module _ (s : List ℕ) (z : Size) (row col : ℕ) (st : V0Row) (h : V0Head) (eh
 -- ── The blocks of a row ──
 
 -- What is left of a row from a column on.
-abbrev pub rest-of : List ℕ → Size → ℕ → ℕ → V0Row → List V0Op
-rest-of s z row col st = blocks s (row * z .width) (predictor z row) ((z .width + 15 - col) / 16) col st .ops
+abbrev pub rest-of : List ℕ → Size → ℕ → ℕ → V0Row → Ops
+rest-of s z row col st = blocks s (row * z .width) (predictor z row) ((z .width + 15 - col) / 16) col st
 
 pub record Rowing (s : List ℕ) (z : Size) (row offset : ℕ) (out₀ out map₀ map : List ℕ) (st : V0Row) (col : ℕ) : Type 0 where
   pub whole : col % 16 ≡ 0
   pub below : col ≤ z .width + 15
   pub near : Within (15 + col / 16) (st .lengths)
-  pub samples-left : Left sample-kind (rest-of s z row col st) (row-ops s z row offset .ops) out₀ out
-  pub marks-left : Left v0-marks (rest-of s z row col st) (row-ops s z row offset .ops) map₀ map
+  pub samples-left : Left sample-kind (rest-of s z row col st .ops) (row-ops s z row offset .ops) out₀ out
+  pub marks-left : Left v0-marks (rest-of s z row col st .ops) (row-ops s z row offset .ops) map₀ map
+  pub reader-left : rest-of s z row col st .bits ≡ row-ops s z row offset .bits
 
 module _ (s : List ℕ) (z : Size) (row offset : ℕ) (out₀ map₀ : List ℕ) where
   pub rowing-begun : (st : V0Row) → st ≡ fresh-row row offset → Rowing s z row offset out₀ out₀ map₀ map₀ st 0
@@ -62,12 +62,13 @@ module _ (s : List ℕ) (z : Size) (row offset : ℕ) (out₀ map₀ : List ℕ)
         whole = refl;
         below = omega arith;
         near = rw e (fresh-within row offset);
-        samples-left = left-begun sample-kind _ _ out₀ all;
-        marks-left = left-begun v0-marks _ _ map₀ all;
+        samples-left = left-begun sample-kind _ _ out₀ (ap (λ x. x .ops) all);
+        marks-left = left-begun v0-marks _ _ map₀ (ap (λ x. x .ops) all);
+        reader-left = ap (λ x. x .bits) all;
       }
     where
-      all : rest-of s z row 0 st ≡ row-ops s z row offset .ops
-      all = let q : z .width + 15 - 0 ≡ z .width + 15 = omega arith in ap₂ (λ n x. blocks s (row * z .width) (predictor z row) (n / 16) 0 x .ops) q e
+      all : rest-of s z row 0 st ≡ row-ops s z row offset
+      all = let q : z .width + 15 - 0 ≡ z .width + 15 = omega arith in ap₂ (λ n x. blocks s (row * z .width) (predictor z row) (n / 16) 0 x) q e
 
   -- A block that the row still has lies in the frame, its lengths near enough to 0.
   pub row-block : (out map : List ℕ) (st : V0Row) (col : ℕ) → col < z .width → InRow z row out₀ map₀ → Rowing s z row offset out₀ out map₀ map st col
@@ -91,20 +92,33 @@ module _ (s : List ℕ) (z : Size) (row offset : ℕ) (out₀ map₀ : List ℕ)
         near = rw es (within-more (suc (15 + col / 16)) (15 + (col + 16) / 16) (head s st .row .lengths) (omega arith) (head-within s st (15 + col / 16) (omega arith) (r .near)));
         samples-left = left-on sample-kind (block-ops s z row col st .ops) _ _ _ out₀ out out′ first eo (r .samples-left);
         marks-left = left-on v0-marks (block-ops s z row col st .ops) _ _ _ map₀ map map′ first em (r .marks-left);
+        reader-left = sym on ∙ r .reader-left;
       }
     where
       more : (z .width + 15 - col) / 16 ≡ suc ((z .width + 15 - (col + 16)) / 16)
       more = omega arith
 
-      first : rest-of s z row col st ≡ block-ops s z row col st .ops ++ rest-of s z row (col + 16) st′
+      first : rest-of s z row col st .ops ≡ block-ops s z row col st .ops ++ rest-of s z row (col + 16) st′ .ops
       first =
           ap (λ n. blocks s (row * z .width) (predictor z row) n col st .ops) more
-          ∙ ap (λ x. block-ops s z row col st .ops ++ rest-of s z row (col + 16) x) (sym es)
+          ∙ ap (λ x. block-ops s z row col st .ops ++ rest-of s z row (col + 16) x .ops) (sym es)
 
-  pub rowed : (k : Kind ℕ) (st : V0Row) (col : ℕ) (f₀ f : List ℕ) → z .width ≤ col → Left k (rest-of s z row col st) (row-ops s z row offset .ops) f₀ f
-      → f ≡ apply k (row-ops s z row offset .ops) f₀
+      on : rest-of s z row col st .bits ≡ rest-of s z row (col + 16) st′ .bits
+      on =
+          ap (λ n. blocks s (row * z .width) (predictor z row) n col st .bits) more
+          ∙ ap (λ x. rest-of s z row (col + 16) x .bits) (sym es)
+
+  -- From the row's end on nothing is left.
+  none-left : (st : V0Row) (col : ℕ) → z .width ≤ col → rest-of s z row col st ≡ record { ops = []; bits = st .bits }
   unfolding blocks
-  rowed k st col f₀ f l r =
+  none-left st col l =
       let e : (z .width + 15 - col) / 16 ≡ 0 = omega arith in
-      let none : rest-of s z row col st ≡ [] = ap (λ n. blocks s (row * z .width) (predictor z row) n col st .ops) e in
-      left-none k _ _ f₀ f none r
+      ap (λ n. blocks s (row * z .width) (predictor z row) n col st) e
+
+  pub rowed : (k : Kind ℕ) (st : V0Row) (col : ℕ) (f₀ f : List ℕ) → z .width ≤ col → Left k (rest-of s z row col st .ops) (row-ops s z row offset .ops) f₀ f
+      → f ≡ apply k (row-ops s z row offset .ops) f₀
+  rowed k st col f₀ f l r = left-none k _ _ f₀ f (ap (λ x. x .ops) (none-left st col l)) r
+
+  pub row-read : (st : V0Row) (col : ℕ) → z .width ≤ col → rest-of s z row col st .bits ≡ row-ops s z row offset .bits
+      → st .bits .filler ≡ row-ops s z row offset .bits .filler
+  row-read st col l e = ap (λ b. b .filler) (sym (ap (λ x. x .bits) (none-left st col l)) ∙ e)

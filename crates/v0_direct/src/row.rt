@@ -80,9 +80,17 @@ fn decode_block(
     V0Row { lengths, bits }
 }
 
-// A row whose data begins at an offset of the stream.
-pub fn decode_row(src: &[u8], size: Size, row: usize, offset: u32, out: &mut [u16], map: &mut [u8])
+// A row whose data begins at an offset of the stream: how many words were missing in it.
+pub fn decode_row(
+    src: &[u8],
+    size: Size,
+    row: usize,
+    offset: u32,
+    out: &mut [u16],
+    map: &mut [u8],
+) -> u64
     requires { ⌜ InRow size row (now out) (now map) ⌝ }
+    ensures { λ r. ⌜ r ≡ V0.row-ops (now (src .entry)) size row offset .bits .filler ⌝ }
     ensures { λ _. ⌜ now (out .exit) ≡ V0.apply V0.sample-kind (V0.row-ops (now (src .entry)) size row offset .ops) (now (out .entry)) ⌝ }
     ensures { λ _. ⌜ now (map .exit) ≡ V0.apply v0-marks (V0.row-ops (now (src .entry)) size row offset .ops) (now (map .entry)) ⌝ }
 {
@@ -93,4 +101,6 @@ pub fn decode_row(src: &[u8], size: Size, row: usize, offset: u32, out: &mut [u1
         state = decode_block(src, size, row, col, state, out, map);
         col += V0Row::BLOCK;
     }
+    let bits = state.bits;
+    bits.filler
 }

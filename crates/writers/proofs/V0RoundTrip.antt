@@ -144,7 +144,7 @@ module _ (s offsets : List ℕ) (st : Stream s) (w h : ℕ) (g : List ℕ) (smal
       sees-blocks s st w h g small row l (blocks-in w) 0 (fresh-row row (getD offsets row 0)) (found row l .rest) (fresh-four row (getD offsets row 0)) refl
       (omega arith) (rw (fresh-bits row (getD offsets row 0)) (found row l .sees))
 
-  row-clean : (row : ℕ) → row < h → row-ops s size row (getD offsets row 0) .bits .overrun ≡ false
+  row-clean : (row : ℕ) → row < h → row-ops s size row (getD offsets row 0) .bits .filler ≡ 0
   unfolding row-ops
   row-clean row l = row-seen row l .next-sees .no-filler
 
@@ -180,7 +180,7 @@ pub record Holds (s offsets : List ℕ) (z : Size) (f : List ℕ) : Type 0 where
   pub no-marks : All (λ x. x ≡ 0) (v0-map s offsets z)
   pub two-phase-no-marks : All (λ x. x ≡ 0) (two-phase-map s offsets z)
   pub blocks : (row : ℕ) → row < z .height → EachInRow WrittenBlock s offsets z row
-  pub no-filler : (row : ℕ) → row < z .height → row-ops s z row (getD offsets row 0) .bits .overrun ≡ false
+  pub no-filler : (row : ℕ) → row < z .height → row-ops s z row (getD offsets row 0) .bits .filler ≡ 0
 
 -- Whatever follows the stream and the offsets.
 module _ (z : Size) (f : List ℕ) (e : length f ≡ cells z) (small : All (λ a. a < 16_384) f) where

@@ -85,5 +85,5 @@ examples =
     ∷ []
 
 pub examples-hold : Hold examples
-unfolding marked digits samples-text rows-text answer-text text tabulate Reader.fetched Reader.held Reader.read Reader.fields Reader.four Reader.signed Reader.modulo Reader.read-residual V0.fresh-row V0.operated V0.operate V0.head V0.bounded V0.predictor V0.length-of V0.length-bits V0.residual-bits V0.sample V0.samples V0.blocks V0.row-ops V0.rows V0.put V0.apply V0.swap V0.exchange-columns V0.exchange-rows V0.exchange V0.frame V0.decoded Map.v0-map Answer.too-large Answer.too-small Answer.short-offsets Answer.short-samples Answer.short-map Answer.short-scratch Answer.first-of Answer.refusal Answer.stream-answer Answer.answer Answer.frame-samples Answer.frame-marks Answer.unless-refused Answer.samples-after Answer.map-after
+unfolding marked digits samples-text rows-text answer-text text tabulate Reader.fetched Reader.counted Reader.held Reader.read Reader.fields Reader.four Reader.signed Reader.modulo Reader.read-residual V0.fresh-row V0.operated V0.operate V0.head V0.bounded V0.predictor V0.length-of V0.length-bits V0.residual-bits V0.sample V0.samples V0.blocks V0.row-ops V0.rows V0.rows-filler V0.frame-filler V0.put V0.apply V0.swap V0.exchange-columns V0.exchange-rows V0.exchange V0.frame V0.decoded Map.v0-map Answer.too-large Answer.too-small Answer.short-offsets Answer.short-samples Answer.short-map Answer.short-scratch Answer.first-of Answer.refusal Answer.stream-answer Answer.answer Answer.frame-samples Answer.frame-marks Answer.unless-refused Answer.samples-after Answer.map-after
 examples-hold = refl

@@ -3,7 +3,7 @@ use Prim.Native.Nat.{ℕ}
 use mathlib.Core.Path.{refl}
 use mathlib.Core.List.{List, [], _∷_, _++_, map}
 use lib.IntN.{pos}
-use Rattle.rules.specs.Reader.{fetched, held, read, fields, four, signed, read-signed, modulo, read-residual}
+use Rattle.rules.specs.Reader.{fetched, counted, held, read, fields, four, signed, read-signed, modulo, read-residual}
 use Rattle.rules.specs.Frame.{tabulate}
 use Rattle.rules.specs.V0 as V0
 use Rattle.rules.specs.Phases as Phases
@@ -53,5 +53,5 @@ examples =
     ∷ []
 
 pub examples-hold : Hold examples
-unfolding fetched held read fields four signed read-signed modulo read-residual tabulate V0.fresh-row V0.operated V0.operate V0.head V0.bounded V0.predictor V0.length-of V0.length-bits V0.residual-bits V0.sample V0.samples V0.blocks V0.row-ops V0.rows V0.put V0.apply V0.swap V0.exchange-columns V0.exchange-rows V0.exchange V0.frame Phases.residuals Phases.block-records Phases.row-records Phases.directions Phases.late-predictor Phases.predict-samples Phases.predict-blocks Phases.phase-two Phases.scratch Phases.first-rows V2.header V2.aligned V2.fresh-mode V2.rescaled V2.read-scale V2.read-motion V2.repeated V2.reference V2.referred V2.base V2.refers-before V2.base-refusal V2.lengths-bit V2.colour V2.read-length V2.length-step V2.lengths-from V2.flagged-lengths V2.read-lengths V2.position V2.difference-step V2.differences-from V2.read-differences V2.tail V2.based-tail V2.read-block V2.then V2.blocks V2.read-row V2.then-rows V2.rows V2.read-frame V2.base-cell V2.block-cells V2.apply V2.frame v0-map two-phase-map v2-map moved origins position amount of-origins
+unfolding fetched counted held read fields four signed read-signed modulo read-residual tabulate V0.fresh-row V0.operated V0.operate V0.head V0.bounded V0.predictor V0.length-of V0.length-bits V0.residual-bits V0.sample V0.samples V0.blocks V0.row-ops V0.rows V0.put V0.apply V0.swap V0.exchange-columns V0.exchange-rows V0.exchange V0.frame Phases.residuals Phases.block-records Phases.row-records Phases.directions Phases.late-predictor Phases.predict-samples Phases.predict-blocks Phases.phase-two Phases.scratch Phases.first-rows V2.header V2.aligned V2.fresh-mode V2.rescaled V2.read-scale V2.read-motion V2.repeated V2.reference V2.referred V2.base V2.refers-before V2.base-refusal V2.lengths-bit V2.colour V2.read-length V2.length-step V2.lengths-from V2.flagged-lengths V2.read-lengths V2.position V2.difference-step V2.differences-from V2.read-differences V2.tail V2.based-tail V2.read-block V2.then V2.blocks V2.read-row V2.then-rows V2.rows V2.read-frame V2.base-cell V2.block-cells V2.apply V2.frame v0-map two-phase-map v2-map moved origins position amount of-origins
 examples-hold = refl

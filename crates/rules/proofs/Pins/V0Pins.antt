@@ -1,5 +1,5 @@
 -- Pinned examples of specs/V0.antt, by the definition's name.
-use Prim.Native.Nat.{ℕ, _+_, _*_}
+use Prim.Native.Nat.{ℕ, _+_, _-_, _*_, _^_}
 use mathlib.Core.Bool.{Bool, true, false, cond}
 use mathlib.Core.Path.{refl}
 use mathlib.Core.List.{List, [], _∷_, _++_, map}
@@ -10,9 +10,9 @@ use Rattle.rules.specs.declared.v0.Predictor.the-variants.{Skipped, Cons
 use Rattle.rules.specs.declared.v0.V0Op.{V0Op}
 use Rattle.rules.specs.declared.v0.V0Row.{V0Row}
 use Rattle.rules.specs.declared.v0.V0Length.{V0Length}
-use Rattle.rules.specs.Reader.{fresh, fetched, held, read, fields, four, signed, modulo, read-residual}
+use Rattle.rules.specs.Reader.{fresh, fetched, counted, held, read, fields, four, signed, modulo, read-residual}
 use Rattle.rules.specs.Frame.{tabulate}
-use Rattle.rules.specs.V0.{Step, fresh-row, operated, operate, head, limit, bounded, rows-up, columns-back, predictor, length-of, length-bits, residual-bits, sample, samples, order, blocks-in, blocks, row-ops, rows, put, apply, swap, exchange-columns, exchange-rows, exchange, sample-kind}
+use Rattle.rules.specs.V0.{Step, fresh-row, operated, operate, head, limit, bounded, rows-up, columns-back, predictor, length-of, length-bits, residual-bits, sample, samples, order, blocks-in, blocks, row-ops, rows, rows-filler, frame-filler, put, apply, swap, exchange-columns, exchange-rows, exchange, sample-kind}
 use Rattle.rules.specs.Examples.{Example}
 use Rattle.rules.proofs.Pins.Values.{is, are, Hold, of-bool, minus, of-ℤ, bits, of-bits, size, words, op, of-predictor, of-op, op-at}
 
@@ -107,11 +107,16 @@ examples =
     ∷ are (op-at 0 (row-ops words (size 17 4) 2 4 .ops)) (34 ∷ 65_530 ∷ 2 ∷ 17 ∷ [])
     ∷ are (op-at 9 (row-ops words (size 17 4) 2 4 .ops)) (37 ∷ 65_535 ∷ 2 ∷ 3 ∷ [])
     ∷ are (op-at 31 (row-ops words (size 17 4) 2 4 .ops)) (65 ∷ 65_535 ∷ 2 ∷ 31 ∷ [])
-    ∷ are (of-bits (row-ops words (size 17 4) 2 4 .bits)) (52 ∷ 0xffff_ffff ∷ 14 ∷ 1 ∷ [])
+    ∷ are (of-bits (row-ops words (size 17 4) 2 4 .bits)) (52 ∷ 0xffff_ffff ∷ 14 ∷ 11 ∷ [])
     -- rows: rows 1 and 2, each at its own offset; 0 where there is none
     ∷ are (op-at 0 (rows words (9 ∷ 4 ∷ 0 ∷ []) (size 1 3) 2 1)) (1 ∷ 65_492 ∷ 2 ∷ 0 ∷ [])
     ∷ are (op-at 16 (rows words (9 ∷ 4 ∷ 0 ∷ []) (size 1 3) 2 1)) (2 ∷ 0 ∷ 2 ∷ 1 ∷ [])
     ∷ are (op-at 0 (rows words [] (size 1 1) 1 0)) (0 ∷ 0 ∷ 0 ∷ [])
+    -- rows-filler: each row's own, from its offset, and the count so far; held at the greatest; frame-filler: all rows, from 0
+    ∷ is (rows-filler words (9 ∷ 4 ∷ 0 ∷ []) (size 1 3) 2 1 5) 6
+    ∷ is (rows-filler words (9 ∷ 4 ∷ 0 ∷ []) (size 1 3) 3 0 (2 ^ 64 - 2)) (2 ^ 64 - 1)
+    ∷ is (frame-filler words (9 ∷ 4 ∷ 0 ∷ []) (size 1 3)) 2
+    ∷ is (frame-filler words [] (size 1 0)) 0
     -- put: skipped; 128; a sample; a predictor at N counts as 0; a place at N isn't written
     ∷ are (put sample-kind 1 Skipped 5 (10 ∷ 20 ∷ 30 ∷ [])) (10 ∷ 20 ∷ 30 ∷ [])
     ∷ are (put sample-kind 1 Constant 5 (10 ∷ 20 ∷ 30 ∷ [])) (10 ∷ 133 ∷ 30 ∷ [])
@@ -134,5 +139,5 @@ examples =
     ∷ []
 
 pub examples-hold : Hold examples
-unfolding fetched held read fields four signed modulo read-residual tabulate fresh-row operated operate head bounded predictor length-of length-bits residual-bits sample samples blocks row-ops rows put apply swap exchange-columns exchange-rows exchange
+unfolding fetched counted held read fields four signed modulo read-residual tabulate fresh-row operated operate head bounded predictor length-of length-bits residual-bits sample samples blocks row-ops rows rows-filler frame-filler put apply swap exchange-columns exchange-rows exchange
 examples-hold = refl

@@ -4,7 +4,7 @@ use native.Mathlib.Omega.{arith}
 use borrow.Author.Needs.{needs}
 use Rattle.rules.specs.V0.{sample-kind}
 use Rattle.rules.specs.Map.{v0-marks}
-use Rattle.v0_direct.proofs.RowLaws.{Rowing, rowing-begun, row-block, rowing-on, rowed}
+use Rattle.v0_direct.proofs.RowLaws.{Rowing, rowing-begun, row-block, rowing-on, rowed, row-read}
 use Rattle.v0_direct.proofs.row.decode_row.Statement.{statement}
 use Rattle.v0_direct.proofs.row.decode_row.Tie as tie
 
@@ -39,9 +39,12 @@ same-length-2 : tie.Need-same-length-2 Inv-loop μ-loop
 same-length-2 c = search needs
 
 returns : tie.Need-returns Inv-loop μ-loop
-returns c = let a = c .before .before .before .before .before .before in let l = c .before .loop in (
-  rowed (a .args .src .now) (a .args .size) (a .args .row) (a .args .offset) (a .args .out .now) (a .args .map .now) sample-kind (l .state) (l .col) (a .args .out .now) (l .out) (omega arith) (l .inv .samples-left),
-  rowed (a .args .src .now) (a .args .size) (a .args .row) (a .args .offset) (a .args .out .now) (a .args .map .now) v0-marks (l .state) (l .col) (a .args .map .now) (l .map) (omega arith) (l .inv .marks-left),
+returns c = let a = c .before .before .before .before .before .before .before in let l = c .before .before .loop in (
+  row-read (a .args .src .now) (a .args .size) (a .args .row) (a .args .offset) (a .args .out .now) (a .args .map .now) (l .state) (l .col) (omega arith) (l .inv .reader-left),
+  (
+    rowed (a .args .src .now) (a .args .size) (a .args .row) (a .args .offset) (a .args .out .now) (a .args .map .now) sample-kind (l .state) (l .col) (a .args .out .now) (l .out) (omega arith) (l .inv .samples-left),
+    rowed (a .args .src .now) (a .args .size) (a .args .row) (a .args .offset) (a .args .out .now) (a .args .map .now) v0-marks (l .state) (l .col) (a .args .map .now) (l .map) (omega arith) (l .inv .marks-left),
+  ),
 )
 
 pub decode-row-spec : {M : Type 1} → statement M

@@ -35,7 +35,7 @@ returns c =
     let first = c .before .before .before .before .before .before .before .before .before .before .before .before .before .before .head-rows .ensures in
     let rows = c .before .before .before .before .before .before .before .before .before .before .before .decode-rows .ensures in
     let phase = c .before .before .before .before .parse-rows .ensures in
-    (phase .0 ∙ ap (phase-one _ _ _ _ _) (rows-first _ _ z sample-kind _ _ _ first (rows .0)), (rows-first _ _ z v0-marks _ _ _ first (rows .1), phase .1))
+    (phase .0 ∙ ap (phase-one _ _ _ _ _) (rows-first _ _ z sample-kind _ _ _ first (rows .1 .0)), (rows-first _ _ z v0-marks _ _ _ first (rows .1 .1), phase .1))
 
 pub store-rows-spec : {M : Type 1} → statement M
 store-rows-spec = tie.close (tie.spec head-rows-requires decode-rows-requires parse-rows-requires same-length same-length-2 same-length-3 returns)
