@@ -61,8 +61,9 @@ impl<'a> Marks<'a> {
         self.width
     }
 
-    /// How many words of 4 bytes the stream lacked, over the whole frame: they were read as ones. 0 if it had all that was
-    /// read. After refusals 5 to 8, those up to the refusal.
+    /// How many words of 4 bytes were read past the stream's end, as ones, over the whole frame: 0 if it had all that was read.
+    /// After refusals 5 to 8, those up to the refusal. A stream that was cut may have lost more or less: ones code other lengths
+    /// than what was there.
     ///
     /// ```
     /// let mut decoder = razvolk::Decoder::new();

@@ -60,7 +60,8 @@ pub fn marks(marks: Option<Marks>) -> String {
     text += &listing(&alike(marks.rows_old()), marks.width());
     if words > 0 {
         let (filler, bytes) = (rest(marks.count_filler()), words.saturating_mul(4));
-        writeln!(text, "{filler} on missing words, of which there are {words} ({bytes} bytes)").expect("a string");
+        writeln!(text, "{filler} on missing words: {words} words ({bytes} bytes) were read past the end")
+            .expect("a string");
         text += &listing(&alike(marks.rows_filler()), marks.width());
     }
     text

@@ -61,7 +61,7 @@ fn bare_streams() {
     folder.put("v2", [0; 16]);
     let text = "v2: V2, 646 by 436, 16 bytes of stream\nrefused 8, row 0: the stream ends in row 0\n\
         281016 of 281656 samples rest on what the buffer held before\n  row 0: 6 of 646\n  rows 1 to 435: 646 of 646 each\n\
-        640 of 281656 samples rest on missing words, of which there are 7 (28 bytes)\n  row 0: 640 of 646\n";
+        640 of 281656 samples rest on missing words: 7 words (28 bytes) were read past the end\n  row 0: 640 of 646\n";
     assert_eq!(folder.run("--v2 646x436 v2 --png v2.png"), refused(text));
     assert!(folder.get("v2.png").is_some(), "what was decoded before the refusal can be looked at");
 }
@@ -153,7 +153,7 @@ fn refusals() {
     assert_eq!(folder.run("--v0 5x5 --offsets offsets stream"), refused(text));
     let text = "stream: V2, 646 by 436, 0 bytes of stream\nrefused 5, row 0: row 0 predicts from rows that do not exist\n\
         281656 of 281656 samples rest on what the buffer held before\n  rows 0 to 435: 646 of 646 each\n\
-        none of 281656 samples rests on missing words, of which there are 5 (20 bytes)\n";
+        none of 281656 samples rests on missing words: 5 words (20 bytes) were read past the end\n";
     assert_eq!(folder.run("--v2 646x436 stream"), refused(text));
 }
 
@@ -224,7 +224,7 @@ fn a_frame_that_is_cut_is_not_clean() {
     assert_eq!((status, fault.as_str()), (3, ""));
     assert!(text.lines().next().is_some_and(|line| line.ends_with("more are missing")), "{text}");
     assert!(text.contains("\nnone of 64000 samples rests on what the buffer held before\n"), "{text}");
-    assert!(text.contains(" samples rest on missing words, of which there are "), "{text}");
+    assert!(text.contains(" samples rest on missing words: "), "{text}");
     assert!(text.ends_with(" to 199: 320 of 320 each\n"), "{text}");
 }
 
