@@ -37,9 +37,12 @@ extern "C" {
  *  10  the stream or the offsets to be written do not fit their buffer    every buffer as it was
  *  11  in bands: the band count or the block width is none that the frame can be cut by             every buffer as it was
  *  12  in bands: the list is too short or too long, or a step is no block's number or is not ready  every buffer as it was
+ *  13  blanking: the list is too short for all runs                      every buffer as it was
+ *  14  blanking: one of the first N map bytes isn't 0 or 1               every buffer as it was
  *
  * 1 to 4 are tested in this order, then in bands 11 and 12; then the stream decides. 9 and 10 are a writer's, which tests 1, 3, 9
- * and 10. `row` is the row at fault of 5 to 8, else 0. Samples and map bytes from N on never change.
+ * and 10. Blanking tests 1, 3, 4, 14 and 13; the export goes on to 9 and 10, which leave the frame blanked. `row` is the row at
+ * fault of 5 to 8, else 0. Samples and map bytes from N on never change.
  *
  * `filler` is how many words of 4 bytes were missing: fetched where fewer than 4 bytes of the stream remained, and read as ones.
  * The direct V0 decoder tells it when it is done, as the sum over its rows, and V2 with 5 to 8, up to the refusal and from the
@@ -64,6 +67,8 @@ typedef struct {
 #define RAZVOLK_SHORT_OUTPUT    10u
 #define RAZVOLK_BAD_CUT         11u
 #define RAZVOLK_BAD_STEPS       12u
+#define RAZVOLK_SHORT_RUNS      13u
+#define RAZVOLK_BAD_MAP         14u
 
 /* The limits that they speak of. */
 #define RAZVOLK_MOST_SIDE 16384u       /* 1 */
@@ -165,6 +170,40 @@ typedef struct {
  * 1, 3, 9, 10  nothing is written, neither stream nor offsets, and `length` is 0. 3 is of the samples alone */
 razvolk_written razvolk_write_v0(const uint16_t *samples, size_t samples_len, size_t width, size_t height, uint8_t *stream,
                                  size_t stream_len, uint32_t *offsets, size_t offsets_len);
+
+/* What a call that blanks answers: how many samples were set, and how many runs they make; 0 and 0 unless it is done. */
+typedef struct {
+    razvolk_answer answer;
+    uint64_t count;
+    uint64_t runs;
+} razvolk_blanked;
+
+/* What the export answers: the same, and how many bytes of stream are written, 0 unless it is done. */
+typedef struct {
+    razvolk_answer answer;
+    uint64_t count;
+    uint64_t runs;
+    uint64_t length;
+} razvolk_exported;
+
+/* Blanking: of a decoded frame and its map, every sample that is marked 1 is set to 0, or to a fill that is stated. After that
+ * nothing of an earlier frame is left in the frame. The list gets the runs of marked samples, each as long as can be within its
+ * row, in reading order: row, first column and length, three numbers each. The map is only read.
+ * 0                the marked ones of the first N samples are set, `count` of them, those that held the fill among them; the
+ *                  first 3 times `runs` numbers of the list are the runs, and those past them are as before
+ * 1, 3, 4, 14, 13  nothing is written, neither samples nor list */
+razvolk_blanked razvolk_blank(uint16_t *samples, size_t samples_len, const uint8_t *map, size_t map_len, size_t width,
+                              size_t height, uint32_t *runs, size_t runs_len);
+razvolk_blanked razvolk_blank_with(uint16_t *samples, size_t samples_len, const uint8_t *map, size_t map_len, size_t width,
+                                   size_t height, uint16_t fill, uint32_t *runs, size_t runs_len);
+
+/* The archive export: a frame is blanked as by razvolk_blank, and then written as by razvolk_write_v0.
+ * 0                samples, list and both counts as of razvolk_blank; stream, offsets and `length` as of razvolk_write_v0
+ * 1, 3, 4, 14, 13  nothing is written
+ * 9, 10            samples, list and both counts as of razvolk_blank; nothing is written to stream and offsets, `length` is 0 */
+razvolk_exported razvolk_export_v0(uint16_t *samples, size_t samples_len, const uint8_t *map, size_t map_len, size_t width,
+                                   size_t height, uint32_t *runs, size_t runs_len, uint8_t *stream, size_t stream_len,
+                                   uint32_t *offsets, size_t offsets_len);
 
 /* A bit reader's state. The stream is words of 4 bytes, lowest byte first, and a word's highest bit is read first. A reader
  * that starts at a byte position is { position, 0, 0, 0 }. */

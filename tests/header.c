@@ -202,6 +202,41 @@ static void write_v0(void) {
     expect(RAZVOLK_V0_MOST(3, 2) == 72 && RAZVOLK_V0_MOST(16384, 16384) == 555745280, "RAZVOLK_V0_MOST");
 }
 
+/* A frame of 3 by 2 with marks, blanked and exported. The seventh sample and the last number of the list lie past it. */
+static void blank(void) {
+    static const uint16_t old[7] = {5, 60000, 60001, 6, 60002, 7, 77};
+    static const uint8_t marked[6] = {0, 1, 1, 0, 1, 0};
+    static const uint32_t told[7] = {0, 1, 2, 1, 1, 1, 9};
+    uint16_t frame[7], back[6];
+    uint32_t list[7], table[2];
+    uint8_t coded_frame[72];
+    memcpy(frame, old, sizeof frame);
+    for (int i = 0; i < 7; i++)
+        list[i] = 9;
+    razvolk_blanked blanked = razvolk_blank(frame, 7, marked, 6, 3, 2, list, 5);
+    expect(blanked.answer.number == 13 && blanked.answer.row == 0 && blanked.count == 0 && blanked.runs == 0,
+           "5 numbers for two runs are refused by 13");
+    expect(memcmp(frame, old, sizeof frame) == 0 && list[0] == 9, "and nothing is written");
+    blanked = razvolk_blank_with(frame, 7, marked, 6, 3, 2, 513, list, 7);
+    expect(blanked.answer.number == 0 && blanked.answer.row == 0 && blanked.count == 3 && blanked.runs == 2, "blank_with");
+    expect(frame[0] == 5 && frame[1] == 513 && frame[2] == 513 && frame[4] == 513 && frame[5] == 7 && frame[6] == 77,
+           "the marked samples are the fill");
+    expect(memcmp(list, told, sizeof list) == 0, "the runs, and what lies past them as it was");
+    blanked = razvolk_blank(frame, 7, marked, 6, 3, 2, list, 6);
+    expect(blanked.answer.number == 0 && blanked.count == 3 && frame[1] == 0 && frame[4] == 0 && frame[3] == 6, "blank");
+    blanked = razvolk_blank(frame, 7, (const uint8_t *)"\0\1\0\0\0\2", 6, 3, 2, list, 0);
+    expect(blanked.answer.number == RAZVOLK_BAD_MAP, "a map byte 2 is refused by 14, before 13");
+    memcpy(frame, old, sizeof frame);
+    razvolk_exported exported = razvolk_export_v0(frame, 7, marked, 6, 3, 2, list, 7, coded_frame, 0, table, 2);
+    expect(exported.answer.number == 10 && exported.count == 3 && exported.runs == 2 && exported.length == 0 && frame[1] == 0,
+           "an export that can't be written is blanked");
+    memcpy(frame, old, sizeof frame);
+    exported = razvolk_export_v0(frame, 7, marked, 6, 3, 2, list, 7, coded_frame, sizeof coded_frame, table, 2);
+    expect(exported.answer.number == 0 && exported.count == 3 && exported.runs == 2 && exported.length > 0, "export_v0");
+    razvolk_answer answer = razvolk_decode_v0_reference(coded_frame, (size_t)exported.length, table, 2, 3, 2, back, 6);
+    expect(answer.number == 0 && memcmp(back, frame, sizeof back) == 0, "decoded, it is the blanked frame");
+}
+
 /* NULL with length 0, wherever a slice may have no elements. */
 static void null(void) {
     static const uint32_t one[1] = {0};
@@ -225,6 +260,12 @@ static void null(void) {
     expect(answer.number == RAZVOLK_SHORT_SAMPLES, "from_planes of NULL");
     razvolk_written written = razvolk_write_v0(NULL, 0, 9, 0, NULL, 0, NULL, 0);
     expect(written.answer.number == RAZVOLK_DONE && written.length == 0, "write_v0 of NULL");
+    razvolk_blanked blanked = razvolk_blank(NULL, 0, NULL, 0, 9, 0, NULL, 0);
+    expect(blanked.answer.number == RAZVOLK_DONE && blanked.count == 0, "blank of NULL");
+    blanked = razvolk_blank_with(sample, 1, NULL, 0, 1, 1, 9, NULL, 0);
+    expect(blanked.answer.number == RAZVOLK_SHORT_MAP && sample[0] == 7, "blank_with of NULL");
+    razvolk_exported exported = razvolk_export_v0(NULL, 0, NULL, 0, 0, 0, NULL, 0, NULL, 0, NULL, 0);
+    expect(exported.answer.number == RAZVOLK_DONE && exported.length == 0, "export_v0 of NULL");
     razvolk_got got = razvolk_get(NULL, 0, state, 8);
     expect(got.value == 255 && got.bits.filler == 1, "get of NULL");
 }
@@ -254,6 +295,7 @@ int main(void) {
     v2();
     planes();
     write_v0();
+    blank();
     null();
     named();
     puts(failed ? "header: FAILED" : "header: ok");

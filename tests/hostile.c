@@ -2,7 +2,8 @@
  * can be told without a second decoder: the refusal among 1 to 4, 11 and 12, what each answer leaves, that the entries of one
  * decoder and all V0 decoders agree, that a sample without an old part is the same over any old samples, and that one of a cut
  * stream with map byte 0 is final. Calls the writer with any samples, sizes and buffers, and holds it to its refusal, to the
- * length that is worked out apart, and to the decoders, which must give the samples back.
+ * length that is worked out apart, and to the decoders, which must give the samples back. Blanks frames by any map, and holds
+ * what is set, listed and exported to a plain loop.
  *
  *     hostile [pages|heap [COUNT[s] [SEED]]]      COUNT rounds, or COUNT seconds; by itself: pages, 300 rounds
  *
@@ -21,7 +22,7 @@
 #include <unistd.h>
 
 /* The highest number that is answered. */
-#define MOST_NUMBER 12
+#define MOST_NUMBER 14
 
 static bool heap = false;
 static unsigned long rounds = 0, calls = 0, numbers[MOST_NUMBER + 1];
@@ -779,8 +780,124 @@ static void play_writer(void) {
     give_back(w.offsets);
 }
 
+/* ---- Blanking, and the export. */
+
+
+/* A map of a frame: no marks, all, any, in turn, or few; now and then with a byte that no map has. */
+static slice any_map(size_t n) {
+    size_t len = n + (below(3) == 0 ? below(9) : 0), kind = below(5);
+    if (n > 0 && below(16) == 0)
+        len = below(n);
+    slice lent = lend(len);
+    for (size_t i = 0; i < len; i++)
+        lent.data[i] = (uint8_t)(kind == 0 ? 0 : kind == 1 ? 1 : kind == 2 ? below(2) : kind == 3 ? i % 2 : below(40) == 0);
+    if (len > 0 && below(8) == 0)
+        lent.data[below(len)] = (uint8_t)(2 + below(254));
+    close_for_writing(lent);
+    return lent;
+}
+
+/* The numbers of the runs that a map has, and how many runs; and how many samples it marks. */
+static uint32_t told[3 * 16384];
+static size_t told_runs, told_count;
+
+static void tell_runs(slice map, size_t width, size_t height) {
+    told_runs = told_count = 0;
+    for (size_t row = 0; row < height; row++)
+        for (size_t col = 0; col < width; col++) {
+            if (map.data[row * width + col] == 0)
+                continue;
+            if (col == 0 || map.data[row * width + col - 1] == 0) {
+                told[3 * told_runs] = (uint32_t)row, told[3 * told_runs + 1] = (uint32_t)col, told[3 * told_runs + 2] = 0;
+                told_runs++;
+            }
+            told[3 * told_runs - 1]++;
+            told_count++;
+        }
+}
+
+/* The refusal among 1, 3, 4, 14 and 13, or 0; the runs are told by then. */
+static uint32_t unblankable(slice samples, slice map, size_t width, size_t height, size_t list) {
+    if (width > 16384 || height > 16384)
+        return 1;
+    if (samples.bytes / 2 < width * height)
+        return 3;
+    if (map.bytes < width * height)
+        return 4;
+    for (size_t i = 0; i < width * height; i++)
+        if (map.data[i] > 1)
+            return 14;
+    tell_runs(map, width, height);
+    return list < 3 * told_runs ? 13 : 0;
+}
+
+/* Blanks a frame, stated or not, or exports it, and checks all that is answered and left. */
+static void play_blanking(void) {
+    size_t width = below(60) == 0 ? 16385 + below(2) * (SIZE_MAX - 20000) : below(70), height = below(12);
+    size_t n = width <= 16384 ? width * height : 0, lent = n + (below(3) == 0 ? below(9) : 0);
+    if (n > 0 && below(16) == 0)
+        lent = below(n);
+    slice samples = lend(2 * lent), map = any_map(n), old;
+    for (size_t i = 0; i < lent; i++) {
+        uint16_t sample = (uint16_t)(below(40) == 0 ? number() : below(16384));
+        memcpy(samples.data + 2 * i, &sample, 2);
+    }
+    old = copy(samples.data, samples.bytes);
+    uint32_t refused = unblankable(samples, map, width, height, SIZE_MAX);
+    size_t list_len = refused == 0 ? 3 * told_runs + (below(2) == 0 ? 0 : below(5)) : below(9);
+    if (refused == 0 && told_runs > 0 && below(8) == 0)
+        list_len = 3 * told_runs - 1 - (below(2) == 0 ? 0 : below(3 * told_runs));
+    refused = unblankable(samples, map, width, height, list_len);
+    size_t runs = refused == 0 ? told_runs : 0, count = refused == 0 ? told_count : 0;
+    slice list_lent = lend(4 * list_len), stream = lend(below(3) == 0 ? below(60) : 40000), offsets = lend(4 * below(14));
+    filled(list_lent, heap ? 12 * runs : 0);
+    filled(stream, 0);
+    filled(offsets, 0);
+    size_t kind = below(3);
+    uint16_t fill = kind == 1 ? (uint16_t)number() : 0;
+    razvolk_exported out = {{0, 0, 0}, 0, 0, 0};
+    if (kind == 2) {
+        out = razvolk_export_v0(SAMPLES(samples), BYTES(map), width, height, WRITTEN_OFFSETS(list_lent), BYTES(stream),
+                                WRITTEN_OFFSETS(offsets));
+    } else {
+        razvolk_blanked blanked =
+            kind == 0 ? razvolk_blank(SAMPLES(samples), BYTES(map), width, height, WRITTEN_OFFSETS(list_lent))
+                      : razvolk_blank_with(SAMPLES(samples), BYTES(map), width, height, fill, WRITTEN_OFFSETS(list_lent));
+        out.answer = blanked.answer, out.count = blanked.count, out.runs = blanked.runs;
+    }
+    calls++;
+    expect(out.count == count && out.runs == runs && out.answer.row == 0, "both counts of blanking");
+    for (size_t i = 0; i < lent; i++) {
+        uint16_t was, is;
+        memcpy(&was, old.data + 2 * i, 2), memcpy(&is, samples.data + 2 * i, 2);
+        expect(is == (refused == 0 && i < n && map.data[i] != 0 ? fill : was), "marked samples are the fill, the others stay");
+    }
+    expect(same(list_lent.data, (const uint8_t *)told, 12 * runs), "the runs are listed");
+    for (size_t i = 12 * runs; i < list_lent.bytes; i++)
+        expect(list_lent.data[i] == 9, "the list past the runs stays");
+    to_write w = {samples, stream, offsets, width, height};
+    size_t bytes = 0, rows = 0;
+    if (kind == 2 && refused == 0) {
+        refused = unwritable(&w);
+        if (refused == 0 && (stream.bytes < stream_bytes(&w) || offsets.bytes / 4 < height))
+            refused = 10;
+        if (refused == 0)
+            bytes = stream_bytes(&w), rows = height, decodes_back(&w);
+    }
+    expect(out.answer.number == refused, "the refusal of blanking or of the export");
+    numbers[refused]++;
+    expect(out.length == bytes, "the length is the stream's, or 0");
+    for (size_t i = bytes; i < stream.bytes; i++)
+        expect(stream.data[i] == 9, "bytes past the stream stay");
+    for (size_t i = 4 * rows; i < offsets.bytes; i++)
+        expect(offsets.data[i] == 9, "offsets past the rows stay");
+    slice all[6] = {samples, map, old, list_lent, stream, offsets};
+    for (int i = 0; i < 6; i++)
+        give_back(all[i]);
+}
+
 /* What is played in each round. Functions of a new kind are a row here. */
-static void (*const plays[])(void) = {play_decoders, play_reader, play_planes, play_writer};
+static void (*const plays[])(void) = {play_decoders, play_reader, play_planes, play_writer, play_blanking};
 
 int main(int argc, char **argv) {
     const char *count = argc > 2 ? argv[2] : "300";

@@ -1,4 +1,4 @@
-//! What a decoder or a writer answers.
+//! What a decoder, a writer or a call that blanks answers.
 
 use std::{error, fmt};
 
@@ -34,6 +34,45 @@ impl Written {
     pub(crate) fn result(self) -> Result<usize, Refusal> {
         // The archive is for x86-64 alone.
         self.answer.result().map(|()| self.length as usize)
+    }
+}
+
+/// What a call that blanks answers: how many samples it has set, and how many runs they make, both 0 unless it is done.
+#[repr(C)]
+#[derive(Clone, Copy)]
+pub(crate) struct Blanked {
+    answer: Answer,
+    count: u64,
+    runs: u64,
+}
+
+impl Blanked {
+    pub(crate) fn result(self) -> Result<crate::Blanked, Refusal> {
+        self.answer.result().map(|()| crate::Blanked { count: self.count as usize, runs: self.runs as usize })
+    }
+}
+
+/// What the export answers: what blanking did, whatever the writer then said, and how many bytes of stream are written.
+#[repr(C)]
+#[derive(Clone, Copy)]
+pub(crate) struct Exported {
+    answer: Answer,
+    count: u64,
+    runs: u64,
+    length: u64,
+}
+
+impl Exported {
+    pub(crate) fn result(self) -> Result<crate::Exported, Refusal> {
+        let written = self.answer.result().map(|()| self.length as usize);
+        match written {
+            // The writer's own refusals come after blanking.
+            Err(refusal) if !matches!(refusal, Refusal::TooBright | Refusal::ShortOutput) => Err(refusal),
+            _ => {
+                let blanked = crate::Blanked { count: self.count as usize, runs: self.runs as usize };
+                Ok(crate::Exported { blanked, written })
+            }
+        }
     }
 }
 
@@ -156,10 +195,13 @@ refusals! {
     /// | 10 | the stream or the offsets to be written do not fit their buffer | every buffer as it was |
     /// | 11 | in bands: the band count or the block width is none that the frame can be cut by | every buffer as it was |
     /// | 12 | in bands: the list is too short or too long, or a step is no block's number or is not ready | every buffer as it was |
+    /// | 13 | blanking: the list is too short for all runs | every buffer as it was |
+    /// | 14 | blanking: one of the first N map bytes isn't 0 or 1 | every buffer as it was |
     ///
-    /// A decoder tests 1 to 4 in this order, in bands then 11 and 12, a writer 1, 3, 9 and 10. After 5 to 8 the map describes
-    /// the samples as they are left; the row in which the stream ended has ones in place of the missing bits. 5 to 8 carry how
-    /// many words were missing up to there, from the header on: [`Refusal::filler_words`].
+    /// A decoder tests 1 to 4 in this order, in bands then 11 and 12, a writer 1, 3, 9 and 10, blanking 1, 3, 4, 14 and 13; the
+    /// export goes on to 9 and 10, which leave the frame blanked and write nothing. After 5 to 8 the map describes the samples as
+    /// they are left; the row in which the stream ended has ones in place of the missing bits. 5 to 8 carry how many words were
+    /// missing up to there, from the header on: [`Refusal::filler_words`].
     ///
     /// ```
     /// use razvolk::Refusal;
@@ -181,6 +223,8 @@ refusals! {
     10 ShortOutput "the buffer for the stream or the offsets is too short";
     11 BadCut "the frame can't be cut into so many bands, or into blocks of that width";
     12 BadSteps "the steps don't do each block of the frame once, each when it is ready";
+    13 ShortRuns "the list is too short for all runs";
+    14 BadMap "a map byte is neither 0 nor 1";
 }
 
 impl Refusal {
@@ -230,5 +274,14 @@ mod tests {
         let written = |number| Written { answer: Answer { number, row: 0, filler: 0 }, length: 24 };
         assert_eq!(written(0).result(), Ok(24));
         assert_eq!(written(10).result(), Err(Refusal::ShortOutput));
+        let blanked = |number| Blanked { answer: Answer { number, row: 0, filler: 0 }, count: 5, runs: 2 };
+        assert_eq!(blanked(0).result(), Ok(crate::Blanked { count: 5, runs: 2 }));
+        assert_eq!(blanked(13).result(), Err(Refusal::ShortRuns));
+        let exported =
+            |number| Exported { answer: Answer { number, row: 0, filler: 0 }, count: 5, runs: 2, length: 24 };
+        let blanked = crate::Blanked { count: 5, runs: 2 };
+        assert_eq!(exported(0).result(), Ok(crate::Exported { blanked, written: Ok(24) }));
+        assert_eq!(exported(9).result(), Ok(crate::Exported { blanked, written: Err(Refusal::TooBright) }));
+        assert_eq!(exported(14).result(), Err(Refusal::BadMap));
     }
 }

@@ -1,6 +1,6 @@
 //! A decoder for a worker: the map is kept from frame to frame.
 
-use crate::{Marks, Refusal};
+use crate::{Marks, Refusal, Run};
 use std::fmt;
 
 /// The largest width and height; more is refusal 1.
@@ -130,6 +130,62 @@ impl Decoder {
     /// ```
     pub fn marks(&self) -> Option<Marks<'_>> {
         self.frame.map(|(width, n, filler)| Marks::new(&self.map[..n], width).with_filler_words(filler))
+    }
+
+    /// Sets the samples of the last frame that rest on what the buffer held, as [`Decoder::marks`] tells them, to 0, and tells
+    /// their runs. After that nothing of an earlier frame is left in the frame. `out` is the buffer that the frame was decoded
+    /// into; where there was no frame, nothing is set.
+    ///
+    /// # Errors
+    ///
+    /// Refusal 3, of fewer samples than the frame has; `out` is unchanged then.
+    ///
+    /// ```
+    /// use razvolk::{Decoder, Run};
+    ///
+    /// let stream = [0x00, 0x00, 0x00, 0x80, 0x18, 0x20, 0xa0, 0x7f, 0x00, 0x00, 0x70, 0x00];
+    /// let mut samples = [7, 8, 9, 10];
+    /// let mut decoder = Decoder::new();
+    /// decoder.decode_v0(&stream, &[0, 4], 2, 2, &mut samples)?;
+    /// assert_eq!(samples, [7, 131, 8, 126]);
+    /// let runs = decoder.blank(&mut samples)?;
+    /// assert_eq!(samples, [0, 131, 0, 126]);
+    /// assert_eq!(runs, [Run { row: 0, first: 0, length: 1 }, Run { row: 1, first: 0, length: 1 }]);
+    /// # Ok::<(), razvolk::Refusal>(())
+    /// ```
+    pub fn blank(&self, out: &mut [u16]) -> Result<Vec<Run>, Refusal> {
+        self.blank_by(|map, width, height, list| crate::blank(out, map, width, height, list))
+    }
+
+    /// The same with a fill of one's own.
+    ///
+    /// # Errors
+    ///
+    /// Refusal 3, as of [`Decoder::blank`].
+    ///
+    /// ```
+    /// let mut decoder = razvolk::Decoder::new();
+    /// let mut samples = [7, 8, 9];
+    /// decoder.decode_v0(&[], &[0], 3, 1, &mut samples)?;
+    /// assert_eq!(decoder.blank_with(512, &mut samples)?.len(), 1);
+    /// assert_eq!(samples, [512; 3]);
+    /// # Ok::<(), razvolk::Refusal>(())
+    /// ```
+    pub fn blank_with(&self, fill: u16, out: &mut [u16]) -> Result<Vec<Run>, Refusal> {
+        self.blank_by(|map, width, height, list| crate::blank_with(out, map, width, height, fill, list))
+    }
+
+    fn blank_by(
+        &self,
+        blank: impl FnOnce(&[u8], usize, usize, &mut [u32]) -> Result<crate::Blanked, Refusal>,
+    ) -> Result<Vec<Run>, Refusal> {
+        let Some(marks) = self.marks() else {
+            return Ok(Vec::new());
+        };
+        let runs: Vec<Run> = marks.runs().collect();
+        let height = marks.bytes().len().checked_div(marks.width()).unwrap_or(0);
+        blank(marks.bytes(), marks.width(), height, &mut vec![0; 3 * runs.len()])?;
+        Ok(runs)
     }
 
     /// Makes the map long enough. A size that will be refused by 1 to 3 gets nothing: those are tested before 4.

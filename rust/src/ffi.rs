@@ -11,7 +11,7 @@
 //!
 //! That the archive is what was proved is up to `build.rs`, and to whoever sets `RAZVOLK_ARCHIVE`.
 
-use crate::answer::{Answer, Written};
+use crate::answer::{Answer, Blanked, Exported, Written};
 use crate::bits::{Bits, Got};
 
 /// Takes a function's arguments one by one and makes of each how it stands in the safe function, how C has it, and how it is
@@ -63,6 +63,12 @@ exports! {
     fn razvolk_from_planes(planes: &[u16], width: usize, height: usize, samples: &mut [u16]) -> Answer;
     fn razvolk_write_v0(
         samples: &[u16], width: usize, height: usize, stream: &mut [u8], offsets: &mut [u32]) -> Written;
+    fn razvolk_blank(samples: &mut [u16], map: &[u8], width: usize, height: usize, runs: &mut [u32]) -> Blanked;
+    fn razvolk_blank_with(
+        samples: &mut [u16], map: &[u8], width: usize, height: usize, fill: u16, runs: &mut [u32]) -> Blanked;
+    fn razvolk_export_v0(
+        samples: &mut [u16], map: &[u8], width: usize, height: usize, runs: &mut [u32], stream: &mut [u8],
+        offsets: &mut [u32]) -> Exported;
     fn razvolk_get(src: &[u8], state: Bits, n: u32) -> Got;
     fn razvolk_reset_at(state: Bits, pos: u64) -> Bits;
 }

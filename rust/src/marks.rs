@@ -1,6 +1,17 @@
 //! What the samples of a frame rest on.
 
-use std::fmt;
+use std::{fmt, iter};
+
+/// Marked samples of one row that follow each other, with nothing marked beside them.
+#[derive(Clone, Copy, Debug, PartialEq, Eq, Hash)]
+pub struct Run {
+    /// The row.
+    pub row: usize,
+    /// The column of the first sample.
+    pub first: usize,
+    /// How many samples there are.
+    pub length: usize,
+}
 
 /// What each sample of a frame rests on, one byte a sample, row by row. A byte has two parts: [`Marks::OLD`], on what the buffer
 /// held before the call, and [`Marks::FILLER`], on words that the stream lacks. Byte 0: on bytes of the stream only.
@@ -19,6 +30,7 @@ use std::fmt;
 /// assert_eq!((marks.count(), marks.is_clean()), (2, false));
 /// assert_eq!((marks.row(1), marks.get(1, 0)), (Some(&[1, 0][..]), Some(1)));
 /// assert_eq!(marks.rows().collect::<Vec<_>>(), [(0, 1), (1, 1)]);
+/// assert_eq!(marks.runs().next(), Some(razvolk::Run { row: 0, first: 0, length: 1 }));
 ///
 /// // The same, broken off: the samples of row 1 rest on a word that is missing, one of them in row 0 by the exchange.
 /// let marks = decoder.decode_v0(&stream[..8], &[0, 4], 2, 2, &mut [7, 8, 9, 10])?;
@@ -136,6 +148,25 @@ impl<'a> Marks<'a> {
         let rows = self.bytes.chunks(self.width.max(1)).enumerate();
         rows.map(move |(row, bytes)| (row, having(parts, bytes))).filter(|&(_, count)| count > 0)
     }
+
+    /// The runs of such samples, in reading order: what [`crate::blank`] lists.
+    pub fn runs(self) -> impl Iterator<Item = Run> + 'a {
+        let rows = self.bytes.chunks(self.width.max(1)).enumerate();
+        // Most rows have none, which wide loads tell.
+        let rows = rows.filter(|(_, bytes)| bytes.iter().fold(0, |all, mark| all | mark) != 0);
+        rows.flat_map(|(row, bytes)| runs_of(bytes).map(move |(first, length)| Run { row, first, length }))
+    }
+}
+
+/// The first column and the length of each run of a row.
+fn runs_of(bytes: &[u8]) -> impl Iterator<Item = (usize, usize)> + '_ {
+    let mut at = 0;
+    iter::from_fn(move || {
+        let first = at + bytes[at..].iter().position(|&mark| mark != 0)?;
+        let length = bytes[first..].iter().position(|&mark| mark == 0).unwrap_or(bytes.len() - first);
+        at = first + length;
+        Some((first, length))
+    })
 }
 
 /// How many bytes have one of the parts. The counts of a chunk fit a byte each, so that it is added up in wide registers.
@@ -161,6 +192,12 @@ mod tests {
         let marks = Marks::new(&[0, 1, 1, 0, 0, 0, 0, 0, 1], 3);
         assert_eq!((marks.count(), marks.is_clean(), marks.width()), (3, false, 3));
         assert_eq!(marks.rows().collect::<Vec<_>>(), [(0, 2), (2, 1)]);
+        let run = |row, first, length| Run { row, first, length };
+        assert_eq!(marks.runs().collect::<Vec<_>>(), [run(0, 1, 2), run(2, 2, 1)]);
+        // A run ends with its row, though the next row goes on.
+        let marks = Marks::new(&[1, 0, 1, 1, 1, 1, 1, 0, 0], 3);
+        assert_eq!(marks.runs().collect::<Vec<_>>(), [run(0, 0, 1), run(0, 2, 1), run(1, 0, 3), run(2, 0, 1)]);
+        let marks = Marks::new(&[0, 1, 1, 0, 0, 0, 0, 0, 1], 3);
         assert_eq!([marks.row(0), marks.row(2), marks.row(3)], [Some(&[0, 1, 1][..]), Some(&[0, 0, 1][..]), None]);
         assert_eq!(
             [marks.get(2, 2), marks.get(2, 1), marks.get(2, 3), marks.get(3, 0)],
@@ -185,7 +222,7 @@ mod tests {
     fn a_frame_of_no_samples_is_clean() {
         for width in [0, 5] {
             let marks = Marks::new(&[], width);
-            assert_eq!((marks.count(), marks.is_clean(), marks.rows().count()), (0, true, 0));
+            assert_eq!((marks.count(), marks.is_clean(), marks.rows().count(), marks.runs().count()), (0, true, 0, 0));
             assert_eq!((marks.row(0), marks.get(0, 0)), (None, None));
         }
     }

@@ -1,3 +1,6 @@
 -- What the proofs of the entries rest on.
 pub mod MovedLaws
 pub mod WriterLaws
+pub mod BlankLaws
+pub mod ExportLaws
+pub mod ExportedFrames

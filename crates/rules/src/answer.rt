@@ -47,6 +47,12 @@ impl Answer {
     // In bands: the list is too short or too long, or a step is no block's number or isn't ready.
     pub const BAD_STEPS: u32 = 12;
 
+    // Blanking: the list is too short for all runs.
+    pub const SHORT_RUNS: u32 = 13;
+
+    // Blanking: a map byte that isn't 0 or 1.
+    pub const BAD_MAP: u32 = 14;
+
     // Done, and so many words were missing.
     pub fn done_with(filler: u64) -> Answer
         ensures { λ r. ⌜ r ≡ done-with filler ⌝ }

@@ -1,5 +1,6 @@
 //! Who is timed on a frame, and how.
 
+pub mod blank;
 pub mod contenders;
 pub mod count;
 pub mod measure;

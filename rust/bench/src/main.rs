@@ -1,4 +1,4 @@
-//! `bench [V0 | V2 | planes | write] [RUNS [PART]]`: Razvolk and the Rust in turn on the same frames, in one process, the best of
+//! `bench [V0 | V2 | planes | write | blank] [RUNS [PART]]`: Razvolk and the Rust in turn on the same frames, in one process, the best of
 //! RUNS runs each (20); then the instructions that they take, where valgrind is installed. PART divides each side of the frames, for
 //! a quick look; a name leaves out the others.
 
@@ -12,13 +12,14 @@ use streams::random::Random;
 use streams::v0::hostile;
 use streams::{Frame, Version, v0, v2};
 
-const USAGE: &str = "usage: bench [V0 | V2 | planes | write] [RUNS [PART]]";
+const USAGE: &str = "usage: bench [V0 | V2 | planes | write | blank] [RUNS [PART]]";
 
 /// Times some frames, with so many runs, their sides divided by a number.
 type Time = fn(usize, usize);
 
 /// What is timed, by name.
-const TIMED: [(&str, Time); 4] = [("V0", time_v0), ("V2", time_v2), ("planes", time_planes), ("write", time_writers)];
+const TIMED: [(&str, Time); 5] =
+    [("V0", time_v0), ("V2", time_v2), ("planes", time_planes), ("write", time_writers), ("blank", time_blanking)];
 
 fn main() {
     let mut words = std::env::args().skip(1).peekable();
@@ -67,6 +68,10 @@ fn time_v0(runs: usize, part: usize) {
 
 fn time_planes(runs: usize, part: usize) {
     bench::planes::time(V0.0 / part, V0.1 / part, runs);
+}
+
+fn time_blanking(runs: usize, part: usize) {
+    bench::blank::time(V0.0 / part, V0.1 / part, runs);
 }
 
 fn time_v2(runs: usize, part: usize) {

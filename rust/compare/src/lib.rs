@@ -6,6 +6,7 @@
 //! not, and with a fault they must be found out.
 
 pub mod bands;
+pub mod blank;
 pub mod call;
 mod faults;
 pub mod jobs;

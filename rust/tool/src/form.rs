@@ -45,6 +45,8 @@ pub struct Picture {
 pub struct Decoded<'a> {
     pub samples: &'a [u16],
     pub marks: Marks<'a>,
+    /// Whether the marked samples are blanked: there is nothing to show of them then.
+    pub blanked: bool,
     pub width: usize,
     pub height: usize,
     /// The bits of a sample, where they are known.
@@ -55,15 +57,16 @@ pub struct Decoded<'a> {
 
 /// A decoded frame in a form, or why it has none.
 pub fn file(form: Form, frame: Decoded, picture: Picture) -> Result<Vec<u8>, String> {
-    let Decoded { samples, marks, width, .. } = frame;
+    let Decoded { samples, marks, blanked, width, .. } = frame;
+    let tinted = || if blanked { vec![0; samples.len()] } else { marks.bytes().to_vec() };
     if form != Form::V0 && samples.is_empty() {
         return Err("a frame of no samples makes no picture".into());
     }
     Ok(match form {
         Form::Pgm => pgm::file(samples, width, frame.depth),
-        Form::Png => png::file(samples, marks.bytes(), width, picture),
+        Form::Png => png::file(samples, &tinted(), width, picture),
         Form::Planes => {
-            let marks: Vec<u16> = marks.bytes().iter().map(|&mark| mark.into()).collect();
+            let marks: Vec<u16> = tinted().into_iter().map(u16::from).collect();
             let marks: Vec<u8> = side_by_side(&marks, width).iter().map(|&mark| mark as u8).collect();
             png::file(&side_by_side(samples, width), &marks, 2 * width, picture)
         }

@@ -2,12 +2,18 @@
 
 use crate::report::{Rows, alike};
 use razvolk::srw::Frame;
-use razvolk::{Marks, Refusal};
+use razvolk::{Marks, Refusal, Run};
 use std::fmt::Write;
 use std::path::Path;
 
 /// A frame that was decoded, or refused.
-pub fn frame(path: &Path, frame: &Frame, answer: Result<(), Refusal>, marks: Option<Marks>) -> String {
+pub fn frame(
+    path: &Path,
+    frame: &Frame,
+    answer: Result<(), Refusal>,
+    marks: Option<Marks>,
+    blanked: Option<&(Option<u16>, Vec<Run>)>,
+) -> String {
     let Frame { coding, width, height, stream, missing, .. } = frame;
     let (number, row) = answer.err().map_or((0, 0), |refusal| (refusal.number(), refusal.row()));
     let text = answer.err().map_or("done".into(), |refusal| refusal.to_string());
@@ -23,6 +29,11 @@ pub fn frame(path: &Path, frame: &Frame, answer: Result<(), Refusal>, marks: Opt
         write!(line, ",\"old\":{},\"old_rows\":{}", marks.count_old(), runs(marks.rows_old())).expect("a string");
         write!(line, ",\"filler\":{},\"filler_rows\":{}", marks.count_filler(), runs(marks.rows_filler()))
             .expect("a string");
+    }
+    if let Some((fill, runs)) = blanked {
+        let run = |run: &Run| format!("[{},{},{}]", run.row, run.first, run.length);
+        let runs: Vec<String> = runs.iter().map(run).collect();
+        write!(line, ",\"blanked\":{},\"runs\":[{}]", fill.unwrap_or(0), runs.join(",")).expect("a string");
     }
     line + "}\n"
 }

@@ -4,7 +4,7 @@ use crate::form::{self, Decoded, Form, Picture};
 use crate::report;
 use crate::worker::Worker;
 use razvolk::srw::{self, Fault, Frame};
-use razvolk::{MAX_SIDE, Refusal};
+use razvolk::{MAX_SIDE, Refusal, Run};
 
 /// What came of a frame.
 pub struct Look<'a> {
@@ -13,19 +13,36 @@ pub struct Look<'a> {
     pub over: Option<Result<(), Refusal>>,
     /// Samples and marks, if the stream was begun.
     pub decoded: Option<Decoded<'a>>,
+    /// The fill if one is stated, and the runs that were set, if the frame is blanked.
+    pub blanked: Option<(Option<u16>, Vec<Run>)>,
     missing: usize,
 }
 
 impl<'a> Look<'a> {
-    /// Decodes a frame into the worker's buffer; where there is one to decode `over`, that one first.
-    pub fn at(worker: &'a mut Worker, frame: &Frame<'a>, over: Option<&Frame>) -> Result<Look<'a>, String> {
+    /// Decodes a frame into the worker's buffer; where there is one to decode `over`, that one first. Where it is to be
+    /// blanked, with a stated fill or none, nothing of what the buffer held before is left in it.
+    pub fn at(
+        worker: &'a mut Worker,
+        frame: &Frame<'a>,
+        over: Option<&Frame>,
+        blank: Option<Option<u16>>,
+    ) -> Result<Look<'a>, String> {
         [over, Some(frame)].into_iter().flatten().try_for_each(|frame| worker.make_room(frame))?;
         let over = over.map(|over| worker.decode(over));
         let answer = worker.decode(frame);
+        let blanked = blank.map(|fill| (fill, worker.blank(fill)));
         let depth = frame.v2_header().map(|header| header.depth).or(frame.bits);
         let &Frame { width, height, model, missing, .. } = frame;
-        let decoded = worker.frame().map(|(samples, marks)| Decoded { samples, marks, width, height, depth, model });
-        Ok(Look { answer, over, decoded, missing })
+        let decoded = worker.frame().map(|(samples, marks)| Decoded {
+            samples,
+            marks,
+            blanked: blank.is_some(),
+            width,
+            height,
+            depth,
+            model,
+        });
+        Ok(Look { answer, over, decoded, blanked, missing })
     }
 
     /// The exit status of a frame by itself: 1 refused, 3 something old or missing, 0 clean.
@@ -41,7 +58,8 @@ impl<'a> Look<'a> {
     /// What is told of it.
     pub fn text(&self, name: &str, frame: &Frame) -> String {
         let marks = report::marks(self.decoded.map(|decoded| decoded.marks));
-        format!("{}\n{}\n{marks}", report::heading(name, frame), report::answer(self.answer))
+        let blanked = self.blanked.as_ref().map(|(fill, runs)| report::blanked(runs, *fill)).unwrap_or_default();
+        format!("{}\n{}\n{marks}{blanked}", report::heading(name, frame), report::answer(self.answer))
     }
 }
 
@@ -54,7 +72,7 @@ pub fn seen(file: &[u8]) -> Result<String, Fault> {
         return Ok(report::heading("file", &frame));
     }
     let mut worker = Worker::default();
-    let look = Look::at(&mut worker, &frame, None).expect("few samples");
+    let look = Look::at(&mut worker, &frame, None, None).expect("few samples");
     if let Some(decoded) = look.decoded {
         for (form, half) in [(Form::Pgm, false), (Form::Png, false), (Form::Png, true), (Form::Planes, false)] {
             let file = form::file(form, decoded, Picture { half, ..Picture::default() });
@@ -62,7 +80,16 @@ pub fn seen(file: &[u8]) -> Result<String, Fault> {
         }
         stored(decoded);
     }
-    Ok(look.text("file", &frame))
+    let text = look.text("file", &frame);
+    let look = Look::at(&mut worker, &frame, None, Some(Some(9))).expect("few samples");
+    if let Some(decoded) = look.decoded {
+        let mut each = decoded.samples.iter().zip(decoded.marks.bytes());
+        assert!(
+            each.all(|(&sample, &mark)| mark == 0 || sample == 9),
+            "a blanked frame has the fill where it is marked"
+        );
+    }
+    Ok(text)
 }
 
 /// Written as V0, a frame is read again: its samples are the same, and all rest on the stream.
@@ -72,7 +99,7 @@ fn stored(decoded: Decoded) {
     let Ok(file) = file else { return };
     let frame = srw::frame(&file).expect("a frame");
     let mut worker = Worker::default();
-    let look = Look::at(&mut worker, &frame, None).expect("few samples");
+    let look = Look::at(&mut worker, &frame, None, None).expect("few samples");
     let again = look.decoded.expect("done");
     assert!(look.status() == 0 && again.samples == decoded.samples);
 }

@@ -18,12 +18,14 @@ usage: razvolk [OPTIONS] FILE.srw|FOLDER|- ...
   STREAM           a bare stream, of the size that --v0 or --v2 tells
   --offsets FILE   the byte offset of each row in a bare V0 stream: decimal numbers, parted by spaces, commas or lines
   --over FILE.srw  decode this frame first, into the same buffer, as a worker would; else what is written starts from zeros
+  --blank [FILL]   set the samples that rest on old values to FILL, or to 0, tell their runs, and write the frame so
   --jobs N         decode with N workers, one buffer each; else one for each processor
   --json           tell in JSON, one object a frame
 
  to write, each with a FILE, or with a FOLDER that is there, in which outputs are named after their frames:
   --pgm FILE       the samples, 16 bits each
-  --png FILE       a picture in which samples that rest on old values are tinted red, on missing words blue, on both violet
+  --png FILE       a picture in which samples that rest on old values are tinted red, on missing words blue, on both violet, if
+                   they aren't blanked
   --planes FILE    such a picture of the four colour planes, side by side: even rows and even columns, even and odd, odd and
                    even, odd and odd
   --write-v0 FILE  the samples as V0, none above 16,383, in a file that this tool reads again
@@ -58,6 +60,8 @@ pub struct Options {
     pub files: Vec<PathBuf>,
     pub bare: Option<Bare>,
     pub over: Option<PathBuf>,
+    /// Whether frames are to be blanked, and the fill if one is stated.
+    pub blank: Option<Option<u16>>,
     pub pgm: Option<PathBuf>,
     pub png: Option<PathBuf>,
     pub planes: Option<PathBuf>,
@@ -99,11 +103,18 @@ fn parted(word: &OsStr) -> (String, Option<OsString>) {
 
 /// Reads the words after the program's name.
 pub fn read(words: impl IntoIterator<Item = OsString>) -> Result<Asked, String> {
-    let mut words = words.into_iter();
+    let mut words = words.into_iter().peekable();
     let mut options = Options::default();
     let (mut v0, mut v2, mut offsets) = (None, None, None);
     while let Some(word) = words.next() {
         let (name, mut told) = parted(&word);
+        if name == "--blank" {
+            // A word that is a number is the fill; a file of such a name comes after --.
+            let next = || words.next_if(|word| word.to_str().is_some_and(|word| word.parse::<u32>().is_ok()));
+            let fill = told.or_else(next).map(|fill| number(&fill, "number up to 65535")).transpose()?;
+            once(&name, &mut options.blank, fill)?;
+            continue;
+        }
         let mut value = || told.take().or_else(|| words.next()).ok_or(format!("{name} needs a value"));
         match name.as_str() {
             "--help" | "-h" => return Ok(Asked::Help),
@@ -197,6 +208,7 @@ mod tests {
             files: vec!["a.srw".into(), "b=.srw".into(), "-".into()],
             bare: None,
             over: Some("c.srw".into()),
+            blank: Some(Some(512)),
             pgm: Some("d".into()),
             png: Some("e=f".into()),
             planes: Some("g".into()),
@@ -206,9 +218,12 @@ mod tests {
             json: true,
             jobs: Some(3),
         };
-        let line = "--over=c.srw a.srw --force --pgm d --png=e=f b=.srw --planes g --write-v0 h - --white 4095 --json \
+        let line = "--over=c.srw --blank 512 a.srw --force --pgm d --png=e=f b=.srw --planes g --write-v0 h - --white 4095 --json \
             --linear --half --jobs 3";
         assert_eq!(asked(line), Ok(Asked::Look(options.into())));
+        let blank = |blank| Ok(Asked::Look(Options { files: vec!["a".into()], blank, ..Options::default() }.into()));
+        assert_eq!([asked("--blank a"), asked("a --blank")], [blank(Some(None)), blank(Some(None))]);
+        assert_eq!([asked("a --blank 0"), asked("--blank=9 a")], [blank(Some(Some(0))), blank(Some(Some(9)))]);
         assert_eq!(
             asked("-- --x"),
             Ok(Asked::Look(Options { files: vec!["--x".into()], ..Options::default() }.into()))
@@ -234,6 +249,10 @@ mod tests {
             ("--v2 2x2 a b", "one bare stream at a time"),
             ("- a -", "standard input is read once"),
             ("--png", "--png needs a value"),
+            ("--blank 65536 s", "65536 is no number up to 65535"),
+            ("--blank=x s", "x is no number up to 65535"),
+            ("--blank --blank 5 s", "--blank is told twice"),
+            ("--blank 5", "no file is named"),
             ("--gif a", "there is no option --gif"),
             ("-x a", "there is no option -x"),
             ("--force=a b", "--force takes no value"),

@@ -153,17 +153,20 @@ fn decode(worker: &mut Worker, job: &Job, shared: &Shared, text: &mut String) ->
     if !job.outputs.is_empty() {
         worker.clear();
     }
-    let look = Look::at(worker, &frame, over.as_ref().map(|(_, frame)| frame)).map_err(|fault| file.fault(fault))?;
+    let look = Look::at(worker, &frame, over.as_ref().map(|(_, frame)| frame), options.blank)
+        .map_err(|fault| file.fault(fault))?;
     let marks = look.decoded.map(|decoded| decoded.marks);
     if options.json {
-        *text += &json::frame(&job.path, &frame, look.answer, marks);
+        *text += &json::frame(&job.path, &frame, look.answer, marks, look.blanked.as_ref());
     } else {
         if let Some(((name, over), answer)) = over.as_ref().zip(look.over) {
             *text += &format!("over {}\n{}\n", report::heading(name, over), report::answer(answer));
         }
         *text += &look.text(&file.name(), &frame);
         let stored = job.outputs.iter().filter(|(form, _)| *form == Form::V0);
-        stored.for_each(|(_, place)| *text += &report::stored(place.name(), look.answer, marks));
+        stored.for_each(|(_, place)| {
+            *text += &report::stored(place.name(), look.answer, marks.filter(|_| look.blanked.is_none()))
+        });
     }
     write(job, &look, options)?;
     Ok(look.status())

@@ -2,7 +2,7 @@
 
 use crate::input::shown;
 use razvolk::srw::{Frame, V2Header};
-use razvolk::{Marks, Refusal};
+use razvolk::{Marks, Refusal, Run};
 use std::fmt::Write;
 use std::path::Path;
 
@@ -81,6 +81,29 @@ fn listing(runs: &[Rows], width: usize) -> String {
     if !more.is_empty() {
         let rows: usize = more.iter().map(|rows| rows.last - rows.first + 1).sum();
         writeln!(text, "  and {rows} more rows").expect("a string");
+    }
+    text
+}
+
+/// What was set: how many samples, to what, and in which columns of which rows.
+pub fn blanked(runs: &[Run], fill: Option<u16>) -> String {
+    let plural = |n, name: &str| format!("{n} {name}{}", if n == 1 { "" } else { "s" });
+    let (set, fill) = (runs.iter().map(|run| run.length).sum::<usize>(), fill.unwrap_or(0));
+    if runs.is_empty() {
+        return "nothing to blank\n".into();
+    }
+    let mut text = format!("blanked to {fill}: {} in {}\n", plural(set, "sample"), plural(runs.len(), "run"));
+    // Rows that follow one another and have the same columns are told once.
+    let columns = |runs: &[Run]| runs.iter().map(|run| (run.first, run.length)).collect::<Vec<_>>();
+    let rows: Vec<&[Run]> = runs.chunk_by(|one, next| one.row == next.row).collect();
+    for alike in rows.chunk_by(|one, next| one[0].row + 1 == next[0].row && columns(one) == columns(next)) {
+        let (first, last) = (alike[0][0].row, alike[alike.len() - 1][0].row);
+        let name = if first == last { format!("row {first}") } else { format!("rows {first} to {last}") };
+        let told = columns(alike[0]).into_iter().map(|(first, length)| match length {
+            1 => format!("{first}"),
+            _ => format!("{first} to {}", first + length - 1),
+        });
+        writeln!(text, "  {name}: columns {}", told.collect::<Vec<_>>().join(", ")).expect("a string");
     }
     text
 }

@@ -1,7 +1,7 @@
 //! What a worker has: one sample buffer and a decoder, from frame to frame.
 
 use razvolk::srw::{Coding, Frame};
-use razvolk::{Decoder, MAX_SIDE, Marks, Refusal};
+use razvolk::{Decoder, MAX_SIDE, Marks, Refusal, Run};
 
 /// The most samples that a frame may have here: more than twice as many as any camera's. A file of some bytes can't make the
 /// tool ask for more memory than that.
@@ -47,6 +47,16 @@ impl Worker {
             Coding::V2 => decoder.decode_v2(stream, width, height, samples),
         }
         .map(|_| ())
+    }
+
+    /// Sets the last frame's marked samples to a fill, or to what is set if none is stated, and tells their runs.
+    pub fn blank(&mut self, fill: Option<u16>) -> Vec<Run> {
+        let Worker { samples, decoder } = self;
+        let runs = match fill {
+            Some(fill) => decoder.blank_with(fill, samples),
+            None => decoder.blank(samples),
+        };
+        runs.expect("the frame is there")
     }
 
     /// The last frame's samples and marks, if it was begun.

@@ -1,8 +1,8 @@
 //! The library on files that are made, damaged, and made to do harm.
 
 use crate::folder::srw;
-use razvolk::Refusal;
 use razvolk::srw::{Coding, Frame, frame};
+use razvolk::{Refusal, Run};
 use razvolk_tool::look::seen;
 use razvolk_tool::report;
 use razvolk_tool::worker::Worker;
@@ -165,4 +165,11 @@ fn answers_in_words() {
     );
     assert_eq!(report::answer(Err(Refusal::TooLarge)), "refused 1: width or height is above 16,384");
     assert_eq!(report::marks(None), "nothing was decoded\n");
+    let run = |row, first, length| Run { row, first, length };
+    let runs = [run(0, 0, 9), run(1, 0, 9), run(2, 0, 9), run(4, 0, 9), run(5, 2, 1), run(5, 4, 2)];
+    let text = "blanked to 512: 39 samples in 6 runs\n  rows 0 to 2: columns 0 to 8\n  row 4: columns 0 to 8\n  \
+                row 5: columns 2, 4 to 5\n";
+    assert_eq!(report::blanked(&runs, Some(512)), text);
+    assert_eq!(report::blanked(&runs[4..5], None), "blanked to 0: 1 sample in 1 run\n  row 5: columns 2\n");
+    assert_eq!(report::blanked(&[], None), "nothing to blank\n");
 }

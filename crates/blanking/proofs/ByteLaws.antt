@@ -1,0 +1,98 @@
+-- What bytes say, one by one and as a list.
+use mathlib.Core.Path.{_≡_, refl, sym, ap, ap₂, _∙_}
+use mathlib.Core.Bool.{Bool, true, false, _||_, _&&_, not, cond}
+use mathlib.Core.List.{List, [], _∷_, _++_}
+use Prim.Native.Nat.{ℕ, zero, suc, _+_, _*_, _≤_, _<_, max}
+use native.Mathlib.Omega.{arith}
+use native.Mathlib.Numerals.{add-one}
+use lib.Dec.{ltb}
+use lib.ListN.{length, getD, take, drop, drop-of-length-le}
+use lib.Seq.{drop-cons}
+use borrow.Author.Tests.{lt-ltb, le-ltb, ltb-true, ltb-false}
+use Rattle.rules.proofs.Tests.{neither}
+use Rattle.blanking.specs.Blanking.{marked, strange, bad-map, bit, count}
+use Rattle.blanking.specs.Lent.{greatest}
+
+-- ── A byte ──
+
+pub zero-unmarked : (b : ℕ) → b ≡ 0 → marked b ≡ false
+unfolding marked
+zero-unmarked b e = le-ltb 0 b (omega arith)
+
+pub other-marked : (b : ℕ) → (b ≡ 0 → ⊥) → marked b ≡ true
+unfolding marked
+other-marked zero n = absurd (n refl)
+other-marked (suc b) n = lt-ltb 0 (suc b) (omega arith)
+
+pub bit-most : (t : Bool) → bit t ≤ 1
+unfolding bit
+bit-most true = omega arith
+bit-most false = omega arith
+
+-- A bit is the test again.
+pub bit-set : (t : Bool) → ltb 0 (bit t) ≡ t
+unfolding bit
+bit-set true = refl
+bit-set false = refl
+
+-- A run starts where the mark before is less.
+pub start-is : (before : ℕ) (t : Bool) → bit (ltb before (bit t)) ≡ bit (t && not (ltb 0 before))
+unfolding bit
+start-is zero true = refl
+start-is (suc k) true = rw (le-ltb (suc k) 1 (omega arith), lt-ltb 0 (suc k) (omega arith))
+start-is before false = rw (le-ltb before 0 (omega arith))
+
+-- ── The rest of a list ──
+
+-- What is left at a place is the byte there, and what is left after it.
+pub left-more : (m : List ℕ) (i : ℕ) → i < length m → drop i m ≡ getD m i 0 ∷ drop (i + 1) m
+left-more m i h = rw (add-one i) (drop-cons m i 0 h)
+
+-- ── The greatest byte ──
+
+pub greatest-on : (m : List ℕ) (i most more : ℕ) → i < length m → more ≡ max most (getD m i 0)
+    → max most (greatest (drop i m)) ≡ max more (greatest (drop (i + 1) m))
+unfolding greatest
+greatest-on m i most more h e = rw (left-more m i h, e) (omega arith)
+
+pub greatest-gone : (m : List ℕ) (i most : ℕ) → length m ≤ i → max most (greatest (drop i m)) ≡ most
+unfolding greatest
+greatest-gone m i most h = rw (drop-of-length-le m {i = i} h) (omega arith)
+
+-- One of two is above 1 if the greater is.
+above : (a b : ℕ) (t u : Bool) → ltb 1 a ≡ t → ltb 1 b ≡ u → ltb 1 (max a b) ≡ (ltb 1 a || ltb 1 b)
+above a b true u e q = let l = ltb-true 1 a e in rw e (lt-ltb 1 (max a b) (omega arith))
+above a b false true e q = let l = ltb-true 1 b q in rw (e, q) (lt-ltb 1 (max a b) (omega arith))
+above a b false false e q =
+    let l = ltb-false 1 a e in
+    let k = ltb-false 1 b q in rw (e, q) (le-ltb 1 (max a b) (omega arith))
+
+-- 14 is a matter of the greatest.
+pub bad-is : (m : List ℕ) → ltb 1 (greatest m) ≡ bad-map m
+unfolding bad-map strange greatest
+bad-is [] = refl
+bad-is (b ∷ m) = above b (greatest m) (ltb 1 b) (ltb 1 (greatest m)) refl refl ∙ ap (λ t. ltb 1 b || t) (bad-is m)
+
+-- Where the greatest is 0 every byte is.
+pub none-marked : (m : List ℕ) → greatest m ≡ 0 → (i : ℕ) → marked (getD m i 0) ≡ false
+unfolding greatest
+none-marked [] e i = zero-unmarked 0 refl
+none-marked (b ∷ m) e zero = zero-unmarked b (omega arith)
+none-marked (b ∷ m) e (suc i) = none-marked m (omega arith) i
+
+-- ── How many are marked ──
+
+pub count-append : (m n : List ℕ) → count (m ++ n) ≡ count m + count n
+unfolding count
+count-append [] n = omega arith
+count-append (b ∷ m) n = omega (arith, count-append m n)
+
+pub count-most : (m : List ℕ) → count m ≤ length m
+unfolding count
+count-most [] = omega arith
+count-most (b ∷ m) = omega (arith, bit-most (marked b), count-most m)
+
+pub count-none : (m : List ℕ) → greatest m ≡ 0 → count m ≡ 0
+unfolding count greatest bit
+count-none [] e = refl
+count-none (b ∷ m) e = ap₂ (λ t n. bit t + n) (zero-unmarked b (omega arith)) (count-none m (omega arith))

@@ -1,0 +1,171 @@
+-- What the loops over a row keep: what is done, with what is left from here, is the whole row's.
+use mathlib.Core.Path.{_≡_, refl, sym, ap, ap₂, _∙_}
+use mathlib.Core.Bool.{Bool, true, false, _&&_, not, cond}
+use mathlib.Core.List.{List, [], _∷_, _++_, append-nil}
+use Prim.Native.Nat.{ℕ, zero, suc, _+_, _*_, _≤_, _<_}
+use native.Mathlib.Omega.{arith}
+use native.Mathlib.Numerals.{add-one}
+use native.Mathlib.Nat.{add-zero, zero-add}
+use lib.Dec.{ltb}
+use lib.ListN.{length, getD, take, drop, set, length-set, length-append, length-drop, drop-of-length-le, List·getD-append}
+use lib.Seq.{sets, length-sets, drop-cons, take-suc, set-at, getD-at, take-all, length-take-le, append-snoc, ext-getD}
+use Rattle.rules.specs.Frame.{tabulate}
+use Rattle.blanking.specs.declared.Tally.{Tally}
+use Rattle.blanking.specs.Blanking.{Fill, marked, bit, count, blank-row, run, Run, stretch, runs-from, row-runs, numbers}
+use Rattle.blanking.specs.Lent.{tally, greatest, RowLent}
+use Rattle.blanking.proofs.ByteLaws.{bit-most, bit-set, start-is, left-more, none-marked, count-none}
+use Rattle.blanking.proofs.RunLaws.{runs-step, runs-none, runs-most, left-at, left-passed, left-run, numbers-length, stretch-most}
+
+-- ── Counting ──
+
+pub record Tallied (m : List ℕ) (marks runs before i : ℕ) : Type 0 where
+  pub below : i ≤ length m
+  pub few-marks : marks ≤ i
+  pub few-runs : runs ≤ i
+  pub marks-are : count m ≡ marks + count (drop i m)
+  pub runs-are : length (row-runs 0 m) ≡ runs + length (runs-from 0 (ltb 0 before) i (drop i m))
+
+pub tallied-none : (m : List ℕ) → Tallied m 0 0 0 0
+tallied-none m = record { below = omega arith; few-marks = omega arith; few-runs = omega arith; marks-are = omega arith; runs-are = omega arith }
+
+pub tallied-more : {m : List ℕ} {marks runs before i : ℕ} (now start : ℕ) → i < length m → now ≡ bit (marked (getD m i 0)) → start ≡ bit (ltb before now)
+    → Tallied m marks runs before i → Tallied m (marks + now) (runs + start) now (i + 1)
+unfolding count
+tallied-more {m} {marks} {runs} {before} {i} now start h e s t =
+    let b = getD m i 0 in
+    let begins : start ≡ bit (marked b && not (ltb 0 before)) = s ∙ ap (λ n. bit (ltb before n)) e ∙ start-is before (marked b) in
+    let counted : count (drop i m) ≡ now + count (drop (i + 1) m) = ap count (left-more m i h) ∙ ap (λ n. n + count (drop (i + 1) m)) (sym e) in
+    let again : ltb 0 now ≡ marked b = ap (ltb 0) e ∙ bit-set (marked b) in
+    let listed : length (runs-from 0 (ltb 0 before) i (drop i m)) ≡ start + length (runs-from 0 (ltb 0 now) (i + 1) (drop (i + 1) m)) =
+    ap (λ l. length (runs-from 0 (ltb 0 before) i l)) (left-more m i h) ∙ runs-step 0 (ltb 0 before) i b (drop (i + 1) m)
+    ∙ ap₂ (λ x y. x + y) (sym begins) (rw (again, add-one i)) in
+    let now-most : now ≤ 1 = rw e (bit-most (marked b)) in
+    let start-most : start ≤ 1 = rw s (bit-most (ltb before now)) in
+    record {
+      below = omega arith;
+      few-marks = omega (arith, t .few-marks);
+      few-runs = omega (arith, t .few-runs);
+      marks-are = omega (arith, t .marks-are, counted);
+      runs-are = omega (arith, t .runs-are, listed);
+    }
+
+pub tallied-all : {m : List ℕ} {marks runs before i : ℕ} → length m ≤ i → Tallied m marks runs before i → _≡_ {A = Tally} (record { marked = marks; runs = runs }) (tally m (row-runs 0 m))
+unfolding count runs-from
+tallied-all {m} {marks} {runs} {before} {i} h t =
+    let none = drop-of-length-le m {i = i} h in
+    let c : marks ≡ count m = sym (t .marks-are ∙ ap (λ l. marks + count l) none ∙ add-zero marks) in
+    let r : runs ≡ length (row-runs 0 m) = sym (t .runs-are ∙ ap (λ l. runs + length (runs-from 0 (ltb 0 before) i l)) none ∙ add-zero runs) in
+    ap₂ (λ x y. record { marked = x; runs = y }) c r
+
+-- A row with nothing marked.
+pub tally-none : (m : List ℕ) → greatest m ≡ 0 → _≡_ {A = Tally} (record { marked = 0; runs = 0 }) (tally m (row-runs 0 m))
+tally-none m e = ap₂ (λ x y. record { marked = x; runs = length y }) (sym (count-none m e)) (sym (runs-none 0 _ 0 m e))
+
+-- ── Setting ──
+
+pub tabulate-length : (n i : ℕ) (f : ℕ → ℕ) → length (tabulate n i f) ≡ n
+unfolding tabulate
+tabulate-length zero i f = refl
+tabulate-length (suc n) i f = ap suc (tabulate-length n (suc i) f)
+
+pub tabulate-get : (n i : ℕ) (f : ℕ → ℕ) (k d : ℕ) → k < n → getD (tabulate n i f) k d ≡ f (i + k)
+unfolding tabulate
+tabulate-get zero i f k d h = absurd (omega arith)
+tabulate-get (suc n) i f zero d h = rw (add-zero i)
+tabulate-get (suc n) i f (suc k) d h = let e : suc i + k ≡ i + suc k = omega arith in tabulate-get n (suc i) f k d (omega arith) ∙ ap f e
+
+module _ (fill : Fill) (row map : List ℕ) where
+  pub blank-row-length : length (blank-row fill row map) ≡ length row
+  unfolding blank-row
+  blank-row-length = tabulate-length (length row) 0 _
+
+  -- A blanked sample is its fill if it is marked.
+  pub blank-row-get : (c : ℕ) → c < length row → getD (blank-row fill row map) c 0 ≡ cond (marked (getD map c 0)) (fill row map c) (getD row c 0)
+  unfolding blank-row
+  blank-row-get c h = tabulate-get (length row) 0 _ c 0 h ∙ rw (zero-add c)
+
+  -- Where nothing is marked all stays.
+  pub blank-row-none : greatest map ≡ 0 → blank-row fill row map ≡ row
+  blank-row-none e =
+      ext-getD 0 (blank-row fill row map) row blank-row-length (λ c h. blank-row-get c (rw blank-row-length at h) ∙ rw (none-marked map e c))
+
+-- The first i samples are those of the row that is wanted, the others as they were.
+pub record Filled (want row₀ row : List ℕ) (i : ℕ) : Type 0 where
+  pub below : i ≤ length row₀
+  pub kept : length row ≡ length row₀
+  pub is : row ≡ take i want ++ drop i row₀
+
+pub filled-none : (want row : List ℕ) → Filled want row row 0
+filled-none want row = record { below = omega arith; kept = refl; is = refl }
+
+module _ {want row₀ row : List ℕ} {i : ℕ} (l : length want ≡ length row₀) (f : Filled want row₀ row i) where
+  front : length (take i want) ≡ i
+  front = length-take-le i want (omega (arith, f .below))
+
+  pub filled-get : i < length row₀ → getD row i 0 ≡ getD row₀ i 0
+  filled-get h = rw (f .is, drop-cons row₀ i 0 h) (getD-at (take i want) (getD row₀ i 0) (drop (suc i) row₀) 0 i front)
+
+  pub filled-more : (v : ℕ) → i < length row₀ → v ≡ getD want i 0 → Filled want row₀ (set row i v) (i + 1)
+  filled-more v h e =
+      record {
+        below = omega arith;
+        kept = length-set row i v ∙ f .kept;
+        is =
+            rw (f .is, drop-cons row₀ i 0 h) (set-at (take i want) (getD row₀ i 0) (drop (suc i) row₀) v i front)
+            ∙ ap (λ x. take i want ++ (x ∷ drop (suc i) row₀)) e ∙ sym (append-snoc (take i want) (getD want i 0) (drop (suc i) row₀))
+            ∙ rw (add-one i) (sym (ap (λ x. x ++ drop (suc i) row₀) (take-suc want i 0 (omega (arith, l)))));
+      }
+
+  pub filled-all : length row₀ ≤ i → row ≡ want
+  filled-all h = f .is ∙ ap₂ (λ x y. x ++ y) (take-all i want (omega (arith, l))) (drop-of-length-le row₀ {i = i} h) ∙ rw append-nil
+
+-- ── Listing ──
+
+-- What is listed from a place on, with the runs that are left at a column.
+pub record Listed (row : ℕ) (m : List ℕ) (from : ℕ) (runs₀ runs : List ℕ) (at col : ℕ) : Type 0 where
+  pub below : col ≤ length m
+  pub kept : length runs ≡ length runs₀
+  pub place : at + 3 * length (left-at row m col) ≡ from + 3 * length (row-runs row m)
+  pub lists : sets runs at (numbers (left-at row m col)) ≡ sets runs₀ from (numbers (row-runs row m))
+
+pub listed-none : (row : ℕ) (m : List ℕ) (from : ℕ) (runs : List ℕ) → Listed row m from runs runs from 0
+listed-none row m from runs = record { below = omega arith; kept = refl; place = refl; lists = refl }
+
+module _ {row : ℕ} {m : List ℕ} {from : ℕ} {runs₀ runs : List ℕ} {at col : ℕ} (g : Listed row m from runs₀ runs at col) where
+  pub listed-passed : col < length m → marked (getD m col 0) ≡ false → Listed row m from runs₀ runs at (col + 1)
+  listed-passed h e =
+      let p = left-passed row m col h e in
+      record { below = omega arith; kept = g .kept; place = rw p at (g .place); lists = rw p at (g .lists) }
+
+  module _ (h : col < length m) (e : marked (getD m col 0) ≡ true) (k : ℕ) (is : k ≡ stretch (drop col m)) where
+    next : left-at row m col ≡ run row col k ∷ runs-from row false (col + k) (drop (col + k) m)
+    next = left-run row m col h e k is
+
+    pub run-within : col + k ≤ length m
+    run-within = omega (arith, stretch-most (drop col m), length-drop col m, is)
+
+    pub run-room : from + 3 * length (row-runs row m) ≤ length runs₀ → at + 3 ≤ length runs
+    run-room r = omega (arith, g .place, g .kept, ap length next)
+
+    pub listed-run : (runs′ : List ℕ) → runs′ ≡ sets runs at (row ∷ col ∷ k ∷ []) → Listed row m from runs₀ runs′ (at + 3) (col + k)
+    unfolding numbers
+    listed-run runs′ q =
+        let three : at + 3 ≡ suc (suc (suc at)) = omega arith in
+        record {
+          below = run-within;
+          kept = ap length q ∙ length-sets runs at (row ∷ col ∷ k ∷ []) ∙ g .kept;
+          place = omega (arith, g .place, ap length next);
+          lists = rw (q, three) (rw next at (g .lists));
+        }
+
+pub listed-all : {row : ℕ} {m : List ℕ} {from : ℕ} {runs₀ runs : List ℕ} {at col : ℕ} → length m ≤ col → Listed row m from runs₀ runs at col
+    → (at ≡ from + 3 * length (row-runs row m)) × (runs ≡ sets runs₀ from (numbers (row-runs row m)))
+unfolding runs-from numbers
+listed-all {row} {m} {from} {runs₀} {runs} {at} {col} h g =
+    let none = drop-of-length-le m {i = col} h in (omega (arith, rw none at (g .place)), rw none at (g .lists))
+
+-- A row with nothing marked.
+pub nothing-listed : (row : ℕ) (m : List ℕ) (from : ℕ) (runs : List ℕ) → greatest m ≡ 0
+    → (from ≡ from + 3 * length (row-runs row m)) × (runs ≡ sets runs from (numbers (row-runs row m)))
+unfolding numbers
+nothing-listed row m from runs e = let none : row-runs row m ≡ [] = runs-none row _ 0 m e in (omega (arith, ap length none), rw none)

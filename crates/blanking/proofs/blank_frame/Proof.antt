@@ -1,0 +1,94 @@
+-- What is blanked and listed, with the rows that are left, is the frame's.
+use borrow.Author.Needs.{needs}
+use Prim.Native.Nat.{_-_}
+use native.Mathlib.Omega.{arith}
+use Rattle.blanking.specs.Blanking.{stated}
+use Rattle.blanking.proofs.FrameLaws.{row-room, row-lent, RowsBlanked, rows-blanked-none, rows-blanked-more, rows-blanked-all}
+use Rattle.blanking.proofs.blank_frame.Statement.{statement}
+use Rattle.blanking.proofs.blank_frame.Tie as tie
+
+abbrev Inv-loop : tie.InvT-loop
+Inv-loop samples₀ map size fill runs₀ at₀ row₀ samples runs at row = RowsBlanked (stated fill) size samples₀ map runs₀ samples runs at row
+
+abbrev μ-loop : tie.MeasureT-loop
+μ-loop samples₀ map size fill runs₀ at₀ row₀ samples runs at row = size .height - row
+
+loop-holds : tie.Need-loop-holds Inv-loop μ-loop
+loop-holds c = rows-blanked-none _ _ _ _ _
+
+mul-start : tie.Need-mul-start Inv-loop μ-loop
+mul-start c = let r = row-room _ _ (c .before .before .before .loop .row) (c .before .before .before .before .before .before .before .pre .map-lent) (omega arith) in omega arith
+
+add-end : tie.Need-add-end Inv-loop μ-loop
+add-end c = let r = row-room _ _ (c .before .before .before .before .loop .row) (c .before .before .before .before .before .before .before .before .pre .map-lent) (omega arith) in omega arith
+
+mul-blank-row : tie.Need-mul-blank-row Inv-loop μ-loop
+mul-blank-row c = let r = row-room _ _ (c .before .before .before .before .loop .row) (c .before .before .before .before .before .before .before .before .pre .map-lent) (omega arith) in omega arith
+
+sub-blank-row : tie.Need-sub-blank-row Inv-loop μ-loop
+sub-blank-row c = search needs
+
+part-blank-row-start : tie.Need-part-blank-row-start Inv-loop μ-loop
+part-blank-row-start c = search needs
+
+part-blank-row-end : tie.Need-part-blank-row-end Inv-loop μ-loop
+part-blank-row-end c =
+    let p = c .before .before .before .before .before .before .before .before .pre in
+    let l = c .before .before .before .before .loop in
+    let r = row-room _ _ (l .row) (p .map-lent) (omega arith) in omega (arith, l .inv .kept, p .written, p .map-lent .read)
+
+sub-blank-row-2 : tie.Need-sub-blank-row-2 Inv-loop μ-loop
+sub-blank-row-2 c = search needs
+
+part-blank-row-start-2 : tie.Need-part-blank-row-start-2 Inv-loop μ-loop
+part-blank-row-start-2 c = search needs
+
+part-blank-row-end-2 : tie.Need-part-blank-row-end-2 Inv-loop μ-loop
+part-blank-row-end-2 c = let r = row-room _ _ (c .before .before .before .before .before .loop .row) (c .before .before .before .before .before .before .before .before .before .pre .map-lent) (omega arith) in omega arith
+
+blank-row-requires : tie.Need-blank-row-requires Inv-loop μ-loop
+blank-row-requires c κs = row-lent (c .before .before .before .before .before .before .before .loop .inv) (c .before .before .before .before .before .before .before .before .before .before .before .pre) (omega arith)
+
+add-row : tie.Need-add-row Inv-loop μ-loop
+add-row c = search needs
+
+loop-less : tie.Need-loop-less Inv-loop μ-loop
+loop-less c = search needs
+
+loop-again : tie.Need-loop-again Inv-loop μ-loop
+loop-again c =
+    let r = c .before .before .before .before .blank-row in
+    rows-blanked-more (c .before .before .before .before .before .before .before .before .before .before .before .before .loop .inv) (c .before .before .before .before .before .before .before .before .before .before .before .before .before .before .before .before .pre) (omega arith) _ _ _ (r .ensures .0) (r .ensures .1 .0) (r .ensures .1 .1)
+
+same-length : tie.Need-same-length Inv-loop μ-loop
+same-length c = search needs
+
+same-length-2 : tie.Need-same-length-2 Inv-loop μ-loop
+same-length-2 c = search needs
+
+returns : tie.Need-returns Inv-loop μ-loop
+returns c = rows-blanked-all (omega arith) (c .before .before .before .before .before .before .pre) (c .before .before .loop .inv)
+
+pub blank-frame-spec : {M : Type 1} → statement M
+blank-frame-spec =
+    tie.close
+    (tie.spec
+    Inv-loop
+    μ-loop
+    loop-holds
+    mul-start
+    add-end
+    mul-blank-row
+    sub-blank-row
+    part-blank-row-start
+    part-blank-row-end
+    sub-blank-row-2
+    part-blank-row-start-2
+    part-blank-row-end-2
+    blank-row-requires
+    add-row
+    loop-less
+    loop-again
+    same-length
+    same-length-2
+    returns)

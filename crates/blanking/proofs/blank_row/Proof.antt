@@ -1,0 +1,46 @@
+-- Where the greatest byte is 0 nothing is marked; else both are done.
+use mathlib.Core.Path.{sym, ap, _∙_}
+use native.Mathlib.Omega.{arith}
+use Rattle.blanking.specs.Blanking.{stated, numbers}
+use Rattle.blanking.proofs.RunLaws.{runs-none}
+use Rattle.blanking.proofs.RowLaws.{blank-row-none, nothing-listed}
+use borrow.Author.Needs.{needs}
+use Rattle.blanking.proofs.blank_row.Statement.{statement}
+use Rattle.blanking.proofs.blank_row.Tie as tie
+
+greatest-of-requires : tie.Need-greatest-of-requires
+greatest-of-requires c κs = search needs
+
+returns : tie.Need-returns
+returns c =
+    let a = c .before .before .before .before .before .args in
+    let none = sym (c .before .greatest-of .ensures) ∙ c .if1 .taken in
+    let listed = nothing-listed (a .row) (a .map .now) (a .from) (a .runs .now) none in
+    (listed .0, (sym (blank-row-none (stated (a .fill)) (a .samples .now) (a .map .now) none), listed .1))
+
+fill-row-requires : tie.Need-fill-row-requires
+fill-row-requires c κs = search needs
+
+list-row-requires : tie.Need-list-row-requires
+list-row-requires c κs = search needs
+
+same-length : tie.Need-same-length
+same-length c = search needs
+
+same-length-2 : tie.Need-same-length-2
+same-length-2 c = search needs
+
+returns-2 : tie.Need-returns-2
+returns-2 c = search needs
+
+pub blank-row-spec : {M : Type 1} → statement M
+blank-row-spec =
+    tie.close
+    (tie.spec
+    greatest-of-requires
+    returns
+    fill-row-requires
+    list-row-requires
+    same-length
+    same-length-2
+    returns-2)

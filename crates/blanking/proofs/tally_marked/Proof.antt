@@ -1,0 +1,78 @@
+-- What is counted, with what is left to count, is the row's.
+use borrow.Author.Needs.{needs}
+use Prim.Native.Nat.{_-_, _≤_}
+use native.Mathlib.Omega.{arith}
+use lib.ListN.{length}
+use Rattle.blanking.proofs.ByteLaws.{bit-most}
+use Rattle.blanking.proofs.RowLaws.{Tallied, tallied-none, tallied-more, tallied-all}
+use Rattle.blanking.proofs.tally_marked.Statement.{statement}
+use Rattle.blanking.proofs.tally_marked.Tie as tie
+
+abbrev Inv-loop : tie.InvT-loop
+Inv-loop map marked₀ runs₀ before₀ i₀ marked runs before i = Tallied map marked runs before i
+
+abbrev μ-loop : tie.MeasureT-loop
+μ-loop map marked₀ runs₀ before₀ i₀ marked runs before i = length map - i
+
+loop-holds : tie.Need-loop-holds Inv-loop μ-loop
+loop-holds c = tallied-none _
+
+shared-slice-read-mark : tie.Need-shared-slice-read-mark Inv-loop μ-loop
+shared-slice-read-mark c = search needs
+
+mark-requires : tie.Need-mark-requires Inv-loop μ-loop
+mark-requires c κs = search needs
+
+add-marked : tie.Need-add-marked Inv-loop μ-loop
+add-marked c =
+    let l = c .before .before .before .loop in
+    let b : c .mark .result ≤ 1 = rw (c .mark .ensures) (bit-most _) in
+    omega (arith, l .inv .few-marks)
+
+starts-requires : tie.Need-starts-requires Inv-loop μ-loop
+starts-requires c κs = search needs
+
+add-runs : tie.Need-add-runs Inv-loop μ-loop
+add-runs c =
+    let l = c .before .before .before .before .loop in
+    let b : c .starts .result ≤ 1 = rw (c .starts .ensures) (bit-most _) in
+    omega (arith, l .inv .few-runs)
+
+add-i : tie.Need-add-i Inv-loop μ-loop
+add-i c = search needs
+
+loop-less : tie.Need-loop-less Inv-loop μ-loop
+loop-less c = search needs
+
+loop-again : tie.Need-loop-again Inv-loop μ-loop
+loop-again c =
+    let l = c .before .before .before .before .loop in
+    tallied-more _ _ (omega arith) (c .before .mark .ensures) (c .starts .ensures) (l .inv)
+
+cast-t12 : tie.Need-cast-t12 Inv-loop μ-loop
+cast-t12 c = search needs
+
+cast-t13 : tie.Need-cast-t13 Inv-loop μ-loop
+cast-t13 c = search needs
+
+returns : tie.Need-returns Inv-loop μ-loop
+returns c = tallied-all (omega arith) (c .before .loop .inv)
+
+pub tally-marked-spec : {M : Type 1} → statement M
+tally-marked-spec =
+    tie.close
+    (tie.spec
+    Inv-loop
+    μ-loop
+    loop-holds
+    shared-slice-read-mark
+    mark-requires
+    add-marked
+    starts-requires
+    add-runs
+    add-i
+    loop-less
+    loop-again
+    cast-t12
+    cast-t13
+    returns)

@@ -1,0 +1,36 @@
+-- What the functions ask of what they are lent, and what the loops over bytes find.
+use Prim.Native.Nat.{ℕ, _+_, _*_, _≤_, max}
+use mathlib.Core.Path.{_≡_}
+use mathlib.Core.List.{List, [], _∷_}
+use lib.ListN.{length}
+use Rattle.rules.specs.declared.answer.Size.{Size}
+use Rattle.rules.specs.Frame.{cells}
+use Rattle.blanking.specs.declared.Tally.{Tally}
+use Rattle.blanking.specs.Blanking.{Run, count, row-runs, runs-of}
+
+-- The greatest byte, or 0.
+unfoldable pub greatest : List ℕ → ℕ
+greatest [] = 0
+greatest (b ∷ m) = max b (greatest m)
+
+-- How many samples are marked, and how many runs there are.
+abbrev pub tally : List ℕ → List Run → Tally
+tally m rs = record { marked = count m; runs = length rs }
+
+-- A frame's map, of a size within the limits.
+pub record MapLent (z : Size) (map : List ℕ) : Type 0 where
+  pub wide : z .width ≤ 16_384
+  pub high : z .height ≤ 16_384
+  pub read : length map ≡ cells z
+
+-- A row's map bytes, its number, and room in the list of runs from a place on.
+pub record RowLent (row : ℕ) (map : List ℕ) (at : ℕ) (runs : List ℕ) : Type 0 where
+  pub few : row ≤ 16_384
+  pub wide : length map ≤ 16_384
+  pub room : at + 3 * length (row-runs row map) ≤ length runs
+
+-- A frame and its map, and a list with room for its runs.
+pub record FrameLent (z : Size) (samples map runs : List ℕ) : Type 0 where
+  pub map-lent : MapLent z map
+  pub written : length samples ≡ cells z
+  pub room : 3 * length (runs-of z map) ≤ length runs

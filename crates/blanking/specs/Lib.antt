@@ -1,0 +1,5 @@
+-- Request 04's rule as definitions: blanked samples and runs, what a call answers and leaves, and what the functions ask.
+pub mod Blanking
+pub mod Calls
+pub mod Lent
+pub mod Examples

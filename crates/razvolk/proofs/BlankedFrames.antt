@@ -1,0 +1,149 @@
+-- Nothing of an earlier frame is left in a blanked one, of exported calls that have returned.
+--
+-- Promised. Take every two lists of calls of the exports that write a sample buffer, as `Isolation.antt` has them, whose last calls
+-- are alike, are lent a map, and end with done or 5 to 8. Let each be followed by `razvolk_blank_with`, with one fill, or each by
+-- `razvolk_blank`, lent the frame's samples and map bytes as its decoder left them, and both done. Then both answer the same, leave
+-- the same N samples, and list the same runs: a blanked frame depends on stream, offsets, size and fill alone. The same of
+-- `razvolk_export_v0`, and of the stream and the offsets that it writes.
+-- Free. What came before; what the buffers first held; what lies past the frame in what is lent, and how long that is.
+use Prim.Native.Nat.{ℕ, _<_}
+use mathlib.Core.Path.{_≡_, refl}
+use denote.Ref.{now}
+use lib.Dec.{lit<}
+use Rattle.rules.proofs.Isolation.{Step}
+use Rattle.rules.proofs.Isolation as Rules
+use Rattle.samsung.proofs.Isolation.{Made}
+use Rattle.blanking.specs.Blanking.{stated, unstated}
+use Rattle.blanking.specs.Calls.{Call, call}
+use Rattle.blanking.proofs.EachSample.{Clean, Fits, stated-clean, stated-fits}
+use Rattle.blanking.proofs.Isolation.{Blanks, blank-step, blanked-isolation}
+use Rattle.blanking.proofs.Isolation as Blanked
+use Rattle.frames.specs.Export.{export}
+use Rattle.frames.proofs.ExportedFrames.{Exports, exported-isolation}
+use Rattle.frames.proofs.ExportedFrames as Exported
+use Rattle.razvolk.proofs.Isolation.{Any, step, Final, final}
+use Rattle.razvolk.proofs.blanks.razvolk_blank_with.Kinds as with-kinds
+use Rattle.razvolk.proofs.blanks.razvolk_blank_with.Reads as with-reads
+use Rattle.razvolk.proofs.blanks.razvolk_blank_with.Statement as with-stated
+use Rattle.razvolk.proofs.blanks.razvolk_blank_with.Met as with-thm
+use Rattle.razvolk.proofs.blanks.razvolk_blank.Kinds as plain-kinds
+use Rattle.razvolk.proofs.blanks.razvolk_blank.Reads as plain-reads
+use Rattle.razvolk.proofs.blanks.razvolk_blank.Statement as plain-stated
+use Rattle.razvolk.proofs.blanks.razvolk_blank.Met as plain-thm
+use Rattle.razvolk.proofs.blanks.razvolk_export_v0.Kinds as export-kinds
+use Rattle.razvolk.proofs.blanks.razvolk_export_v0.Reads as export-reads
+use Rattle.razvolk.proofs.blanks.razvolk_export_v0.Statement as export-stated
+use Rattle.razvolk.proofs.blanks.razvolk_export_v0.Met as export-thm
+
+-- ── Calls that blank ──
+
+-- A call of an export that blanks: with a stated fill, which is a 16-bit number, or with none.
+pub data Blanking : Type 0 where
+  with-fill : (c : Made with-kinds.ps with-kinds.r with-reads.Learnt) → c .args .1 .1 .1 .1 .0 < 65_536 → Blanking
+  no-fill : Made plain-kinds.ps plain-kinds.r plain-reads.Learnt → Blanking
+
+-- What it was handed, answered and left.
+unfoldable pub blanks : Blanking → Blanks
+blanks (with-fill c small) =
+    record {
+      call = call (stated (c .args .1 .1 .1 .1 .0)) (now (c .args .0)) (now (c .args .1 .0)) (c .args .1 .1 .0) (c .args .1 .1 .1 .0) (now (c .args .1 .1 .1 .1 .1 .0));
+      answered = c .result;
+      samples = now (c .exit .0);
+      runs = now (c .exit .1 .1 .1 .1 .1 .0);
+      yields = c .learnt;
+    }
+blanks (no-fill c) =
+    record {
+      call = call unstated (now (c .args .0)) (now (c .args .1 .0)) (c .args .1 .1 .0) (c .args .1 .1 .1 .0) (now (c .args .1 .1 .1 .1 .0));
+      answered = c .result;
+      samples = now (c .exit .0);
+      runs = now (c .exit .1 .1 .1 .1 .0);
+      yields = c .learnt;
+    }
+
+pub clean : (b : Blanking) → Clean (blanks b .call .fill)
+unfolding blanks
+clean (with-fill c small) = stated-clean (c .args .1 .1 .1 .1 .0)
+clean (no-fill c) = stated-clean 0
+
+pub fits : (b : Blanking) → Fits (blanks b .call .fill)
+unfolding blanks
+fits (with-fill c small) = stated-fits (c .args .1 .1 .1 .1 .0) small
+fits (no-fill c) = stated-fits 0 (lit< tt)
+
+-- A call of the export, and what it was handed, answered and left.
+abbrev pub Exporting : Type 0
+Exporting = Made export-kinds.ps export-kinds.r export-reads.Learnt
+
+unfoldable pub exports : Exporting → Exports
+exports c =
+    record {
+      export =
+          export (now (c .args .0)) (now (c .args .1 .0)) (c .args .1 .1 .0) (c .args .1 .1 .1 .0) (now (c .args .1 .1 .1 .1 .0))
+          (now (c .args .1 .1 .1 .1 .1 .0)) (now (c .args .1 .1 .1 .1 .1 .1 .0));
+      answered = c .result;
+      samples = now (c .exit .0);
+      runs = now (c .exit .1 .1 .1 .1 .0);
+      stream = now (c .exit .1 .1 .1 .1 .1 .0);
+      offsets = now (c .exit .1 .1 .1 .1 .1 .1 .0);
+      yields = c .learnt;
+    }
+
+pub unstated-fill : (c : Exporting) → exports c .export .blank .fill ≡ unstated
+unfolding exports
+unstated-fill c = refl
+
+-- ── Lists of calls, those that blank and export among them ──
+
+pub data Many : Type 0 where
+  decoding : Any → Many
+  blanking : Blanking → Many
+  exporting : Exporting → Many
+
+unfoldable pub steps : Many → Step
+steps (decoding c) = step c
+steps (blanking b) = blank-step (blanks b .call) (blanks b .samples) (blanks b .yields .samples-left) (fits b)
+steps (exporting c) =
+    blank-step (exports c .export .blank) (exports c .samples) (exports c .yields .samples-left) (rw (unstated-fill c) (stated-fits 0 (lit< tt)))
+
+-- Demand 3 holds of such lists, too.
+abbrev pub Isolation : Type 0
+Isolation = Rules.Isolation steps final
+
+pub isolation : Isolation
+isolation = Rules.isolation steps final
+
+-- ── The claim ──
+
+abbrev pub BlankedFrames : Type 0
+BlankedFrames = Blanked.Isolation steps final blanks
+
+pub blanked-frames : BlankedFrames
+blanked-frames = blanked-isolation steps final blanks clean
+
+-- The same of what is exported.
+abbrev pub ExportedFrames : Type 0
+ExportedFrames = Exported.Isolation steps final exports
+
+pub exported-frames : ExportedFrames
+exported-frames = exported-isolation steps final exports unstated-fill
+
+-- The claims, beside each export's theorem that its code meets the contract that they speak of.
+pub record OfTheCode (M : Type 1) : Type 2 where
+  pub blank-with : with-stated.statement M
+  pub blank : plain-stated.statement M
+  pub export-v0 : export-stated.statement M
+  pub isolation : Isolation
+  pub blanked-frames : BlankedFrames
+  pub exported-frames : ExportedFrames
+
+pub of-the-code : {M : Type 1} → OfTheCode M
+of-the-code =
+    record {
+      blank-with = with-thm.met;
+      blank = plain-thm.met;
+      export-v0 = export-thm.met;
+      isolation = isolation;
+      blanked-frames = blanked-frames;
+      exported-frames = exported-frames;
+    }
