@@ -38,7 +38,7 @@ extern "C" {
  *  11  in bands: the band count or the block width is none that the frame can be cut by             every buffer as it was
  *  12  in bands: the list is too short or too long, or a step is no block's number or is not ready  every buffer as it was
  *  13  blanking: the list is too short for all runs                      every buffer as it was
- *  14  blanking: one of the first N map bytes isn't 0 or 1               every buffer as it was
+ *  14  blanking: one of the first N map bytes is above 3                 every buffer as it was
  *
  * 1 to 4 are tested in this order, then in bands 11 and 12; then the stream decides. 9 and 10 are a writer's, which tests 1, 3, 9
  * and 10. Blanking tests 1, 3, 4, 14 and 13; the export goes on to 9 and 10, which leave the frame blanked. `row` is the row at
@@ -186,7 +186,7 @@ typedef struct {
     uint64_t length;
 } razvolk_exported;
 
-/* Blanking: of a decoded frame and its map, every sample that is marked 1 is set to 0, or to a fill that is stated. After that
+/* Blanking: of a decoded frame and its map, every sample whose byte isn't 0 is set to 0, or to a fill that is stated. After that
  * nothing of an earlier frame is left in the frame. The list gets the runs of marked samples, each as long as can be within its
  * row, in reading order: row, first column and length, three numbers each. The map is only read.
  * 0                the marked ones of the first N samples are set, `count` of them, those that held the fill among them; the

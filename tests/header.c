@@ -224,8 +224,8 @@ static void blank(void) {
     expect(memcmp(list, told, sizeof list) == 0, "the runs, and what lies past them as it was");
     blanked = razvolk_blank(frame, 7, marked, 6, 3, 2, list, 6);
     expect(blanked.answer.number == 0 && blanked.count == 3 && frame[1] == 0 && frame[4] == 0 && frame[3] == 6, "blank");
-    blanked = razvolk_blank(frame, 7, (const uint8_t *)"\0\1\0\0\0\2", 6, 3, 2, list, 0);
-    expect(blanked.answer.number == RAZVOLK_BAD_MAP, "a map byte 2 is refused by 14, before 13");
+    blanked = razvolk_blank(frame, 7, (const uint8_t *)"\0\1\0\0\0\4", 6, 3, 2, list, 0);
+    expect(blanked.answer.number == RAZVOLK_BAD_MAP, "a map byte 4 is refused by 14, before 13");
     memcpy(frame, old, sizeof frame);
     razvolk_exported exported = razvolk_export_v0(frame, 7, marked, 6, 3, 2, list, 7, coded_frame, 0, table, 2);
     expect(exported.answer.number == 10 && exported.count == 3 && exported.runs == 2 && exported.length == 0 && frame[1] == 0,

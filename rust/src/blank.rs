@@ -29,7 +29,7 @@ pub struct Exported {
 ///
 /// # Errors
 ///
-/// Refusals 1, 3, 4, 14 (a map byte that isn't 0 or 1) and 13 (a list shorter than three numbers for each run), in this order;
+/// Refusals 1, 3, 4, 14 (a map byte above 3) and 13 (a list shorter than three numbers for each run), in this order;
 /// nothing is changed then.
 ///
 /// ```
@@ -160,7 +160,7 @@ mod tests {
             assert_eq!((samples, runs), ([sample, 0], [0, 1, 1]));
             assert_eq!((stream, offsets), (vec![9; bytes], [9; 1]));
         }
-        let refused = export_v0(&mut [5, 6], &[2, 0], 2, 1, &mut [], &mut [], &mut []);
+        let refused = export_v0(&mut [5, 6], &[4, 0], 2, 1, &mut [], &mut [], &mut []);
         assert_eq!(refused, Err(Refusal::BadMap));
     }
 }
