@@ -25,7 +25,7 @@ struct Comparison {
     run: fn(u64, u64) -> Result<String, Difference>,
 }
 
-const COMPARISONS: [Comparison; 12] = [
+const COMPARISONS: [Comparison; 13] = [
     Comparison {
         name: "reader",
         quick: 20_000_000,
