@@ -196,7 +196,7 @@ refusals! {
     /// | 11 | in bands: the band count or the block width is none that the frame can be cut by | every buffer as it was |
     /// | 12 | in bands: the list is too short or too long, or a step is no block's number or is not ready | every buffer as it was |
     /// | 13 | blanking: the list is too short for all runs | every buffer as it was |
-    /// | 14 | blanking: one of the first N map bytes isn't 0 or 1 | every buffer as it was |
+    /// | 14 | blanking: one of the first N map bytes is above 3 | every buffer as it was |
     ///
     /// A decoder tests 1 to 4 in this order, in bands then 11 and 12, a writer 1, 3, 9 and 10, blanking 1, 3, 4, 14 and 13; the
     /// export goes on to 9 and 10, which leave the frame blanked and write nothing. After 5 to 8 the map describes the samples as
@@ -224,7 +224,7 @@ refusals! {
     11 BadCut "the frame can't be cut into so many bands, or into blocks of that width";
     12 BadSteps "the steps don't do each block of the frame once, each when it is ready";
     13 ShortRuns "the list is too short for all runs";
-    14 BadMap "a map byte is neither 0 nor 1";
+    14 BadMap "a map byte is above 3";
 }
 
 impl Refusal {

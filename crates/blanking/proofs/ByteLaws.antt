@@ -59,19 +59,19 @@ pub greatest-gone : (m : List ℕ) (i most : ℕ) → length m ≤ i → max mos
 unfolding greatest
 greatest-gone m i most h = rw (drop-of-length-le m {i = i} h) (omega arith)
 
--- One of two is above 1 if the greater is.
-above : (a b : ℕ) (t u : Bool) → ltb 1 a ≡ t → ltb 1 b ≡ u → ltb 1 (max a b) ≡ (ltb 1 a || ltb 1 b)
-above a b true u e q = let l = ltb-true 1 a e in rw e (lt-ltb 1 (max a b) (omega arith))
-above a b false true e q = let l = ltb-true 1 b q in rw (e, q) (lt-ltb 1 (max a b) (omega arith))
+-- One of two is above 3 if the greater is.
+above : (a b : ℕ) (t u : Bool) → ltb 3 a ≡ t → ltb 3 b ≡ u → ltb 3 (max a b) ≡ (ltb 3 a || ltb 3 b)
+above a b true u e q = let l = ltb-true 3 a e in rw e (lt-ltb 3 (max a b) (omega arith))
+above a b false true e q = let l = ltb-true 3 b q in rw (e, q) (lt-ltb 3 (max a b) (omega arith))
 above a b false false e q =
-    let l = ltb-false 1 a e in
-    let k = ltb-false 1 b q in rw (e, q) (le-ltb 1 (max a b) (omega arith))
+    let l = ltb-false 3 a e in
+    let k = ltb-false 3 b q in rw (e, q) (le-ltb 3 (max a b) (omega arith))
 
 -- 14 is a matter of the greatest.
-pub bad-is : (m : List ℕ) → ltb 1 (greatest m) ≡ bad-map m
+pub bad-is : (m : List ℕ) → ltb 3 (greatest m) ≡ bad-map m
 unfolding bad-map strange greatest
 bad-is [] = refl
-bad-is (b ∷ m) = above b (greatest m) (ltb 1 b) (ltb 1 (greatest m)) refl refl ∙ ap (λ t. ltb 1 b || t) (bad-is m)
+bad-is (b ∷ m) = above b (greatest m) (ltb 3 b) (ltb 3 (greatest m)) refl refl ∙ ap (λ t. ltb 3 b || t) (bad-is m)
 
 -- Where the greatest is 0 every byte is.
 pub none-marked : (m : List ℕ) → greatest m ≡ 0 → (i : ℕ) → marked (getD m i 0) ≡ false

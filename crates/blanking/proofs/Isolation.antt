@@ -17,6 +17,7 @@ use lib.Seq.{length-take-le, getD-take, take-at}
 use borrow.Author.Tests.{ltb-false, ltb-true, eqb-true, eqb-false}
 use Rattle.rules.specs.declared.answer.Size.{Size}
 use Rattle.rules.specs.Frame.{cells}
+use Rattle.rules.specs.Map.{old-part}
 use Rattle.rules.specs.Answer.{too-large, marks}
 use Rattle.rules.proofs.Cells.{all-append, all-take, all-drop}
 use Rattle.rules.proofs.Isolation.{Returned, Samples, Step, Calls, Alike, Ran, Same, isolation, mark-of}
@@ -143,7 +144,7 @@ module _ (c d : Returned) (same : Same c d) (ask : c .ask ≡ d .ask) (p q : Bla
   agree i e = go (ltb i (cells z)) refl
     where
       zero-mark : mark-of (c .ask) i ≡ 0
-      zero-mark = unmarked-zero (mark-of (c .ask) i) (ap (λ m. marked (getD m i 0)) (sym marks-c) ∙ e)
+      zero-mark = ap old-part (unmarked-zero (getD (marks (c .ask)) i 0) (ap (λ m. marked (getD m i 0)) (sym marks-c) ∙ e))
 
       go : (t : Bool) → ltb i (cells z) ≡ t → getD (take (cells z) (p .call .samples)) i 0 ≡ getD (take (cells z) (q .call .samples)) i 0
       go true r =

@@ -10,13 +10,13 @@ use Rattle.rules.specs.Frame.{tabulate}
 
 -- ── What a map byte says ──
 
--- A byte that isn't 0 marks its sample.
+-- A byte that isn't 0 marks its sample: it rests on an old value, on filler, or on both.
 unfoldable pub marked : ℕ → Bool
 marked b = ltb 0 b
 
--- A byte that no map has.
+-- A byte that no map has: its two parts make 3 at most.
 unfoldable pub strange : ℕ → Bool
-strange b = ltb 1 b
+strange b = ltb 3 b
 
 unfoldable pub bad-map : List ℕ → Bool
 bad-map [] = false

@@ -37,13 +37,16 @@ examples =
     (0 ∷ 11 ∷ 0 ∷ 0 ∷ 0 ∷ 21 ∷ 22 ∷ 23 ∷ 99 ∷ []) (0 ∷ 0 ∷ 1 ∷ 0 ∷ 2 ∷ 2 ∷ 1 ∷ 0 ∷ 1 ∷ 7 ∷ [])
     -- A sample that holds the fill already is counted.
     ∷ example (call (stated 10) (10 ∷ 11 ∷ []) (1 ∷ 0 ∷ []) 2 1 (7 ∷ 7 ∷ 7 ∷ [])) (blanked-done 1 1) (10 ∷ 11 ∷ []) (0 ∷ 0 ∷ 1 ∷ [])
+    -- Old values and filler alike are set, and make one run.
+    ∷ example (call (stated 5) (10 ∷ 11 ∷ 12 ∷ 13 ∷ []) (0 ∷ 2 ∷ 3 ∷ 1 ∷ []) 4 1 (7 ∷ 7 ∷ 7 ∷ [])) (blanked-done 3 1) (10 ∷ 5 ∷ 5 ∷ 5 ∷ [])
+    (0 ∷ 1 ∷ 3 ∷ [])
     -- A map without marks sets nothing and lists nothing; and a frame of no samples.
     ∷ example (call (stated 5) (10 ∷ 11 ∷ []) (0 ∷ 0 ∷ []) 1 2 []) (blanked-done 0 0) (10 ∷ 11 ∷ []) []
     ∷ example (call (stated 5) (10 ∷ []) (1 ∷ []) 0 9 (7 ∷ [])) (blanked-done 0 0) (10 ∷ []) (7 ∷ [])
     -- 13: the list is one number short. 14 comes before it, and 4 before 14, 3 before 4, 1 before 3.
     ∷ example (call (stated 5) (10 ∷ 11 ∷ []) (1 ∷ 0 ∷ []) 2 1 (7 ∷ 7 ∷ [])) (refused 13) (10 ∷ 11 ∷ []) (7 ∷ 7 ∷ [])
-    ∷ example (call (stated 5) (10 ∷ 11 ∷ []) (1 ∷ 2 ∷ []) 2 1 []) (refused 14) (10 ∷ 11 ∷ []) []
-    ∷ example (call (stated 5) (10 ∷ 11 ∷ []) (2 ∷ []) 2 1 []) (refused 4) (10 ∷ 11 ∷ []) []
+    ∷ example (call (stated 5) (10 ∷ 11 ∷ []) (1 ∷ 4 ∷ []) 2 1 []) (refused 14) (10 ∷ 11 ∷ []) []
+    ∷ example (call (stated 5) (10 ∷ 11 ∷ []) (4 ∷ []) 2 1 []) (refused 4) (10 ∷ 11 ∷ []) []
     ∷ example (call (stated 5) (10 ∷ []) [] 2 1 []) (refused 3) (10 ∷ []) []
     ∷ example (call (stated 5) [] [] 16_385 1 []) (refused 1) [] []
     -- A byte past the frame is not looked at.

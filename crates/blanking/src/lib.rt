@@ -79,7 +79,7 @@ fn greatest_of(map: &[u8]) -> u8
 pub fn is_bad_map(map: &[u8]) -> bool
     ensures { λ r. ⌜ r ≡ bad-map (now (map .entry)) ⌝ }
 {
-    1 < greatest_of(map)
+    3 < greatest_of(map)
 }
 
 // 1 if a byte marks its sample, else 0.

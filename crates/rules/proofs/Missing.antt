@@ -23,7 +23,7 @@ use Rattle.rules.specs.declared.v2.V2Row.{V2Row}
 use Rattle.rules.specs.declared.v2.V2Scale.{V2Scale}
 use Rattle.rules.specs.declared.v2.V2Block.{V2Block}
 use Rattle.rules.specs.declared.v2.V2Block.the-variants.{Next, EarlyMotion, Outside, LongDifference}
-use Rattle.rules.specs.Reader.{fetched, most-filler, counted, fresh, reset-at, held, read, fields, four, read-signed, read-residual}
+use Rattle.rules.specs.Reader.{fetched, most-filler, counted, has-filler, fresh, reset-at, held, read, fields, four, read-signed, read-residual}
 use Rattle.rules.specs.Missing.{past-end, missing-of, flag-after, fetches, Run, stay, reads, resets, rows-sum}
 use Rattle.rules.specs.V0 as V0
 use Rattle.rules.specs.V2 as V2
@@ -89,8 +89,6 @@ pub none-missing : (s : List ℕ) {b c : Bits} {ps : List ℕ} → Run s b ps c 
 none-missing s r z = let e = run-counts s r (omega arith) in (λ q. omega arith, λ q. omega arith)
 
 -- A count that isn't 0 is the flag of a reader that has one.
-abbrev pub flag : Bits → Bool
-flag b = not (eqb (b .filler) 0)
 
 counted-flag : (n : ℕ) (t : Bool) → not (eqb (counted n t) 0) ≡ not (eqb n 0) || t
 unfolding counted
@@ -110,19 +108,19 @@ unfolding flag-after
 flag-append s o [] qs = refl
 flag-append s o (p ∷ ps) qs = flag-append s (o || past-end s p) ps qs
 
-read-flags : (s : List ℕ) (b : Bits) (n : ℕ) → flag (read s b n .bits) ≡ flag-after s (flag b) (fetches b n)
+read-flags : (s : List ℕ) (b : Bits) (n : ℕ) → has-filler (read s b n .bits) ≡ flag-after s (has-filler b) (fetches b n)
 unfolding fetches flag-after
 read-flags s b n = go (leb (min n 32) (held b)) refl
   where
-    go : (t : Bool) → leb (min n 32) (held b) ≡ t → flag (read s b n .bits) ≡ flag-after s (flag b) (cond t [] (b .pos ∷ []))
+    go : (t : Bool) → leb (min n 32) (held b) ≡ t → has-filler (read s b n .bits) ≡ flag-after s (has-filler b) (cond t [] (b .pos ∷ []))
     go true e = rw (read-held s b n (leb-true _ _ e))
     go false e = rw (read-next s b n (leb-false _ _ e), missing-is s (b .pos)) (counted-flag (b .filler) (past-end s (b .pos)))
 
-pub flag-is : (s : List ℕ) {b c : Bits} {ps : List ℕ} → Run s b ps c → flag c ≡ flag-after s (flag b) ps
+pub flag-is : (s : List ℕ) {b c : Bits} {ps : List ℕ} → Run s b ps c → has-filler c ≡ flag-after s (has-filler b) ps
 unfolding flag-after
 flag-is s stay = refl
 flag-is s {b = b} (reads {ps = ps} n r) =
-    flag-is s r ∙ ap (λ o. flag-after s o ps) (read-flags s b n) ∙ sym (flag-append s (flag b) (fetches b n) ps)
+    flag-is s r ∙ ap (λ o. flag-after s o ps) (read-flags s b n) ∙ sym (flag-append s (has-filler b) (fetches b n) ps)
 flag-is s (resets p r) = flag-is s r
 
 -- A stream that has every word that is fetched: the count stays.
@@ -208,13 +206,13 @@ blocks-reach s first predict (suc n) col st =
     head-reach s st then (samples-reach s (first + col) (h .row .lengths) (predict col (h .up)) V0.order (h .row .bits) then blocks-reach s first predict n (col + 16) _)
 
 -- A row's reader goes from its offset, with count 0, to the row's end.
-pub row-reach : (s : List ℕ) (z : Size) (row offset : ℕ) → Reached s (fresh offset) (V0.row-ops s z row offset .bits)
-unfolding V0.row-ops V0.fresh-row
+pub row-reach : (s : List ℕ) (z : Size) (row offset : ℕ) → Reached s (fresh offset) (V0.row-blocks s z row offset .bits)
+unfolding V0.row-blocks V0.fresh-row
 row-reach s z row offset = blocks-reach s (row * z .width) (V0.predictor z row) (V0.blocks-in (z .width)) 0 (V0.fresh-row row offset)
 
 -- So its count is the number of the words that it fetches past the stream's end.
 pub row-counts : (s : List ℕ) (z : Size) (row offset : ℕ)
-    → V0.row-ops s z row offset .bits .filler ≡ min (missing-of s (row-reach s z row offset .words)) most-filler
+    → V0.row-blocks s z row offset .bits .filler ≡ min (missing-of s (row-reach s z row offset .words)) most-filler
 row-counts s z row offset = run-counts s (row-reach s z row offset .run) (omega arith) ∙ omega arith
 
 -- A V0 frame's count is the sum over its rows, held.
@@ -223,7 +221,7 @@ rows-summed : (s offsets : List ℕ) (z : Size) (n row k : ℕ) → k ≤ most-f
 unfolding V0.rows-filler rows-sum
 rows-summed s offsets z zero row k l = omega arith
 rows-summed s offsets z (suc n) row k l =
-    let m = V0.row-ops s z row (getD offsets row 0) .bits .filler in
+    let m = V0.row-blocks s z row (getD offsets row 0) .bits .filler in
     omega (arith, rows-summed s offsets z n (suc row) (min (k + m) most-filler) (omega arith))
 
 pub frame-summed : (s offsets : List ℕ) (z : Size) → V0.frame-filler s offsets z ≡ min (rows-sum s offsets z (z .height) 0) most-filler
@@ -231,7 +229,7 @@ unfolding V0.frame-filler
 frame-summed s offsets z = rows-summed s offsets z (z .height) 0 0 (omega arith) ∙ omega arith
 
 -- It is 0 where no row misses a word.
-pub frame-none : (s offsets : List ℕ) (z : Size) → ((row : ℕ) → row < z .height → V0.row-ops s z row (getD offsets row 0) .bits .filler ≡ 0)
+pub frame-none : (s offsets : List ℕ) (z : Size) → ((row : ℕ) → row < z .height → V0.row-blocks s z row (getD offsets row 0) .bits .filler ≡ 0)
     → V0.frame-filler s offsets z ≡ 0
 unfolding rows-sum
 frame-none s offsets z none = frame-summed s offsets z ∙ ap (λ n. min n most-filler) (all (z .height) 0 (omega arith)) ∙ omega arith

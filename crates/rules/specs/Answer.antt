@@ -117,10 +117,10 @@ frame-samples direct s offsets z f = V0.decoded s offsets z f
 frame-samples two-phase s offsets z f = Phases.two-phase s offsets z f
 frame-samples v2 s offsets z f = V2.decoded s z f
 
--- The frame's marks, by the rules, whether a map is lent or not.
+-- The frame's map by the rules, whether one is lent or not; the two-phase decoder is lent none, and its samples are the direct one's.
 unfoldable pub frame-marks : Decoder → List ℕ → List ℕ → Size → List ℕ
 frame-marks direct s offsets z = Map.v0-map s offsets z
-frame-marks two-phase s offsets z = Map.two-phase-map s offsets z
+frame-marks two-phase s offsets z = Map.v0-map s offsets z
 frame-marks v2 s offsets z = Map.v2-map s z
 
 abbrev pub marks : Ask → List ℕ

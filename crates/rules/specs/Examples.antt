@@ -96,7 +96,7 @@ examples a b c d =
           ∷ Answer.answer one-by-one one-lent .row
           ∷ Answer.answer one-by-one one-lent .filler
           ∷ Answer.samples-after one-by-one one-lent (a ∷ []) ++ Answer.map-after one-by-one one-lent (0 ∷ []);
-      stated = 0 ∷ 0 ∷ 1 ∷ a ∷ 1 ∷ [];
+      stated = 0 ∷ 0 ∷ 1 ∷ a ∷ 3 ∷ [];
     }
     ∷ record { given = no-bytes .depth ∷ no-bytes .options ∷ no-bytes .initial ∷ []; stated = 16 ∷ 15 ∷ 16_383 ∷ [] }
     ∷ record { given = of-ℤ (read-signed (0 ∷ 0 ∷ 0 ∷ 0b1000_0000 ∷ []) (fresh 0) 4 .value); stated = 1 ∷ 8 ∷ [] }
@@ -109,6 +109,7 @@ examples a b c d =
     }
     ∷ record { given = V2.sample-kind (V2.top depth-8) .average 4 7 ∷ []; stated = 6 ∷ [] }
     ∷ record { given = tabulate 16 1 one-less; stated = replicate 16 7 }
+    ∷ record { given = Map.v0-map spilt-filler (12 ∷ 0 ∷ []) (size 2 2); stated = 3 ∷ 3 ∷ 3 ∷ 3 ∷ [] }
     ∷ record { given = V0.frame-filler spilt-filler (12 ∷ 0 ∷ []) (size 2 2) ∷ []; stated = 1 ∷ [] }
     ∷ record { given = answered long-length; stated = 7 ∷ 0 ∷ 0 ∷ [] }
     ∷ record { given = answered []; stated = 5 ∷ 0 ∷ 5 ∷ [] }

@@ -8,7 +8,7 @@ use lib.Dec.{leb}
 use Rattle.rules.specs.declared.answer.Size.{Size}
 use Rattle.rules.specs.declared.reader.Bits.{Bits}
 use Rattle.rules.specs.Reader.{reset-at, held, read}
-use Rattle.rules.specs.V0.{row-ops}
+use Rattle.rules.specs.V0.{row-blocks}
 
 -- Whether the word at p doesn't lie wholly in a stream.
 abbrev pub past-end : List ℕ → ℕ → Bool
@@ -37,4 +37,4 @@ pub data Run (s : List ℕ) : Bits → List ℕ → Bits → Type 0 where
 -- The sum of the counts of n rows of a V0 frame from a row on.
 unfoldable pub rows-sum : List ℕ → List ℕ → Size → ℕ → ℕ → ℕ
 rows-sum s offsets z zero row = 0
-rows-sum s offsets z (suc n) row = row-ops s z row (getD offsets row 0) .bits .filler + rows-sum s offsets z n (suc row)
+rows-sum s offsets z (suc n) row = row-blocks s z row (getD offsets row 0) .bits .filler + rows-sum s offsets z n (suc row)

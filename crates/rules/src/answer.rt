@@ -50,7 +50,7 @@ impl Answer {
     // Blanking: the list is too short for all runs.
     pub const SHORT_RUNS: u32 = 13;
 
-    // Blanking: a map byte that isn't 0 or 1.
+    // Blanking: a map byte above 3.
     pub const BAD_MAP: u32 = 14;
 
     // Done, and so many words were missing.

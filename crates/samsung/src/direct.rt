@@ -7,8 +7,8 @@ ghost use Rattle.rules.specs.V0.{frame-filler, decoded};
 ghost use Rattle.rules.specs.Map.{v0-map};
 ghost use Rattle.v0_direct.specs.Lent.{Lends};
 ghost use Rattle.rules.specs.Answer.{direct, ask, buffers, Yields};
+use maps::mark_old;
 use refusals::Lending;
-use refusals::mark_old;
 use refusals::refuse;
 use refusals::refused;
 use rules::Answer;
@@ -56,7 +56,7 @@ fn decode_marked(src: &[u8], offsets: &[u32], size: Size, out: &mut [u16], map: 
     decode_frame(src, offsets, size, out, map)
 }
 
-// The same, and which samples rest on old values. Refusals 1, 3 and 4.
+// The same, and what each sample rests on: old values, filler, both or neither. Refusals 1, 3 and 4.
 pub fn decode_v0_reference_map(
     src: &[u8],
     offsets: &[u32],

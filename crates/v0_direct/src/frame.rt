@@ -34,8 +34,8 @@ pub fn decode_rows(
 ) -> u64
     requires { ⌜ Lends size (now offsets) (now out) (now map) × (count ≤ size .height) ⌝ }
     ensures { λ r. ⌜ r ≡ V0.rows-filler (now (src .entry)) (now (offsets .entry)) size count 0 0 ⌝ }
-    ensures { λ _. ⌜ now (out .exit) ≡ V0.apply V0.sample-kind (V0.rows (now (src .entry)) (now (offsets .entry)) size count 0) (now (out .entry)) ⌝ }
-    ensures { λ _. ⌜ now (map .exit) ≡ V0.apply v0-marks (V0.rows (now (src .entry)) (now (offsets .entry)) size count 0) (now (map .entry)) ⌝ }
+    ensures { λ _. ⌜ now (out .exit) ≡ V0.write-all V0.sample-kind (V0.rows (now (src .entry)) (now (offsets .entry)) size count 0) (now (out .entry)) ⌝ }
+    ensures { λ _. ⌜ now (map .exit) ≡ V0.write-all v0-marks (V0.rows (now (src .entry)) (now (offsets .entry)) size count 0) (now (map .entry)) ⌝ }
 {
     let mut filler: u64 = 0;
     let mut row: usize = 0;

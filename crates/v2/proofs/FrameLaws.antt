@@ -1,5 +1,5 @@
 -- Where a row and a frame stand: what is left from here comes to what the whole comes to, for samples and marks alike.
-use mathlib.Core.Bool.{true, false}
+use mathlib.Core.Bool.{Bool, true, false}
 use mathlib.Core.List.{List, [], _∷_, _++_}
 use mathlib.Core.Logic.{_⊎_, ⊎-elim}
 use mathlib.Core.Path.{_≡_, refl, sym, ap, ap₂, _∙_}
@@ -19,12 +19,14 @@ use Rattle.rules.specs.declared.v2.V2Block.{V2Block}
 use Rattle.rules.specs.declared.v2.V2Hdr.{V2Hdr}
 use Rattle.rules.specs.declared.v2.V2Row.{V2Row}
 use Rattle.rules.specs.declared.v2.V2Start.{V2Start}
-use Rattle.rules.specs.Frame.{cells, tabulate}
-use Rattle.rules.specs.Map.{v2-marks}
-use Rattle.rules.specs.V2.{header, aligned, fresh-row, fresh-mode, number, state-after, base, Block, read-block, Row, then, blocks, read-row, Frame, then-rows, rows, read-frame, Kind, base-cell, block-cells, apply, frame, top, sample-kind, decoded}
+use Rattle.rules.specs.Reader.{has-filler}
+use Rattle.rules.specs.Frame.{cells, tabulate, ended}
+use Rattle.rules.specs.Map.{with-filler, v2-marks}
+use Rattle.rules.specs.V2.{header, aligned, fresh-row, fresh-mode, number, state-after, base, Block, read-block, Row, then, blocks, read-row, Frame, then-rows, rows, read-frame, Kind, base-cell, block-cells, write, apply, frame, top, sample-kind, decoded}
 use Rattle.rules.specs.Answer.{done-with}
 use Rattle.rules.specs.Ranges.{ScaleAt}
 use Rattle.rules.proofs.V2Bounds.{depth-most, scale-starts, next-state, next-unrefused, next-motion, next-scale}
+use Rattle.rules.proofs.V2Cells.{write-plain}
 use Rattle.v2_cells.specs.declared.Place.{Place}
 use Rattle.v2_cells.specs.Places.{Placed, Markable}
 use Rattle.v2.specs.Blocks.{written}
@@ -35,7 +37,7 @@ use Rattle.v2_stream.proofs.LengthLaws.{left-suc, left-none}
 apply-append : (K : Kind ℕ) (xs ys : List Block) (f : List ℕ) → apply K (xs ++ ys) f ≡ apply K ys (apply K xs f)
 unfolding apply
 apply-append K [] ys f = refl
-apply-append K (x ∷ xs) ys f = apply-append K xs ys (sets f (x .place) (block-cells K f x))
+apply-append K (x ∷ xs) ys f = apply-append K xs ys (write K x f)
 
 -- The blocks `rest` over samples f and marks g come to what the blocks `whole` come to over f₀ and g₀.
 pub record Comes (t : ℕ) (whole : List Block) (f₀ g₀ : List ℕ) (rest : List Block) (f g : List ℕ) : Type 0 where
@@ -58,9 +60,11 @@ module _ {t : ℕ} {whole : List Block} {f₀ g₀ : List ℕ} where
   comes-same rest e = record { samples = rw e; marks = rw e }
 
 comes-block : (t : ℕ) (x : Block) (rest : List Block) (f g f′ g′ : List ℕ) → f′ ≡ sets f (x .place) (block-cells (sample-kind t) f x)
-    → g′ ≡ sets g (x .place) (block-cells v2-marks g x) → Comes t (x ∷ rest) f g rest f′ g′
-unfolding apply
-comes-block t x rest f g f′ g′ ef eg = record { samples = rw (← ef); marks = rw (← eg) }
+    → g′ ≡ ended with-filler 0 (x .filler) (x .place) (sets g (x .place) (block-cells v2-marks g x)) → Comes t (x ∷ rest) f g rest f′ g′
+unfolding apply write
+comes-block t x rest f g f′ g′ ef eg =
+    let samples-are : f′ ≡ write (sample-kind t) x f = ef ∙ sym (write-plain (sample-kind t) (λ a. refl) x f) in
+    record { samples = rw (← samples-are); marks = rw (← eg) }
 
 -- ── A row ──
 
@@ -138,18 +142,23 @@ module _ (t : ℕ) (s : List ℕ) (h : V2Hdr) (w row : ℕ) (whole : Row) (f₀ 
       unfolding read-block block-cells
       marks-are h′ = rw (next-state s h w row col b st mode b′ st′ (sym eo ∙ en))
 
+      -- The reader's state at its end is the next one.
+      filler-is : read-block s h w row col b st mode .block .filler ≡ has-filler b′
+      unfolding read-block
+      filler-is = ap (λ x. has-filler (state-after x)) (sym eo ∙ en)
+
       -- Its samples and marks are written at its place.
       comes-first : (rest : List Block) (old new f′ g′ : List ℕ) (p : ℕ) → p ≡ row * w + col → new ≡ written o (block-cells (sample-kind t) f (read-block s h w row col b st mode .block)) old
-          → f′ ≡ sets f p new → g′ ≡ sets g (row * w + col) (tabulate 16 0 (λ i. base-cell v2-marks g (base h w row col (st′ .motion) i)))
+          → f′ ≡ sets f p new → g′ ≡ ended with-filler 0 (has-filler b′) (row * w + col) (sets g (row * w + col) (tabulate 16 0 (λ i. base-cell v2-marks g (base h w row col (st′ .motion) i))))
           → Comes t (read-block s h w row col b st mode .block ∷ rest) f g rest f′ g′
       unfolding read-block written
       comes-first rest old new f′ g′ p ep ev ef eg =
           comes-block t (read-block s h w row col b st mode .block) rest f g f′ g′ (ef ∙ ap₂ (λ (x : ℕ) (v : List ℕ). sets f x v) ep (rw en at ev))
-          (eg ∙ ap (λ (v : List ℕ). sets g (row * w + col) v) (sym (marks-are g)))
+          (eg ∙ ap₂ (λ (x : Bool) (v : List ℕ). ended with-filler 0 x (row * w + col) (sets g (row * w + col) v)) (sym filler-is) (sym (marks-are g)))
 
       -- The row goes on after a block that goes on.
       pub row-goes : (old new f′ g′ : List ℕ) (p : ℕ) → p ≡ row * w + col → new ≡ written o (block-cells (sample-kind t) f (read-block s h w row col b st mode .block)) old
-          → f′ ≡ sets f p new → g′ ≡ sets g (row * w + col) (tabulate 16 0 (λ i. base-cell v2-marks g (base h w row col (st′ .motion) i)))
+          → f′ ≡ sets f p new → g′ ≡ ended with-filler 0 (has-filler b′) (row * w + col) (sets g (row * w + col) (tabulate 16 0 (λ i. base-cell v2-marks g (base h w row col (st′ .motion) i))))
           → RowGoing t s h w row whole f₀ g₀ (col + 16) b′ st′ mode′ f′ g′
       row-goes old new f′ g′ p ep ev ef eg = record {
         within = l;
@@ -205,18 +214,18 @@ module _ (t : ℕ) (s : List ℕ) (h : V2Hdr) (w height : ℕ) (whole : Frame) (
     first-row = rw (left-suc height row l, eq, add-one)
 
     -- The frame ends with the row, for a refusal.
-    ended : (a : Answer) → These ≡ record { blocks = q .blocks; answer = a } → Ended a f′ g′
-    ended a e = (r .answer-is ∙ ap (λ (x : Frame). x .answer) e, comes-on (r .comes) (comes-on (comes-same _ (ap (λ (x : Frame). x .blocks) e)) d))
+    ended-by : (a : Answer) → These ≡ record { blocks = q .blocks; answer = a } → Ended a f′ g′
+    ended-by a e = (r .answer-is ∙ ap (λ (x : Frame). x .answer) e, comes-on (r .comes) (comes-on (comes-same _ (ap (λ (x : Frame). x .blocks) e)) d))
 
     pub frame-refuses : (k : ℕ) (b′ : Bits) → q .number ≡ k → eqb k 0 ≡ false → q .bits ≡ b′
         → Ended (record { number = k; row = row; filler = b′ .filler }) f′ g′
     unfolding then-rows
-    frame-refuses k b′ ek z eb = ended (record { number = k; row = row; filler = b′ .filler }) (first-row ∙ rw (ek, z, eb))
+    frame-refuses k b′ ek z eb = ended-by (record { number = k; row = row; filler = b′ .filler }) (first-row ∙ rw (ek, z, eb))
 
     pub frame-short : (b′ : Bits) → q .number ≡ 0 → q .bits ≡ b′ → (b′ .filler ≡ 0 → ⊥)
         → Ended (record { number = 8; row = row; filler = b′ .filler }) f′ g′
     unfolding then-rows
-    frame-short b′ ek eb z = ended (record { number = 8; row = row; filler = b′ .filler }) (first-row ∙ rw (ek, eb, ne-eqb (b′ .filler) 0 z))
+    frame-short b′ ek eb z = ended-by (record { number = 8; row = row; filler = b′ .filler }) (first-row ∙ rw (ek, eb, ne-eqb (b′ .filler) 0 z))
 
     -- The frame goes on after a row without a refusal.
     pub frame-goes : (b′ : Bits) → q .number ≡ 0 → q .bits ≡ b′ → b′ .filler ≡ 0 → FrameGoing t s h w height whole f₀ g₀ (row + 1) b′ f′ g′

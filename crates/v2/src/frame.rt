@@ -47,7 +47,7 @@ pub fn decode_frame(src: &[u8], size: Size, out: &mut [u16], map: &mut [u8]) -> 
                 break 'frame;
             };
             store(&mut out[..], at.first(), &samples);
-            mark_block(&mut map[..], at, next_state.motion);
+            mark_block(&mut map[..], at, next_state.motion, next_bits);
             bits = next_bits;
             state = next_state;
             col += V2Row::BLOCK;

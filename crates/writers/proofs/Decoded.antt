@@ -50,7 +50,7 @@ module _ (c : Call) (below : All (λ b. b < 256) (c .stream)) (fewer : length (c
   marks-of : (d : Decoder) → OfV0 d → All (λ x. x ≡ 0) (marks (again c d))
   unfolding frame-marks
   marks-of direct by-direct = back .no-marks
-  marks-of two-phase by-two-phase = back .two-phase-no-marks
+  marks-of two-phase by-two-phase = back .no-marks
 
   answer-of : (d : Decoder) → OfV0 d → stream-answer d (stream-after c) (offsets-after c) (c .size) ≡ done
   unfolding stream-answer

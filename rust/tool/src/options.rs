@@ -18,13 +18,15 @@ usage: razvolk [OPTIONS] FILE.srw|FOLDER|- ...
   STREAM           a bare stream, of the size that --v0 or --v2 tells
   --offsets FILE   the byte offset of each row in a bare V0 stream: decimal numbers, parted by spaces, commas or lines
   --over FILE.srw  decode this frame first, into the same buffer, as a worker would; else what is written starts from zeros
-  --blank [FILL]   set the samples that rest on old values to FILL, or to 0, tell their runs, and write the frame so
+  --blank [FILL]   set the samples that rest on old values or missing words to FILL, or to 0, tell their runs, and write the
+                   frame so
   --jobs N         decode with N workers, one buffer each; else one for each processor
   --json           tell in JSON, one object a frame
 
  to write, each with a FILE, or with a FOLDER that is there, in which outputs are named after their frames:
   --pgm FILE       the samples, 16 bits each
-  --png FILE       a picture in which samples that rest on old values are tinted red, if they aren't blanked
+  --png FILE       a picture in which samples that rest on old values are tinted red, on missing words blue, on both violet, if
+                   they aren't blanked
   --planes FILE    such a picture of the four colour planes, side by side: even rows and even columns, even and odd, odd and
                    even, odd and odd
   --write-v0 FILE  the samples as V0, none above 16,383, in a file that this tool reads again
@@ -41,7 +43,7 @@ exit status, of several frames the first that there is of 2, 1, 3, 0:
   0  all frames are done, and clean
   1  a frame is refused by the decoder
   2  bad options, or a file that can't be read or written, or that has no frame
-  3  a frame is done, and samples of it rest on old values, or bytes of it are missing
+  3  a frame is done, and samples of it rest on old values or missing words, or bytes of it are missing
 ";
 
 /// A bare stream.

@@ -10,7 +10,7 @@ greatest-of-requires : tie.Need-greatest-of-requires
 greatest-of-requires c κs = search needs
 
 returns : tie.Need-returns
-returns c = ap (ltb 1) (c .greatest-of .ensures) ∙ bad-is _
+returns c = ap (ltb 3) (c .greatest-of .ensures) ∙ bad-is _
 
 pub is-bad-map-spec : {M : Type 1} → statement M
 is-bad-map-spec = tie.close (tie.spec greatest-of-requires returns)

@@ -7,9 +7,9 @@ use lib.IntN.{pos, negsuc}
 use Rattle.rules.specs.declared.reader.Bits.{Bits}
 use Rattle.rules.specs.declared.reader.Word.{Word}
 use Rattle.rules.specs.Reader as Reader
-use Rattle.rules.specs.Reader.{word-at, fetched, most-filler, counted, fresh, reset-at, held, first-bits, from-held, from-next, read, fields, four, signed, read-signed, modulo, read-residual}
+use Rattle.rules.specs.Reader.{word-at, fetched, most-filler, counted, has-filler, fresh, reset-at, held, first-bits, from-held, from-next, read, fields, four, signed, read-signed, modulo, read-residual}
 use Rattle.rules.specs.Frame as Frame
-use Rattle.rules.specs.Frame.{cells, tabulate}
+use Rattle.rules.specs.Frame.{cells, tabulate, change-cells, ended}
 use Rattle.rules.specs.Examples.{Example}
 use Rattle.rules.proofs.Pins.Values.{is, are, Hold, of-bool, minus, of-ℤ, bits, of-bits, of-got, size, words}
 
@@ -78,11 +78,18 @@ examples =
     ∷ are (map modulo (pos 65_535 ∷ pos 65_536 ∷ negsuc 0 ∷ negsuc 65_535 ∷ negsuc 65_536 ∷ [])) (65_535 ∷ 0 ∷ 65_535 ∷ 0 ∷ 65_535 ∷ [])
     ∷ are (read-residual words (fresh 0) 2 .value ∷ of-bits (read-residual words (fresh 0) 2 .bits)) (65_534 ∷ 4 ∷ 0xA000_0000 ∷ 30 ∷ 0 ∷ [])
     ∷ is (read-residual words (fresh 4) 33 .value) 0x4321
+    -- has-filler: at every count but 0
+    ∷ are (map (λ n. of-bool (has-filler (bits 1 2 3 n))) (0 ∷ 1 ∷ 2 ∷ (2 ^ 64 - 1) ∷ [])) (0 ∷ 1 ∷ 1 ∷ 1 ∷ [])
     -- Frame: width times height; values from an index on
     ∷ is (cells (size 3 5)) 15
     ∷ are (tabulate 3 5 (λ i. i * i)) (25 ∷ 36 ∷ 49 ∷ [])
+    -- change-cells: so many from a place on; ended: sixteen, where there was filler, and none past the frame
+    ∷ are (change-cells (λ a. a + 10) 7 2 1 (1 ∷ 2 ∷ 3 ∷ 4 ∷ [])) (1 ∷ 12 ∷ 13 ∷ 4 ∷ [])
+    ∷ are (ended (λ a. a + 10) 7 true 2 (tabulate 19 0 (λ i. i))) (0 ∷ 1 ∷ tabulate 16 12 (λ i. i) ++ (18 ∷ []))
+    ∷ are (ended (λ a. a + 10) 7 true 2 (1 ∷ 2 ∷ 3 ∷ 4 ∷ [])) (1 ∷ 2 ∷ 13 ∷ 14 ∷ [])
+    ∷ are (ended (λ a. a + 10) 7 false 2 (1 ∷ 2 ∷ 3 ∷ 4 ∷ [])) (1 ∷ 2 ∷ 3 ∷ 4 ∷ [])
     ∷ []
 
 pub examples-hold : Hold examples
-unfolding fetched counted held read fields four signed read-signed modulo read-residual tabulate
+unfolding fetched counted held read fields four signed read-signed modulo read-residual tabulate change-cells
 examples-hold = refl
