@@ -23,7 +23,7 @@ use Rattle.writers.specs.Writer.{offsets-for}
 use Rattle.writers.specs.Calls.{Call, call, frame-of, stream-of, offsets-of, too-bright, short-output, write-refusal, refused, written, write-answer, unless-refused, stream-after, offsets-after, Yields}
 use Rattle.writers.proofs.CallLaws.{not-bright}
 use Rattle.writers.proofs.V0RoundTrip.{offsets-length}
-use Rattle.v0_writer.specs.Frames.{Writable}
+use Rattle.frame_writer.specs.Frames.{Writable}
 
 -- The test of 1 and 3.
 abbrev pub early : Size → ℕ → ℕ

@@ -7,8 +7,8 @@ use refusals::Lending;
 use refusals::refuse;
 use rules::Answer;
 use rules::Size;
-use v0_writer::measure::stream_length;
-use v0_writer::write::write_frame;
+use frame_writer::measure::stream_length;
+use frame_writer::write::write_frame;
 use writers::Written;
 use writers::is_too_bright;
 

@@ -6,6 +6,7 @@ pub mod Ahead
 pub mod Packed
 pub mod Smallest
 pub mod Blocks
+pub mod Rows
 pub mod Exchange
 pub mod V0Seen
 pub mod V0Written
