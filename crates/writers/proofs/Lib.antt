@@ -11,6 +11,9 @@ pub mod Exchange
 pub mod V0Seen
 pub mod V0Written
 pub mod V0RoundTrip
+pub mod V2Seen
+pub mod V2Written
+pub mod V2RoundTrip
 pub mod ExchangeAt
 pub mod WeightLaws
 pub mod BlockLength
