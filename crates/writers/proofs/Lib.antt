@@ -1,6 +1,7 @@
 -- What follows from the definitions: the worked examples; bits and the reader that finds them; blocks; the round trip; and what
 -- code needs.
 pub mod WrittenFrames
+pub mod V2Frames
 pub mod BitLists
 pub mod Ahead
 pub mod Packed

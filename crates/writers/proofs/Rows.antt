@@ -7,20 +7,12 @@ use native.Mathlib.Omega.{arith}
 use lib.ListN.{length, length-append}
 use Rattle.rules.specs.V0.{blocks-in}
 use Rattle.rules.proofs.Cells.{All, nil, more, all-append}
-use Rattle.writers.specs.Writer.{padded, bytes, block-bits, Coding, blocks-bits, row-bytes, rows-bytes, offsets-from}
+use Rattle.writers.specs.Writer.{gap, padded, bytes, block-bits, Coding, Unit, word, line, blocks-bits, row-bytes, rows-bytes, offsets-from}
 use Rattle.writers.proofs.Blocks.{block-length}
 use Rattle.writers.proofs.Packed.{bytes-length, bytes-below, padded-length}
 
--- Rows are padded to a word in V0, to 16 bytes in V2.
-pub data Unit : ℕ → Type 0 where
-  word : Unit 4
-  line : Unit 16
-
--- The zero bits after n bits.
-abbrev pub gap : ℕ → ℕ → ℕ
-gap unit n = (8 * unit - n % (8 * unit)) % (8 * unit)
-
-pub gap-whole : {unit : ℕ} (n : ℕ) → Unit unit → (n + gap unit n) % 32 ≡ 0
+-- Padding ends with a word.
+pub gap-whole : {unit : ℕ} (n : ℕ) → Unit unit → (n + gap (8 * unit) n) % 32 ≡ 0
 gap-whole n word = omega arith
 gap-whole n line = omega arith
 
@@ -47,11 +39,11 @@ module _ (x : Coding) where
   offsets-length (suc n) row at = ap suc (offsets-length n (suc row) (at + length (row-bytes x row)))
 
   module _ (u : Unit (x .unit)) where
-    pub row-is : (row : ℕ) → length (row-bytes x row) ≡ (length (row-bits row) + gap (x .unit) (length (row-bits row))) / 8
+    pub row-is : (row : ℕ) → length (row-bytes x row) ≡ (length (row-bits row) + gap (8 * x .unit) (length (row-bits row))) / 8
     unfolding row-bytes
     row-is row =
         let bs = row-bits row in
-        let n = length bs + gap (x .unit) (length bs) in
+        let n = length bs + gap (8 * x .unit) (length bs) in
         let w : n % 32 ≡ 0 = gap-whole (length bs) u in
         let e : 4 * (n / 32) ≡ n / 8 = omega arith in
         bytes-length (padded (8 * x .unit) bs) ∙ ap (λ m. 4 * (m / 32)) (padded-length (8 * x .unit) bs) ∙ e
@@ -59,7 +51,7 @@ module _ (x : Coding) where
     pub row-whole : (row : ℕ) → length (row-bytes x row) % x .unit ≡ 0
     row-whole row = ap (λ n. n % x .unit) (row-is row) ∙ go (length (row-bits row)) u
       where
-        go : {unit : ℕ} (n : ℕ) → Unit unit → (n + gap unit n) / 8 % unit ≡ 0
+        go : {unit : ℕ} (n : ℕ) → Unit unit → (n + gap (8 * unit) n) / 8 % unit ≡ 0
         go n word = omega arith
         go n line = omega arith
 
@@ -71,7 +63,7 @@ module _ (x : Coding) where
       pub row-most : (row : ℕ) → length (row-bytes x row) ≤ 33_920
       row-most row = rw (row-is row) (go (length (row-bits row)) u (omega (arith, blocks-length row (blocks-in (x .width)) 0)))
         where
-          go : {unit : ℕ} (n : ℕ) → Unit unit → n ≤ 271_360 → (n + gap unit n) / 8 ≤ 33_920
+          go : {unit : ℕ} (n : ℕ) → Unit unit → n ≤ 271_360 → (n + gap (8 * unit) n) / 8 ≤ 33_920
           go n word l = omega arith
           go n line l = omega arith
 

@@ -22,11 +22,11 @@ use Rattle.rules.proofs.TwoPhase.{two-phase-direct, two-phase-map-direct}
 use Rattle.rules.proofs.V0Blocks.{EachInRow, each-block-map}
 use Rattle.rules.proofs.V0Cells.{apply-append, exchange-length}
 use Rattle.rules.proofs.V0NoMarks.{NoUpward, no-marks}
-use Rattle.writers.specs.Writer.{padding, padded, bytes, Coding, blocks-bits, row-bytes, rows-bytes, offsets-from, residuals, stream-for, offsets-for}
+use Rattle.writers.specs.Writer.{padding, padded, bytes, Coding, Unit, word, blocks-bits, row-bytes, rows-bytes, offsets-from, residuals, stream-for, offsets-for}
 use Rattle.writers.proofs.Ahead.{Stream}
 use Rattle.writers.proofs.Exchange.{exchange-twice, exchange-all}
 use Rattle.writers.proofs.Packed.{Found, bytes-found, padded-length}
-use Rattle.writers.proofs.Rows.{Unit, word, rows-below, offsets-length, row-fourth, rows-most, offsets-most}
+use Rattle.writers.proofs.Rows.{rows-below, offsets-length, row-fourth, rows-most, offsets-most}
 use Rattle.writers.proofs.V0Written.{WrittenBlock, SeesBlocks, sees-blocks}
 
 -- ── How long a stream gets ──

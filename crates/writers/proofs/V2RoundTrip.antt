@@ -20,11 +20,11 @@ use Rattle.rules.specs.Map.{v2-map}
 use Rattle.rules.proofs.Cells.{All, nil, all-get, all-append}
 use Rattle.rules.proofs.V2Cells.{apply-length}
 use Rattle.rules.proofs.V2NoMarks.{v2-unmarked}
-use Rattle.writers.specs.Writer.{bits-of, fields-bits, padding, padded, bytes, blocks-bits, row-bytes, rows-bytes}
+use Rattle.writers.specs.Writer.{bits-of, fields-bits, gap, padding, padded, bytes, line, blocks-bits, row-bytes, rows-bytes}
 use Rattle.writers.specs.V2Writer.{header-bits, differences, stream-for}
 use Rattle.writers.proofs.Ahead.{Stream, ahead, ahead-length, pos-by-ahead, Sees}
 use Rattle.writers.proofs.Packed.{Found, bytes-found, bytes-length, bytes-below, padded-length}
-use Rattle.writers.proofs.Rows.{line, gap, row-bits, rows-below, row-is, row-whole, rows-most}
+use Rattle.writers.proofs.Rows.{row-bits, rows-below, row-is, row-whole, rows-most}
 use Rattle.writers.proofs.V2Seen.{written-hdr, SeesHeader, sees-header}
 use Rattle.writers.proofs.V2Written.{Same, SeesBlocks, sees-blocks}
 
@@ -172,7 +172,7 @@ module _ (s : List ℕ) (st : Stream s) (w h : ℕ) (whole : w % 16 ≡ 0) (g : 
 
       after-is : length pre + (length bs + length pad) / 8 ≡ length (pre ++ row-bytes (differences w g) row)
       after-is =
-          ap (λ n. length pre + (length bs + n) / 8) (length-replicate (gap 16 (length bs)) false)
+          ap (λ n. length pre + (length bs + n) / 8) (length-replicate (gap 128 (length bs)) false)
           ∙ ap (λ x. length pre + x) (sym (row-is (differences w g) line row)) ∙ sym (length-append pre (row-bytes (differences w g) row))
 
   -- k rows from a row on, where the reader, aligned, starts at the first of them.

@@ -7,3 +7,4 @@ pub mod Exchanged
 pub mod Weight
 pub mod Pending
 pub mod WrittenFrames
+pub mod V2Frames

@@ -6,8 +6,8 @@ use lib.ListN.{length}
 use borrow.Author.Needs.{needs}
 use Rattle.frame_writer.specs.Frames.{by-halves}
 use Rattle.frame_writer.proofs.ResidualLaws.{Finding, half-in, halves-on, found}
-use Rattle.frame_writer.proofs.residuals.halves.Statement.{statement}
-use Rattle.frame_writer.proofs.residuals.halves.Tie as tie
+use Rattle.frame_writer.proofs.halves.halves.Statement.{statement}
+use Rattle.frame_writer.proofs.halves.halves.Tie as tie
 
 abbrev Inv-loop : tie.InvT-loop
 Inv-loop samples evens odds even odd d₀ k₀ d k = Finding (by-halves samples evens odds even odd) d k

@@ -4,8 +4,8 @@ use native.Mathlib.Omega.{arith}
 use lib.ListN.{getD}
 use borrow.Author.Needs.{needs}
 use Rattle.frame_writer.proofs.ResidualLaws.{constant-first, sample-later}
-use Rattle.frame_writer.proofs.residuals.prediction.Statement.{statement}
-use Rattle.frame_writer.proofs.residuals.prediction.Tie as tie
+use Rattle.frame_writer.proofs.halves.prediction.Statement.{statement}
+use Rattle.frame_writer.proofs.halves.prediction.Tie as tie
 
 returns : tie.Need-returns
 returns c = let a = c .before .args in constant-first (a .col) (getD (a .samples .now) (a .first - 2) 0) (omega arith)

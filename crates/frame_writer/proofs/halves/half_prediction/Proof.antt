@@ -1,8 +1,8 @@
 -- The first eight are the even samples.
 use native.Mathlib.Omega.{arith}
 use Rattle.frame_writer.proofs.PlaceLaws.{first-half, second-half}
-use Rattle.frame_writer.proofs.residuals.half_prediction.Statement.{statement}
-use Rattle.frame_writer.proofs.residuals.half_prediction.Tie as tie
+use Rattle.frame_writer.proofs.halves.half_prediction.Statement.{statement}
+use Rattle.frame_writer.proofs.halves.half_prediction.Tie as tie
 
 returns : tie.Need-returns
 returns c = let a = c .before .args in first-half (a .k) (a .even) (a .odd) (omega arith)
