@@ -124,8 +124,8 @@ sample-is w h row col f p r l e q = rw q (sym (exchange-place sample-kind (size 
 
 -- The places of the block at a column, in the order of the stream: eight from one start on, and eight from the other.
 module _ (w h row col : ℕ) (start : col % 16 ≡ 0) (inner : col + 16 ≤ w) where
-  pub inner-place : (k evens odds : ℕ) → k < 16 → evens ≡ evens-start w row + col → odds ≡ odds-start (size w h) row + col
-      → cond (ltb k 8) evens odds + (2 * (k % 8) + k / 8) ≡ place-of (size w h) row (col + (2 * (k % 8) + k / 8))
+  pub inner-place : (k evens odds : ℕ) → k < 16 → evens ≡ evens-start w row + col → odds ≡ odds-start (size w h) row + col + 1
+      → cond (ltb k 8) evens odds + 2 * (k % 8) ≡ place-of (size w h) row (col + (2 * (k % 8) + k / 8))
   inner-place k evens odds l e o = go (ltb k 8) refl
     where
       c : ℕ
@@ -137,28 +137,21 @@ module _ (w h row col : ℕ) (start : col % 16 ≡ 0) (inner : col + 16 ≤ w) w
       odd-column : (j c : ℕ) → c ≡ 2 * j + 1 → (col + c) % 2 ≡ 1
       odd-column j c e = omega arith
 
-      go : (t : Bool) → ltb k 8 ≡ t → cond t evens odds + c ≡ place-of (size w h) row (col + c)
+      go : (t : Bool) → ltb k 8 ≡ t → cond t evens odds + 2 * (k % 8) ≡ place-of (size w h) row (col + c)
       go true q =
           let b = ltb-true k 8 q in
           let c-is : c ≡ 2 * k = omega arith in
-          let s : evens + c ≡ evens-start w row + (col + c) = omega arith in
+          let s : evens + 2 * (k % 8) ≡ evens-start w row + (col + c) = omega arith in
           s ∙ evens-place w h row (col + c) (even-column k c c-is) (omega arith)
       go false q =
           let b = ltb-false k 8 q in
           let c-is : c ≡ 2 * (k - 8) + 1 = omega arith in
-          let s : odds + c ≡ odds-start (size w h) row + (col + c) = omega arith in
+          let s : odds + 2 * (k % 8) ≡ odds-start (size w h) row + (col + c) = omega arith in
           s ∙ odds-place w h row (col + c) (odd-column (k - 8) c c-is) (omega arith)
 
   -- The first of each half.
   pub evens-first : (evens : ℕ) → evens ≡ evens-start w row + col → evens ≡ place-of (size w h) row col
   evens-first evens e = e ∙ evens-place w h row col (omega arith) (omega arith)
 
-  pub odds-first : (odds : ℕ) → odds ≡ odds-start (size w h) row + col → odds + 1 ≡ place-of (size w h) row (col + 1)
-  odds-first odds e = let s : odds + 1 ≡ odds-start (size w h) row + (col + 1) = omega arith in s ∙ odds-place w h row (col + 1) (omega arith) (omega arith)
-
--- Which half sample k is in.
-pub first-half : (k x y : ℕ) → k < 8 → x ≡ cond (ltb k 8) x y
-first-half k x y l = rw (lt-ltb k 8 l)
-
-pub second-half : (k x y : ℕ) → 8 ≤ k → y ≡ cond (ltb k 8) x y
-second-half k x y l = rw (le-ltb k 8 l)
+  pub odds-first : (odds : ℕ) → odds ≡ odds-start (size w h) row + col + 1 → odds ≡ place-of (size w h) row (col + 1)
+  odds-first odds e = let s : odds ≡ odds-start (size w h) row + (col + 1) = omega arith in s ∙ odds-place w h row (col + 1) (omega arith) (omega arith)

@@ -17,7 +17,8 @@ use Rattle.rules.proofs.Cells.{nil, more}
 use Rattle.writers.specs.Writer.{predicted, residual}
 use Rattle.writers.specs.Exchanged.{evens-start, odds-start}
 use Rattle.writers.proofs.Blocks.{each-of-run}
-use Rattle.frame_writer.specs.Frames.{size, exchanged, residuals, by-halves}
+use Rattle.frame_writer.specs.Frames.{size, exchanged, block-residuals, by-halves}
+use Rattle.frame_writer.proofs.HalfLaws.{tabulate-get, tabulate-length, listed, Finding, finding-on}
 use Rattle.frame_writer.proofs.PlaceLaws.{sample-is, place-in, evens-place, odds-place, inner-place}
 
 -- ── A residual ──
@@ -55,44 +56,6 @@ module _ (w row col c : ℕ) (g : List ℕ) where
 
 -- ── Sixteen of them ──
 
-pub tabulate-get : (F : ℕ → ℕ) (n m j : ℕ) → j < n → getD (tabulate n m F) j 0 ≡ F (m + j)
-unfolding tabulate
-tabulate-get F zero m j l = absurd (omega arith)
-tabulate-get F (suc n) m zero l = let e : m + 0 ≡ m = omega arith in rw e
-tabulate-get F (suc n) m (suc j) l = let e : m + suc j ≡ suc m + j = omega arith in rw e (tabulate-get F n (suc m) j (omega arith))
-
-pub tabulate-length : (F : ℕ → ℕ) (n m : ℕ) → length (tabulate n m F) ≡ n
-unfolding tabulate
-tabulate-length F zero m = refl
-tabulate-length F (suc n) m = ap suc (tabulate-length F n (suc m))
-
--- A list of sixteen that agrees with F at each place.
-listed : (F : ℕ → ℕ) (d : List ℕ) → length d ≡ 16 → ((k : ℕ) → k < 16 → getD d k 0 ≡ F k) → d ≡ tabulate 16 0 F
-listed F d e each =
-    ext-getD 0 d (tabulate 16 0 F) (e ∙ sym (tabulate-length F 16 0))
-    (λ i q. let l : i < 16 = omega (arith, e) in each i l ∙ sym (tabulate-get F 16 0 i l ∙ ap F (zero-add i)))
-
--- The first k have been found.
-pub record Finding (F : ℕ → ℕ) (d : List ℕ) (k : ℕ) : Type 0 where
-  pub most : k ≤ 16
-  pub long : length d ≡ 16
-  pub before : (j : ℕ) → j < k → getD d j 0 ≡ F j
-
-pub finding-on : (F : ℕ → ℕ) (d : List ℕ) (k v : ℕ) → k < 16 → v ≡ F k → Finding F d k → Finding F (set d k v) (k + 1)
-finding-on F d k v l e g =
-    record {
-      most = omega arith;
-      long = length-set d k v ∙ g .long;
-      before = λ j q. go j q (ℕ-discrete j k);
-    }
-  where
-    go : (j : ℕ) → j < k + 1 → Dec (j ≡ k) → getD (set d k v) j 0 ≡ F j
-    go j q (yes z) = rw z (getD-set-same d k v 0 (omega (arith, g .long)) ∙ e)
-    go j q (no z) = getD-set-other d k j v 0 z ∙ g .before j (omega arith)
-
-pub found : (F : ℕ → ℕ) (d : List ℕ) (k : ℕ) → 16 ≤ k → Finding F d k → d ≡ tabulate 16 0 F
-found F d k l g = listed F d (g .long) (λ j q. g .before j (omega arith))
-
 -- The order of the stream.
 pub order-is : (k : ℕ) → k < 16 → 2 * (k % 8) + k / 8 ≡ getD order k 0
 unfolding tabulate
@@ -109,39 +72,17 @@ pub edge-on : (w : ℕ) (g : List ℕ) (row col : ℕ) (d : List ℕ) (k v : ℕ
     → Finding (at-column w g row col) d k → Finding (at-column w g row col) (set d k v) (k + 1)
 edge-on w g row col d k v l e r = finding-on (at-column w g row col) d k v l (e ∙ ap (residual w g row col) (order-is k l)) r
 
--- ── By halves ──
-
-pub half-in : (k evens odds n : ℕ) → k < 16 → evens + 14 < n → odds + 15 < n → cond (ltb k 8) evens odds + (2 * (k % 8) + k / 8) < n
-half-in k evens odds n l p q = go (ltb k 8) refl
-  where
-    go : (t : Bool) → ltb k 8 ≡ t → cond t evens odds + (2 * (k % 8) + k / 8) < n
-    go true e = omega (arith, ltb-true k 8 e)
-    go false e = omega (arith, ltb-false k 8 e)
-
-pub halves-on : (f d : List ℕ) (evens odds even odd k at p v : ℕ) → k < 16 → at ≡ cond (ltb k 8) evens odds → p ≡ cond (ltb k 8) even odd
-    → v ≡ (getD f (at + (2 * (k % 8) + k / 8)) 0 + 65_536 - p) % 65_536
-    → Finding (by-halves f evens odds even odd) d k → Finding (by-halves f evens odds even odd) (set d k v) (k + 1)
-halves-on f d evens odds even odd k at p v l a b e g =
-    finding-on (by-halves f evens odds even odd) d k v l (e ∙ ap₂ (λ x y. (getD f (x + (2 * (k % 8) + k / 8)) 0 + 65_536 - y) % 65_536) a b) g
-
--- What a half is predicted from.
-pub constant-first : (col x : ℕ) → col ≡ 0 → 128 ≡ cond (eqb col 0) 128 x
-constant-first col x z = rw (eq-eqb col 0 z)
-
-pub sample-later : (col x : ℕ) → col ≢ 0 → x ≡ cond (eqb col 0) 128 x
-sample-later col x n = rw (ne-eqb col 0 n)
-
 -- An inner block by its halves.
 module _ (w h row col : ℕ) (f : List ℕ) (in-row : row < h) (whole : col % 16 ≡ 0) (inner : col + 16 ≤ w) (long : length f ≡ w * h) (evens odds : ℕ)
-    (evens-are : evens ≡ evens-start w row + col) (odds-are : odds ≡ odds-start (size w h) row + col) where
+    (evens-are : evens ≡ evens-start w row + col) (odds-are : odds ≡ odds-start (size w h) row + col + 1) where
   pub evens-in : evens + 14 < w * h
   evens-in =
       let s : evens + 14 ≡ evens-start w row + (col + 14) = omega arith in
       omega (arith, s, evens-place w h row (col + 14) (omega arith) (omega arith), place-in w h row (col + 14) in-row (omega arith))
 
-  pub odds-in : odds + 15 < w * h
+  pub odds-in : odds + 14 < w * h
   odds-in =
-      let s : odds + 15 ≡ odds-start (size w h) row + (col + 15) = omega arith in
+      let s : odds + 14 ≡ odds-start (size w h) row + (col + 15) = omega arith in
       omega (arith, s, odds-place w h row (col + 15) (omega arith) (omega arith), place-in w h row (col + 15) in-row (omega arith))
 
   abbrev g : List ℕ
@@ -163,23 +104,23 @@ module _ (w h row col : ℕ) (f : List ℕ) (in-row : row < h) (whole : col % 16
       sample-is w h row (col - 2) f (evens - 2) in-row (omega arith) long (s ∙ evens-place w h row (col - 2) (omega arith) (omega arith))
       ∙ ap (λ i. getD g i 0) t
 
-  odds-before : (c : ℕ) → c % 2 ≡ 1 → col ≢ 0 → getD f (odds + 1 - 2) 0 ≡ getD g (row * w + (col - 2 + c % 2)) 0
+  odds-before : (c : ℕ) → c % 2 ≡ 1 → col ≢ 0 → getD f (odds - 2) 0 ≡ getD g (row * w + (col - 2 + c % 2)) 0
   odds-before c e n =
-      let s : odds + 1 - 2 ≡ odds-start (size w h) row + (col - 1) = omega arith in
+      let s : odds - 2 ≡ odds-start (size w h) row + (col - 1) = omega arith in
       let t : row * w + (col - 1) ≡ row * w + (col - 2 + c % 2) = omega arith in
-      sample-is w h row (col - 1) f (odds + 1 - 2) in-row (omega arith) long (s ∙ odds-place w h row (col - 1) (omega arith) (omega arith))
+      sample-is w h row (col - 1) f (odds - 2) in-row (omega arith) long (s ∙ odds-place w h row (col - 1) (omega arith) (omega arith))
       ∙ ap (λ i. getD g i 0) t
 
-  pub inner-law : (even odd : ℕ) (d : List ℕ) → even ≡ cond (eqb col 0) 128 (getD f (evens - 2) 0) → odd ≡ cond (eqb col 0) 128 (getD f (odds + 1 - 2) 0)
-      → d ≡ tabulate 16 0 (by-halves f evens odds even odd) → d ≡ residuals w h f row col
+  pub inner-law : (even odd : ℕ) (d : List ℕ) → even ≡ cond (eqb col 0) 128 (getD f (evens - 2) 0) → odd ≡ cond (eqb col 0) 128 (getD f (odds - 2) 0)
+      → d ≡ tabulate 16 0 (by-halves f evens odds even odd) → d ≡ block-residuals w h f row col
   inner-law even odd d p q e =
       listed (at-column w g row col) d (ap length e ∙ tabulate-length (by-halves f evens odds even odd) 16 0)
       (λ k l. ap (λ x. getD x k 0) e ∙ tabulate-get (by-halves f evens odds even odd) 16 0 k l ∙ ap (by-halves f evens odds even odd) (zero-add k) ∙ each k l)
     where
       each : (k : ℕ) → k < 16 → by-halves f evens odds even odd k ≡ at-column w g row col k
       each k l =
-          residual-is w row col c g (getD f (cond (ltb k 8) evens odds + c) 0) (cond (ltb k 8) even odd) (by-halves f evens odds even odd k) (omega arith)
-          (sample-is w h row (col + c) f (cond (ltb k 8) evens odds + c) in-row (omega arith) long (inner-place w h row col whole inner k evens odds l evens-are odds-are))
+          residual-is w row col c g (getD f (cond (ltb k 8) evens odds + 2 * (k % 8)) 0) (cond (ltb k 8) even odd) (by-halves f evens odds even odd k) (omega arith)
+          (sample-is w h row (col + c) f (cond (ltb k 8) evens odds + 2 * (k % 8)) in-row (omega arith) long (inner-place w h row col whole inner k evens odds l evens-are odds-are))
           (prediction-is (ltb k 8) refl) refl
           ∙ ap (residual w g row col) (order-is k l)
         where
@@ -197,4 +138,4 @@ module _ (w h row col : ℕ) (f : List ℕ) (in-row : row < h) (whole : col % 16
           prediction-is false b =
               let m = ltb-false k 8 b in
               let c-is : c ≡ 2 * (k - 8) + 1 = omega arith in
-              half-predicted (odds + 1) c odd (odds-before c (odd-sample c (k - 8) c-is)) q
+              half-predicted odds c odd (odds-before c (odd-sample c (k - 8) c-is)) q

@@ -1,167 +1,172 @@
--- A row: its blocks, one after another, written and measured.
+-- A row: its blocks, one after another, written and measured, in either format.
 use Prim.Native.Nat.{ℕ, zero, suc, _+_, _-_, _*_, _/_, _%_, _<_, _≤_}
-use mathlib.Core.Path.{_≡_, refl, sym, ap, ap₂, _∙_}
-use mathlib.Core.List.{List, [], _∷_, _++_, append-nil, append-assoc}
+use mathlib.Core.Bool.{Bool, false}
+use mathlib.Core.Path.{_≡_, refl, sym, ap, ap₂, _∙_, subst}
+use mathlib.Core.List.{List, [], _++_, append-nil, append-assoc}
 use native.Mathlib.Omega.{arith}
-use native.Mathlib.Decide.{decLt}
 use lib.Dec.{lit<}
-use lib.ListN.{length, getD, length-append}
+use lib.ListN.{length, replicate, length-append, length-replicate}
 use lib.Seq.{sets}
 use Rattle.rules.specs.Frame.{tabulate}
-use Rattle.rules.specs.V0.{order, blocks-in, sample-kind}
-use Rattle.rules.proofs.Cells.{All, nil, more}
-use Rattle.writers.specs.Writer.{bits-of, padded, bytes, run, lengths-for, length-for, block-bits, blocks-bits, row-bytes}
+use Rattle.rules.specs.V0.{blocks-in}
+use Rattle.writers.specs.Writer.{bits-of, gap, padded, bytes, words-bytes, run, lengths-for, length-for, block-bits, Coding, Unit, word, line, blocks-bits, row-bytes}
 use Rattle.writers.specs.declared.Pending.{Pending}
 use Rattle.writers.specs.Pending.{nothing, finished, Wrote}
-use Rattle.writers.specs.Weight.{Short}
 use Rattle.writers.proofs.Blocks.{block-length}
-use Rattle.writers.proofs.Exchange.{exchange-all}
+use Rattle.writers.proofs.Packed.{padded-length}
 use Rattle.writers.proofs.PendingLaws.{wrote-none, wrote-both}
-use Rattle.writers.proofs.V0Written.{residual-short}
-use Rattle.writers.proofs.V0RoundTrip.{blocks-length, row-is}
-use Rattle.pack.specs.Block.{numbers, Shorts}
-use Rattle.frame_writer.specs.Frames.{Writable, size, exchanged, residuals}
-use Rattle.frame_writer.proofs.ResidualLaws.{tabulate-get, tabulate-length, at-column}
+use Rattle.writers.proofs.Rows.{row-bits, gap-whole, blocks-length, row-is}
+use Rattle.pack.specs.Block.{numbers}
+use Rattle.frame_writer.specs.Frames.{block-of}
 
 -- ── Blocks ──
 
-blocks-snoc : (w : ℕ) (g : List ℕ) (row n col : ℕ) → blocks-bits w g row (suc n) col ≡ blocks-bits w g row n col ++ block-bits (at-column w g row (col + 16 * n))
+blocks-snoc : (x : Coding) (row n col : ℕ) → blocks-bits x row (suc n) col ≡ blocks-bits x row n col ++ block-bits (x .number row (col + 16 * n))
 unfolding blocks-bits
-blocks-snoc w g row zero col = let e : col + 16 * 0 ≡ col = omega arith in rw e (append-nil (block-bits (at-column w g row col)))
-blocks-snoc w g row (suc n) col =
+blocks-snoc x row zero col = let e : col + 16 * 0 ≡ col = omega arith in rw e (append-nil (block-bits (x .number row col)))
+blocks-snoc x row (suc n) col =
     let e : col + 16 * suc n ≡ col + 16 + 16 * n = omega arith in
-    rw e (ap (λ l. block-bits (at-column w g row col) ++ l) (blocks-snoc w g row n (col + 16))
-    ∙ sym (append-assoc (block-bits (at-column w g row col)) (blocks-bits w g row n (col + 16)) (block-bits (at-column w g row (col + 16 + 16 * n)))))
+    rw e (ap (λ l. block-bits (x .number row col) ++ l) (blocks-snoc x row n (col + 16))
+    ∙ sym (append-assoc (block-bits (x .number row col)) (blocks-bits x row n (col + 16)) (block-bits (x .number row (col + 16 + 16 * n)))))
 
-blocks-prefix : (w : ℕ) (g : List ℕ) (row k n : ℕ) → length (blocks-bits w g row k 0) ≤ length (blocks-bits w g row (k + n) 0)
-blocks-prefix w g row k zero = let e : k + 0 ≡ k = omega arith in rw e (omega arith)
-blocks-prefix w g row k (suc n) =
+blocks-prefix : (x : Coding) (row k n : ℕ) → length (blocks-bits x row k 0) ≤ length (blocks-bits x row (k + n) 0)
+blocks-prefix x row k zero = let e : k + 0 ≡ k = omega arith in rw e (omega arith)
+blocks-prefix x row k (suc n) =
     let e : k + suc n ≡ suc (k + n) = omega arith in
-    rw (e, blocks-snoc w g row (k + n) 0)
-    (omega (arith, blocks-prefix w g row k n, length-append (blocks-bits w g row (k + n) 0) (block-bits (at-column w g row (0 + 16 * (k + n))))))
+    rw (e, blocks-snoc x row (k + n) 0)
+    (omega (arith, blocks-prefix x row k n, length-append (blocks-bits x row (k + n) 0) (block-bits (x .number row (0 + 16 * (k + n))))))
 
--- A list of residuals has them as its numbers.
-block-of-list : (w : ℕ) (g : List ℕ) (row col : ℕ) (d : List ℕ) → d ≡ tabulate 16 0 (at-column w g row col) → block-bits (numbers d) ≡ block-bits (at-column w g row col)
+-- A list of a block's numbers has them as its numbers.
+block-of-list : (x : Coding) (row col : ℕ) (d : List ℕ) → d ≡ block-of x row col → block-bits (numbers d) ≡ block-bits (x .number row col)
 unfolding block-bits lengths-for length-for run tabulate
-block-of-list w g row col d e = ap (λ l. block-bits (numbers l)) e
+block-of-list x row col d e = ap (λ l. block-bits (numbers l)) e
 
 -- A block has at most 265 bits.
 pub block-most : (d : List ℕ) (n : ℕ) → n ≡ length (block-bits (numbers d)) → n ≤ 265
 block-most d n e = rw e (block-length (numbers d))
 
--- Every residual of a frame that can be written is short.
-pub block-short : (w h : ℕ) (s : List ℕ) (row col : ℕ) → Writable w h s → row < h → (d : List ℕ) → d ≡ residuals w h s row col → Shorts d
-block-short w h s row col writable in-frame d e = rw e (record { each = λ k. go k (decLt k 16) })
-  where
-    all-of-get : (s : List ℕ) → ((i : ℕ) → getD s i 0 < 16_384) → All (λ a. a < 16_384) s
-    all-of-get [] q = nil
-    all-of-get (a ∷ s) q = more (q 0) (all-of-get s (λ i. q (suc i)))
-
-    small : All (λ a. a < 16_384) (exchanged w h s)
-    small = exchange-all sample-kind (λ a. a < 16_384) (lit< tt) (size w h) (all-of-get s (writable .dim))
-
-    past : (l : List ℕ) (i : ℕ) → length l ≤ i → getD l i 0 ≡ 0
-    past [] i q = refl
-    past (a ∷ l) zero q = absurd (omega arith)
-    past (a ∷ l) (suc i) q = past l i (omega arith)
-
-    go : (k : ℕ) → Dec (k < 16) → Short (getD (residuals w h s row col) k 0)
-    go k (yes l) = let z : 0 + k ≡ k = omega arith in rw (tabulate-get (at-column w (exchanged w h s) row col) 16 0 k l, z) (residual-short w h (exchanged w h s) small row in-frame col (getD order k 0))
-    go k (no l) = rw (past (residuals w h s row col) k (rw (tabulate-length (at-column w (exchanged w h s) row col) 16 0) (omega arith))) (record { below = lit< tt; short = lit< tt })
-
 -- ── Writing ──
 
 -- The blocks before a column have been written.
-pub record Rowing (w : ℕ) (g : List ℕ) (row at : ℕ) (f f′ : List ℕ) (p : Pending) (col : ℕ) : Type 0 where
+pub record Rowing (x : Coding) (row at : ℕ) (f f′ : List ℕ) (p : Pending) (col : ℕ) : Type 0 where
   pub whole : col % 16 ≡ 0
-  pub most : col < w + 16
-  pub wrote : Wrote f (nothing at) (blocks-bits w g row (col / 16) 0) f′ p
+  pub most : col < x .width + 16
+  pub wrote : Wrote f (nothing at) (blocks-bits x row (col / 16) 0) f′ p
 
-pub row-begun : (w : ℕ) (g : List ℕ) (row at : ℕ) (f : List ℕ) (p : Pending) → p ≡ nothing at → Rowing w g row at f f p 0
+pub row-begun : (x : Coding) (row at : ℕ) (f : List ℕ) (p : Pending) → p ≡ nothing at → Rowing x row at f f p 0
 unfolding blocks-bits
-row-begun w g row at f p e = rw e (record { whole = refl; most = omega arith; wrote = wrote-none f (nothing at) (lit< tt) })
+row-begun x row at f p e = rw e (record { whole = refl; most = omega arith; wrote = wrote-none f (nothing at) (lit< tt) })
 
-module _ (w h : ℕ) (s : List ℕ) (row at : ℕ) (f f′ : List ℕ) (p : Pending) (col : ℕ) (r : Rowing w (exchanged w h s) row at f f′ p col) where
-  abbrev g : List ℕ
-  g = exchanged w h s
+-- Units before them do not matter to how bits are padded.
+past-units : {unit : ℕ} (at n : ℕ) → Unit unit → at % unit ≡ 0 → gap (8 * unit) (8 * at + 0 + n) ≡ gap (8 * unit) n
+past-units at n word e = let m : (8 * at + 0 + n) % 32 ≡ n % 32 = go (at / 4) (omega arith) in rw m
+  where
+    go : (j : ℕ) → at ≡ 4 * j → (8 * at + 0 + n) % 32 ≡ n % 32
+    go j q = omega arith
+past-units at n line e = let m : (8 * at + 0 + n) % 128 ≡ n % 128 = go (at / 16) (omega arith) in rw m
+  where
+    go : (j : ℕ) → at ≡ 16 * j → (8 * at + 0 + n) % 128 ≡ n % 128
+    go j q = omega arith
 
+-- Whole words are not padded.
+words-padded : (bs : List Bool) → length bs % 32 ≡ 0 → padded 32 bs ≡ bs
+unfolding padded
+words-padded bs e = let n : gap 32 (length bs) ≡ 0 = omega arith in rw n (append-nil bs)
+
+-- What was written from nothing on, once nothing waits.
+wrote-whole : (f : List ℕ) (at : ℕ) (bs : List Bool) (f′ : List ℕ) (q : Pending) → q .count ≡ 0 → length bs % 32 ≡ 0
+    → Wrote f (nothing at) bs f′ q → f′ ≡ sets f at (bytes bs)
+unfolding finished bits-of bytes padded words-bytes
+wrote-whole f at bs f′ q e words w =
+    sym (ap (λ n. sets f′ (q .pos) (bytes (padded 32 (bits-of n (q .word) ++ [])))) e)
+    ∙ w .same []
+    ∙ ap (λ l. sets f at (bytes l)) (ap (padded 32) (append-nil bs) ∙ words-padded bs words)
+
+module _ (x : Coding) (u : Unit (x .unit)) (row at : ℕ) (f f′ : List ℕ) (p : Pending) (col : ℕ) (r : Rowing x row at f f′ p col) where
   here : 16 * (col / 16) ≡ col
   here = let q = r .whole in omega arith
 
   -- There is room for the next block ..
-  pub block-room : (d : List ℕ) → d ≡ residuals w h s row col → col < w → at + length (row-bytes w g row) ≤ length f
+  pub block-room : (d : List ℕ) → d ≡ block-of x row col → col < x .width → at + length (row-bytes x row) ≤ length f
       → 8 * p .pos + p .count + length (block-bits (numbers d)) ≤ 8 * length f′
   block-room d e l room =
       let n = col / 16 in
-      let all : suc n + (blocks-in w - suc n) ≡ blocks-in w = omega arith in
+      let all : suc n + (blocks-in (x .width) - suc n) ≡ blocks-in (x .width) = omega arith in
       let col-is : 0 + 16 * n ≡ col = omega (arith, here) in
-      let a : length (blocks-bits w g row (suc n) 0) ≤ length (blocks-bits w g row (blocks-in w) 0) = rw all at (blocks-prefix w g row (suc n) (blocks-in w - suc n)) in
-      let b : length (blocks-bits w g row (suc n) 0) ≡ length (blocks-bits w g row n 0) + length (block-bits (at-column w g row col))
-      = ap length (blocks-snoc w g row n 0) ∙ length-append (blocks-bits w g row n 0) (block-bits (at-column w g row (0 + 16 * n)))
-      ∙ ap (λ c. length (blocks-bits w g row n 0) + length (block-bits (at-column w g row c))) col-is in
-      rw (block-of-list w g row col d e) (omega (arith, r .wrote .grown, r .wrote .length-is, row-is w g row))
+      let a : length (blocks-bits x row (suc n) 0) ≤ length (row-bits x row) = rw all at (blocks-prefix x row (suc n) (blocks-in (x .width) - suc n)) in
+      let b : length (blocks-bits x row (suc n) 0) ≡ length (blocks-bits x row n 0) + length (block-bits (x .number row col))
+      = ap length (blocks-snoc x row n 0) ∙ length-append (blocks-bits x row n 0) (block-bits (x .number row (0 + 16 * n)))
+      ∙ ap (λ c. length (blocks-bits x row n 0) + length (block-bits (x .number row c))) col-is in
+      rw (block-of-list x row col d e) (omega (arith, r .wrote .grown, r .wrote .length-is, row-is x u row, gap-whole (length (row-bits x row)) u))
 
   -- .. and then it is written.
-  pub row-on : (d f″ : List ℕ) (q : Pending) → d ≡ residuals w h s row col → col < w → Wrote f′ p (block-bits (numbers d)) f″ q → Rowing w g row at f f″ q (col + 16)
+  pub row-on : (d f″ : List ℕ) (q : Pending) → d ≡ block-of x row col → col < x .width → Wrote f′ p (block-bits (numbers d)) f″ q → Rowing x row at f f″ q (col + 16)
   row-on d f″ q e l wrote =
       let next : (col + 16) / 16 ≡ suc (col / 16) = omega arith in
       let col-is : 0 + 16 * (col / 16) ≡ col = omega (arith, here) in
       record {
         whole = let k = r .whole in omega arith;
         most = omega arith;
-        wrote = rw (next, blocks-snoc w g row (col / 16) 0, col-is) (wrote-both (r .wrote) (rw (block-of-list w g row col d e) at wrote));
+        wrote = rw (next, blocks-snoc x row (col / 16) 0, col-is) (wrote-both (r .wrote) (rw (block-of-list x row col d e) at wrote));
       }
 
-  -- At the row's end the padding fits ..
-  count-is : w ≤ col → col / 16 ≡ blocks-in w
-  count-is l = let a = r .whole in let b = r .most in omega arith
+  -- At the row's end the padding ..
+  module _ (v : ℕ) (same : v ≡ x .unit) (whole : at % v ≡ 0) (l : x .width ≤ col) where
+    count-is : col / 16 ≡ blocks-in (x .width)
+    count-is = let a = r .whole in let b = r .most in omega arith
 
-  pub end-is : w ≤ col → p .pos + 4 * ((p .count + 31) / 32) ≡ at + length (row-bytes w g row)
-  end-is l =
-      let grown = rw (count-is l) at (r .wrote .grown) in
-      rw (row-is w g row) (pads at (p .pos) (p .count) (length (blocks-bits w g row (blocks-in w) 0)) grown (r .wrote .whole) (r .wrote .count-small))
-    where
-      sums : (at n count : ℕ) → at + 4 * n + 4 * ((count + 31) / 32) ≡ at + 4 * ((32 * n + count + 31) / 32)
-      sums at n count = omega arith
+    all : Wrote f (nothing at) (row-bits x row) f′ p
+    all = rw count-is at (r .wrote)
 
-      pads : (at pos count L : ℕ) → 8 * pos + count ≡ 8 * at + 0 + L → pos % 4 ≡ at % 4 → count < 32 → pos + 4 * ((count + 31) / 32) ≡ at + 4 * ((L + 31) / 32)
-      pads at pos count L e m s =
-          let n = (pos - at) / 4 in
-          let up : at ≤ pos = omega arith in
-          let pos-is : pos ≡ at + 4 * n = omega arith in
-          let L-is : L ≡ 32 * n + count = omega arith in
-          ap (λ x. x + 4 * ((count + 31) / 32)) pos-is ∙ sums at n count ∙ ap (λ x. at + 4 * ((x + 31) / 32)) (sym L-is)
+    before : 8 * p .pos + p .count ≡ 8 * at + 0 + length (row-bits x row)
+    before = all .grown
 
-  -- .. and the buffer has the row.
-  pub row-gone : (f″ : List ℕ) → w ≤ col → f″ ≡ finished f′ p [] → f″ ≡ sets f at (row-bytes w g row)
-  unfolding finished row-bytes bits-of
-  row-gone f″ l e =
-      e ∙ r .wrote .same []
-      ∙ ap (λ n. sets f at (bytes (padded 32 (blocks-bits w g row n 0 ++ [])))) (count-is l)
-      ∙ ap (λ bs. sets f at (bytes (padded 32 bs))) (append-nil (blocks-bits w g row (blocks-in w) 0))
+    gap-is : gap (8 * v) (8 * p .pos + p .count) ≡ gap (8 * x .unit) (length (row-bits x row))
+    gap-is = rw (same, before) (past-units at (length (row-bits x row)) u (rw same at whole))
+
+    pub fourth : p .pos % 4 ≡ 0
+    fourth = all .whole ∙ words-first u (rw same at whole)
+      where
+        words-first : {unit : ℕ} → Unit unit → at % unit ≡ 0 → at % 4 ≡ 0
+        words-first word e = e
+        words-first line e = omega arith
+
+    -- .. fits ..
+    pub end-is : 8 * p .pos + p .count + gap (8 * v) (8 * p .pos + p .count) ≡ 8 * (at + length (row-bytes x row))
+    end-is = let w = gap-whole (length (row-bits x row)) u in rw gap-is (omega (arith, before, row-is x u row, w))
+
+    -- .. and then the buffer has the row.
+    pub row-gone : (f″ : List ℕ) (q : Pending) → (q .count ≡ 0) × Wrote f′ p (replicate (gap (8 * v) (8 * p .pos + p .count)) false) f″ q
+        → (q .pos ≡ at + length (row-bytes x row)) × (f″ ≡ sets f at (row-bytes x row))
+    unfolding row-bytes padded
+    row-gone f″ q (e, w) =
+        let n = gap (8 * x .unit) (length (row-bits x row)) in
+        let w′ : Wrote f′ p (replicate n false) f″ q = rw gap-is at w in
+        (
+          omega (arith, e, w .grown, length-replicate (gap (8 * v) (8 * p .pos + p .count)) false, end-is),
+          wrote-whole f at (padded (8 * x .unit) (row-bits x row)) f″ q e
+              (rw (padded-length (8 * x .unit) (row-bits x row)) (gap-whole (length (row-bits x row)) u)) (wrote-both all w′),
+        )
 
 -- ── Measuring ──
 
 -- The bits of the blocks before a column have been counted.
-pub record Counting (w : ℕ) (g : List ℕ) (row bits col : ℕ) : Type 0 where
+pub record Counting (x : Coding) (row bits col : ℕ) : Type 0 where
   pub whole : col % 16 ≡ 0
-  pub most : col < w + 16
-  pub counted : bits ≡ length (blocks-bits w g row (col / 16) 0)
+  pub most : col < x .width + 16
+  pub counted : bits ≡ length (blocks-bits x row (col / 16) 0)
 
-pub count-begun : (w : ℕ) (g : List ℕ) (row : ℕ) → Counting w g row 0 0
+pub count-begun : (x : Coding) (row : ℕ) → Counting x row 0 0
 unfolding blocks-bits
-count-begun w g row = record { whole = refl; most = omega arith; counted = refl }
+count-begun x row = record { whole = refl; most = omega arith; counted = refl }
 
-module _ (w h : ℕ) (s : List ℕ) (row bits col : ℕ) (r : Counting w (exchanged w h s) row bits col) where
-  abbrev g′ : List ℕ
-  g′ = exchanged w h s
-
+module _ (x : Coding) (row bits col : ℕ) (r : Counting x row bits col) where
   -- The sum is small ..
-  pub count-most : w ≤ 16_384 → bits ≤ 265 * 1_024
-  count-most l = omega (arith, r .counted, r .most, blocks-length w g′ row (col / 16) 0)
+  pub count-most : x .width ≤ 16_384 → bits ≤ 265 * 1_024
+  count-most l = omega (arith, r .counted, r .most, blocks-length x row (col / 16) 0)
 
   -- .. a block is added ..
-  pub count-on : (d : List ℕ) (n : ℕ) → d ≡ residuals w h s row col → col < w → n ≡ length (block-bits (numbers d)) → Counting w g′ row (bits + n) (col + 16)
+  pub count-on : (d : List ℕ) (n : ℕ) → d ≡ block-of x row col → col < x .width → n ≡ length (block-bits (numbers d)) → Counting x row (bits + n) (col + 16)
   count-on d n e l is =
       let next : (col + 16) / 16 ≡ suc (col / 16) = omega arith in
       let here : 0 + 16 * (col / 16) ≡ col = let k = r .whole in omega arith in
@@ -169,12 +174,13 @@ module _ (w h : ℕ) (s : List ℕ) (row bits col : ℕ) (r : Counting w (exchan
         whole = let k = r .whole in omega arith;
         most = omega arith;
         counted =
-            ap₂ _+_ (r .counted) (is ∙ ap length (block-of-list w g′ row col d e))
-            ∙ rw (next, blocks-snoc w g′ row (col / 16) 0, here) (sym (length-append (blocks-bits w g′ row (col / 16) 0) (block-bits (at-column w g′ row col))));
+            ap₂ _+_ (r .counted) (is ∙ ap length (block-of-list x row col d e))
+            ∙ rw (next, blocks-snoc x row (col / 16) 0, here) (sym (length-append (blocks-bits x row (col / 16) 0) (block-bits (x .number row col))));
       }
 
-  -- .. and at the row's end the whole words are the row's bytes.
-  pub count-gone : w ≤ col → (bits + 31) / 32 * 4 ≡ length (row-bytes w g′ row)
-  count-gone l =
-      let last : col / 16 ≡ blocks-in w = let a = r .whole in let b = r .most in omega arith in
-      omega (arith, row-is w g′ row, r .counted ∙ ap (λ n. length (blocks-bits w g′ row n 0)) last)
+  -- .. and at the row's end the whole units are the row's bytes.
+  pub count-gone : Unit (x .unit) → x .width ≤ col → (n : ℕ) → n ≡ (bits + gap (8 * x .unit) bits) / 8 → n ≡ length (row-bytes x row)
+  count-gone u l n e =
+      let last : col / 16 ≡ blocks-in (x .width) = let a = r .whole in let b = r .most in omega arith in
+      let all : bits ≡ length (row-bits x row) = r .counted ∙ ap (λ n. length (blocks-bits x row n 0)) last in
+      e ∙ ap (λ m. (m + gap (8 * x .unit) m) / 8) all ∙ sym (row-is x u row)

@@ -34,7 +34,7 @@ header-length : length header-bits ≡ 128
 unfolding header-bits fields-bits bits-of
 header-length = refl
 
-header-bytes : length (bytes header-bits) ≡ 16
+pub header-bytes : length (bytes header-bits) ≡ 16
 header-bytes = bytes-length header-bits ∙ ap (λ n. 4 * (n / 32)) header-length
 
 -- A stream is bytes.

@@ -166,7 +166,7 @@ module _ (w h : ℕ) (g : List ℕ) (small : All (λ a. a < 16_384) g) (row : �
       go true e = refl
       go false e = let n = eqb-false col 0 e in a p (omega arith)
 
-  difference-short : (col i : ℕ) → Short (difference w g row col i)
+  pub difference-short : (col i : ℕ) → Short (difference w g row col i)
   unfolding difference
   difference-short col i = go (getD g (row * w + col + i) 0) (base-of w g row col i) (get-small (row * w + col + i)) (base-small col i)
     where

@@ -7,7 +7,8 @@ use borrow.Author.Needs.{needs}
 use Rattle.rules.specs.V0.{order}
 use Rattle.writers.specs.Writer.{residual}
 use Rattle.frame_writer.specs.Frames.{exchanged}
-use Rattle.frame_writer.proofs.ResidualLaws.{Finding, edge-on, found}
+use Rattle.frame_writer.proofs.HalfLaws.{Finding, found}
+use Rattle.frame_writer.proofs.ResidualLaws.{edge-on}
 use Rattle.frame_writer.proofs.residuals.edge_residuals.Statement.{statement}
 use Rattle.frame_writer.proofs.residuals.edge_residuals.Tie as tie
 

@@ -1,50 +1,32 @@
 -- The loop: the rows before a row have been written, and their offsets.
-use mathlib.Core.Path.{refl}
+use mathlib.Core.Path.{sym, _∙_}
 use Prim.Native.Nat.{_-_}
 use native.Mathlib.Omega.{arith}
-use denote.Ref.{now}
 use borrow.Author.Needs.{needs}
-use Rattle.frame_writer.specs.Frames.{exchanged}
-use Rattle.frame_writer.proofs.FrameLaws.{Framing, frame-begun, stream-length, table-length, row-room, offset-fits, frame-on, frame-gone, frame-room}
-use Rattle.frame_writer.proofs.write.write_frame.Statement.{statement}
-use Rattle.frame_writer.proofs.write.write_frame.Tie as tie
+use Rattle.frame_writer.specs.Frames.{coding}
+use Rattle.frame_writer.proofs.CodingLaws.{unit-is, width-is, coding-unit}
+use Rattle.frame_writer.proofs.FrameLaws.{Framing, frame-begun, stream-length, table-length, row-room, offset-fits, frame-on, frame-gone}
+use Rattle.frame_writer.proofs.write.write_rows.Statement.{statement}
+use Rattle.frame_writer.proofs.write.write_rows.Tie as tie
 
 abbrev Inv-loop : tie.InvT-loop
-Inv-loop out₀ offsets₀ samples width height at₀ row₀ out offsets at row = Framing width height (exchanged width height samples) out₀ offsets₀ out offsets at row
+Inv-loop out₀ start offsets₀ samples format width height at₀ row₀ out offsets at row = Framing (coding format width height samples) height start out₀ offsets₀ out offsets at row
 
 abbrev μ-loop : tie.MeasureT-loop
-μ-loop out₀ offsets₀ samples width height at₀ row₀ out offsets at row = height - row
+μ-loop out₀ start offsets₀ samples format width height at₀ row₀ out offsets at row = height - row
 
 loop-holds : tie.Need-loop-holds Inv-loop μ-loop
-loop-holds c = let a = c .before .before .before .args in frame-begun (a .width) (a .height) (exchanged (a .width) (a .height) (a .samples .now)) (a .out .now) (a .offsets .now)
+loop-holds c = let s = c .before .before .before in let a = s .args in frame-begun (coding (a .format) (a .width) (a .height) (a .samples .now)) (a .height) (a .start) (a .out .now) (a .offsets .now) (rw (unit-is (a .width) (a .height) (a .samples .now) (a .format)) (s .pre .1))
 
-cast-offsets : tie.Need-cast-offsets Inv-loop μ-loop
-cast-offsets c =
-    let s = c .before .before .before .before .before in
-    let a = s .args in
-    let l = c .before .loop in
-    record { fits = offset-fits (a .width) (a .height) (exchanged (a .width) (a .height) (a .samples .now)) (a .out .now) (a .offsets .now) (l .out) (l .offsets) (l .at) (l .row) (l .inv) (s .pre .0 .wide) (s .pre .0 .high) }
-
-mul-offsets : tie.Need-mul-offsets Inv-loop μ-loop
-mul-offsets c =
-    let s = c .before .before .before .before .before in
-    let a = s .args in
-    let l = c .before .loop in
-    record { fits = omega (arith, s .pre .0 .high) }
-
-slice-write-offsets : tie.Need-slice-write-offsets Inv-loop μ-loop
-slice-write-offsets c =
-    let s = c .before .before .before .before .before in
-    let a = s .args in
-    let l = c .before .loop in
-    omega (arith, table-length (a .width) (a .height) (exchanged (a .width) (a .height) (a .samples .now)) (a .out .now) (a .offsets .now) (l .out) (l .offsets) (l .at) (l .row) (l .inv), s .pre .2)
+put-offset-requires : tie.Need-put-offset-requires Inv-loop μ-loop
+put-offset-requires c κs = let s = c .before .before .before .before .before .before in let a = s .args in let l = c .before .before .loop in offset-fits (coding (a .format) (a .width) (a .height) (a .samples .now)) (coding-unit (a .width) (a .height) (a .samples .now) (a .format)) (a .height) (a .start) (a .out .now) (a .offsets .now) (l .out) (l .offsets) (l .at) (l .row) (l .inv) (rw (width-is (a .width) (a .height) (a .samples .now) (a .format)) (s .pre .0 .wide)) (s .pre .0 .high) (s .pre .2)
 
 write-row-requires : tie.Need-write-row-requires Inv-loop μ-loop
 write-row-requires c κs =
-    let s = c .before .before .before .before .before .before in
+    let s = c .before .before .before .before .before .before .before .before .before .before in
     let a = s .args in
-    let l = c .before .before .loop in
-    (s .pre .0, omega arith, row-room (a .width) (a .height) (exchanged (a .width) (a .height) (a .samples .now)) (a .out .now) (a .offsets .now) (l .out) (l .offsets) (l .at) (l .row) (l .inv) (omega arith) (frame-room (a .width) (a .height) (a .samples .now) (a .out .now) (s .pre .1)))
+    let l = c .before .before .before .before .before .before .loop in
+    (s .pre .0, omega arith, rw (← unit-is (a .width) (a .height) (a .samples .now) (a .format)) (l .inv .whole), row-room (coding (a .format) (a .width) (a .height) (a .samples .now)) (coding-unit (a .width) (a .height) (a .samples .now) (a .format)) (a .height) (a .start) (a .out .now) (a .offsets .now) (l .out) (l .offsets) (l .at) (l .row) (l .inv) (omega arith) (s .pre .3))
 
 add-row : tie.Need-add-row Inv-loop μ-loop
 add-row c = search needs
@@ -54,42 +36,40 @@ loop-less c = omega arith
 
 loop-again : tie.Need-loop-again Inv-loop μ-loop
 loop-again c =
-    let s = c .before .before .before .before .before .before .before .before .before in
+    let s = c .before .before .before .before .before .before .before .before .before .before .before .before .before in
     let a = s .args in
-    let l = c .before .before .before .before .before .loop in
-    frame-on (a .width) (a .height) (exchanged (a .width) (a .height) (a .samples .now)) (a .out .now) (a .offsets .now) (l .out) (l .offsets) (l .at) (l .row) (l .inv) (l .at) _ _ (omega arith) refl (c .before .before .write-row .ensures .0) (c .before .before .write-row .ensures .1)
+    let l = c .before .before .before .before .before .before .before .before .before .loop in
+    frame-on (coding (a .format) (a .width) (a .height) (a .samples .now)) (coding-unit (a .width) (a .height) (a .samples .now) (a .format)) (a .height) (a .start) (a .out .now) (a .offsets .now) (l .out) (l .offsets) (l .at) (l .row) (l .inv) _ _ _ (omega arith) (c .before .before .before .before .before .before .put-offset .ensures) (c .before .before .write-row .ensures .0) (c .before .before .write-row .ensures .1)
 
 same-length : tie.Need-same-length Inv-loop μ-loop
 same-length c =
     let s = c .before .before .before .before .before in
     let a = s .args in
     let l = c .before .loop in
-    stream-length (a .width) (a .height) (exchanged (a .width) (a .height) (a .samples .now)) (a .out .now) (a .offsets .now) (l .out) (l .offsets) (l .at) (l .row) (l .inv)
+    stream-length (coding (a .format) (a .width) (a .height) (a .samples .now)) (coding-unit (a .width) (a .height) (a .samples .now) (a .format)) (a .height) (a .start) (a .out .now) (a .offsets .now) (l .out) (l .offsets) (l .at) (l .row) (l .inv)
 
 same-length-2 : tie.Need-same-length-2 Inv-loop μ-loop
 same-length-2 c =
     let s = c .before .before .before .before .before in
     let a = s .args in
     let l = c .before .loop in
-    table-length (a .width) (a .height) (exchanged (a .width) (a .height) (a .samples .now)) (a .out .now) (a .offsets .now) (l .out) (l .offsets) (l .at) (l .row) (l .inv)
+    table-length (coding (a .format) (a .width) (a .height) (a .samples .now)) (coding-unit (a .width) (a .height) (a .samples .now) (a .format)) (a .height) (a .start) (a .out .now) (a .offsets .now) (l .out) (l .offsets) (l .at) (l .row) (l .inv)
 
 returns : tie.Need-returns Inv-loop μ-loop
 returns c =
     let s = c .before .before .before .before .before in
     let a = s .args in
     let l = c .before .loop in
-    frame-gone (a .width) (a .height) (a .samples .now) (a .out .now) (a .offsets .now) (l .out) (l .offsets) (l .at) (l .row) (omega arith) (l .inv)
+    frame-gone (coding (a .format) (a .width) (a .height) (a .samples .now)) (coding-unit (a .width) (a .height) (a .samples .now) (a .format)) (a .height) (a .start) (a .out .now) (a .offsets .now) (l .out) (l .offsets) (l .at) (l .row) (l .inv) (omega arith)
 
-pub write-frame-spec : {M : Type 1} → statement M
-write-frame-spec =
+pub write-rows-spec : {M : Type 1} → statement M
+write-rows-spec =
     tie.close
     (tie.spec
     Inv-loop
     μ-loop
     loop-holds
-    cast-offsets
-    mul-offsets
-    slice-write-offsets
+    put-offset-requires
     write-row-requires
     add-row
     loop-less
