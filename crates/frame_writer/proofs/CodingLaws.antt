@@ -60,6 +60,11 @@ module _ (format : Format) (w h : ℕ) (f : List ℕ) (row col : ℕ) where
   unfolding coding
   numbers-v2 d e q = rw e q
 
+-- V0 asks nothing of the width.
+pub whole-v0 : (w : ℕ) → Whole V0 w
+unfolding unit
+whole-v0 w = record { blocks = λ e. absurd (let q : 4 ≡ 16 = ap unit e in omega arith) }
+
 -- A V2 block ends within its row.
 pub inner-block : (format : Format) (w col : ℕ) → Whole format w → format ≡ V2 → col % 16 ≡ 0 → col < w → col + 16 ≤ w
 inner-block format w col whole e a l = let b = whole .blocks e in omega arith

@@ -1,3 +1,4 @@
 -- What the proofs of the entries rest on.
 pub mod MovedLaws
 pub mod WriterLaws
+pub mod ConvertLaws

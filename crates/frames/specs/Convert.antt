@@ -1,8 +1,8 @@
 -- A call that turns V0 into V2: the direct decoder's call with its map, and then the V2 stream of what it left.
-use Prim.Native.Nat.{ℕ, _%_}
-use mathlib.Core.Bool.{Bool, false, not, _||_, cond}
+use Prim.Native.Nat.{ℕ, _*_, _%_, _≤_}
+use mathlib.Core.Bool.{Bool, cond}
 use mathlib.Core.Path.{_≡_}
-use mathlib.Core.List.{List, [], _∷_, _++_}
+use mathlib.Core.List.{List, _++_}
 use mathlib.Core.Option.{some, none}
 use lib.Dec.{ltb, eqb}
 use lib.ListN.{length, take, drop}
@@ -10,7 +10,7 @@ use Rattle.rules.specs.declared.answer.Size.{Size}
 use Rattle.rules.specs.Frame.{cells}
 use Rattle.rules.specs.Answer.{direct, v2, Ask, ask, Buffers, buffers, lengths, too-large, too-small, short-samples, short-map, first-of, samples-after, map-after}
 use Rattle.writers.specs.declared.Written.{Written}
-use Rattle.writers.specs.Calls.{too-bright, refused, written}
+use Rattle.writers.specs.Calls.{any-above, too-bright, refused, written}
 use Rattle.writers.specs.V2Writer.{stream-for}
 
 abbrev size : ℕ → ℕ → Size
@@ -57,15 +57,21 @@ early c =
     cond (eqb k 0) (cond (eqb (z .width % 16) 0) 0 15) k
 
 -- 16: a map byte is not 0.
-unfoldable pub any-marked : List ℕ → Bool
-any-marked [] = false
-any-marked (m ∷ ms) = not (eqb m 0) || any-marked ms
+abbrev pub any-marked : List ℕ → Bool
+any-marked m = any-above 0 m
 
 -- After it, of a frame f with marks m and a buffer of n bytes: 16, 9, and 10: the stream does not fit the buffer.
 unfoldable pub late : Size → List ℕ → List ℕ → ℕ → ℕ
 late z f m n = cond (any-marked m) 16 (cond (too-bright f) 9 (cond (ltb n (length (stream-for z f))) 10 0))
 
 -- ── What writing answers and leaves ──
+
+-- A frame that has passed 1 and 15.
+pub record Frame (w h : ℕ) (f : List ℕ) : Type 0 where
+  pub wide : w ≤ 16_384
+  pub high : h ≤ 16_384
+  pub blocks : w % 16 ≡ 0
+  pub whole : length f ≡ w * h
 
 unfoldable pub late-answer : ℕ → ℕ → List ℕ → List ℕ → ℕ → Written
 late-answer w h f m n =

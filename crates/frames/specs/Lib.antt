@@ -1,2 +1,3 @@
 -- What the calls answer, and what they leave.
 pub mod Moved
+pub mod Convert
