@@ -161,32 +161,42 @@ module _ (source offsets : List ℕ) (w h : ℕ) (samples map stream : List ℕ)
 
       pub samples-length : length (decoded-samples c) ≡ length samples
       unfolding samples-after unless-refused frame-samples
-      samples-length = rw decodes (put-length (cells size) _ samples frame-long (lent .samples-enough))
+      samples-length = rw decodes (put-length (cells size) (V0.decoded source offsets size (take (cells size) samples)) samples frame-long (lent .samples-enough))
 
       pub map-length : length (decoded-map c) ≡ length map
       unfolding map-after unless-refused frame-marks
-      map-length = rw decodes (put-length (cells size) _ map (map-long source offsets size) (long-enough _ _ (lent .map-enough)))
+      map-length = rw decodes (put-length (cells size) (v0-map source offsets size) map (map-long source offsets size) (long-enough _ _ (lent .map-enough)))
 
-      module _ (whole : w % 16 ≡ 0) where
-        passed-all : early c ≡ 0
-        passed-all = early-is small k s e ∙ rw (passed, whole)
+      -- Of what it left: the frame lies in its buffers ..
+      module _ (a : Answer) (samples′ map′ : List ℕ) (y : Rules.Yields (c .asked) (found c) a (Rules.buffers samples′ (some map′) none)) where
+        map-is : map′ ≡ decoded-map c
+        map-is = ap (λ o. Option·getD o []) (y .map)
 
-        -- Then the frame can be written, unless it is refused by 16, 9 or 10.
-        pub frame-fits : (samples′ : List ℕ) → samples′ ≡ decoded-samples c → Frame w h (take (w * h) samples′)
-        frame-fits samples′ e =
-            record { wide = lent .wide; high = lent .high; blocks = whole; whole = ap (λ l. length (take (w * h) l)) e ∙ ap length frame-is ∙ frame-long }
+        pub samples-room : w * h ≤ length samples′
+        samples-room = omega (arith, ap length (y .samples), samples-length, lent .samples-enough)
 
-        pub converted : (a : Answer) (r : Written) (samples′ map′ stream′ : List ℕ)
-            → Rules.Yields (c .asked) (found c) a (Rules.buffers samples′ (some map′) none)
-            → (r ≡ late-answer w h (take (w * h) samples′) (take (w * h) map′) (length stream)) × (stream′ ≡ late-stream w h (take (w * h) samples′) (take (w * h) map′) stream)
-            → Yields c r samples′ map′ stream′
-        unfolding if-decoded
-        converted a r samples′ map′ stream′ y (p, q) =
-            let s : samples′ ≡ decoded-samples c = y .samples in
-            let m : map′ ≡ decoded-map c = ap (λ o. Option·getD o []) (y .map) in
-            record {
-              answered = rw passed-all (p ∙ rw (s, m));
-              samples-left = rw passed-all s;
-              map-left = rw passed-all m;
-              stream-left = rw passed-all (q ∙ rw (s, m));
-            }
+        pub map-room : w * h ≤ length map′
+        map-room = omega (arith, ap length map-is, map-length, long-enough _ _ (lent .map-enough))
+
+        module _ (whole : w % 16 ≡ 0) where
+          -- .. can be written, unless it is refused by 16, 9 or 10 ..
+          pub frame-fits : Frame w h (take (w * h) samples′)
+          frame-fits =
+              record { wide = lent .wide; high = lent .high; blocks = whole; whole = ap (λ l. length (take (w * h) l)) (y .samples) ∙ ap length frame-is ∙ frame-long }
+
+          passed-all : early c ≡ 0
+          passed-all = early-is small k s e ∙ rw (passed, whole)
+
+          -- .. and then is.
+          pub converted : (r : Written) (stream′ : List ℕ)
+              → (r ≡ late-answer w h (take (w * h) samples′) (take (w * h) map′) (length stream)) × (stream′ ≡ late-stream w h (take (w * h) samples′) (take (w * h) map′) stream)
+              → Yields c r samples′ map′ stream′
+          unfolding if-decoded
+          converted r stream′ (p, q) =
+              let s : samples′ ≡ decoded-samples c = y .samples in
+              record {
+                answered = rw passed-all (p ∙ rw (s, map-is));
+                samples-left = rw passed-all s;
+                map-left = rw passed-all map-is;
+                stream-left = rw passed-all (q ∙ rw (s, map-is));
+              }

@@ -93,7 +93,7 @@ module _ (samples : List ℕ) (w h : ℕ) (stream offsets : List ℕ) where
       pub stream-room : s ≡ false → length (stream-of c) ≤ length stream
       stream-room q = rw is at (ltb-false (length stream) n (neither (ltb (length stream) n) (ltb (length offsets) h) (sym test ∙ q) .0))
 
-      pub table-room : s ≡ false → h ≤ length offsets
+      table-room : s ≡ false → h ≤ length offsets
       table-room q = ltb-false (length offsets) h (neither (ltb (length stream) n) (ltb (length offsets) h) (sym test ∙ q) .1)
 
       pub done-yields : (r : Written) (st ot : List ℕ) → s ≡ false → r ≡ written n → st ≡ sets stream 0 (stream-of c) → ot ≡ sets offsets 0 (offsets-of c) → Yields c r st ot

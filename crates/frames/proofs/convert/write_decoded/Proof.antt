@@ -1,66 +1,49 @@
+-- The tests come in the sequence 16, 9, 10, and nothing is written before the last of them is passed.
+use native.Mathlib.Omega.{arith}
+use denote.Ref.{now}
+use Rattle.frames.proofs.ConvertLaws.{marked-wrote, bright-wrote, writable, short-wrote, done-wrote}
 use borrow.Author.Needs.{needs}
 use Rattle.frames.proofs.convert.write_decoded.Statement.{statement}
 use Rattle.frames.proofs.convert.write_decoded.Tie as tie
-use Rattle.frames.proofs.convert.write_decoded.Reads as reads
-use Rattle.frames.proofs.convert.write_decoded.Lts as lts
-use Rattle.frame_writer.proofs.measure.v2_length.Reads as v2-length-reads
-use Rattle.frame_writer.proofs.write.write_v2.Reads as write-v2-reads
-use Rattle.frames.proofs.convert.is_marked.Reads as is-marked-reads
-use Rattle.writers.proofs.Written.done.Reads as done-reads
-use Rattle.writers.proofs.Written.refused.Reads as refused-reads
-use Rattle.writers.proofs.is_too_bright.Reads as is-too-bright-reads
 
--- src/convert.rt:49:8
 is-marked-requires : tie.Need-is-marked-requires
 is-marked-requires c κs = search needs
 
--- src/convert.rt:50:9
 refused-requires : tie.Need-refused-requires
 refused-requires c κs = search needs
 
--- src/convert.rt:50:9
 returns : tie.Need-returns
-returns c = ?
+returns c = let a = c .before .before .before .before .before .before .args in marked-wrote (a .width) (a .height) (now (a .samples)) (now (a .map)) (now (a .stream)) _ (c .before .before .is-marked .ensures) _ (c .before .if1 .taken) (c .refused .ensures)
 
--- src/convert.rt:52:8
 is-too-bright-requires : tie.Need-is-too-bright-requires
 is-too-bright-requires c κs = search needs
 
--- src/convert.rt:53:9
 refused-requires-2 : tie.Need-refused-requires-2
 refused-requires-2 c κs = search needs
 
--- src/convert.rt:53:9
 returns-2 : tie.Need-returns-2
-returns-2 c = ?
+returns-2 c = let a = c .before .before .before .before .before .before .before .before .args in bright-wrote (a .width) (a .height) (now (a .samples)) (now (a .map)) (now (a .stream)) _ (c .before .before .before .before .is-marked .ensures) (c .before .before .before .if1 .left) _ (c .before .before .is-too-bright .ensures) _ (c .before .if2 .taken) (c .refused2 .ensures)
 
--- src/convert.rt:55:9
 v2-length-requires : tie.Need-v2-length-requires
-v2-length-requires c κs = ?
+v2-length-requires c κs = let s = c .before .before .before .before .before .before .before in let a = s .args in writable (a .width) (a .height) (now (a .samples)) (now (a .map)) (now (a .stream)) _ (c .before .before .before .is-marked .ensures) (c .before .before .if1 .left) _ (c .before .is-too-bright .ensures) (c .if2 .left) (s .pre)
 
--- src/convert.rt:57:9
 refused-requires-3 : tie.Need-refused-requires-3
 refused-requires-3 c κs = search needs
 
--- src/convert.rt:57:9
 returns-3 : tie.Need-returns-3
-returns-3 c = ?
+returns-3 c = let a = c .before .before .before .before .before .before .before .before .before .before .args in short-wrote (a .width) (a .height) (now (a .samples)) (now (a .map)) (now (a .stream)) _ (c .before .before .before .before .before .before .is-marked .ensures) (c .before .before .before .before .before .if1 .left) _ (c .before .before .before .before .is-too-bright .ensures) (c .before .before .before .if2 .left) _ (c .before .before .v2-length .ensures) _ (omega arith) (c .refused3 .ensures)
 
--- src/convert.rt:59:5
 write-v2-requires : tie.Need-write-v2-requires
-write-v2-requires c κs = ?
+write-v2-requires c κs = let s = c .before .before .before .before .before .before .before .before .before .before in let a = s .args in (writable (a .width) (a .height) (now (a .samples)) (now (a .map)) (now (a .stream)) _ (c .before .before .before .before .before .before .is-marked .ensures) (c .before .before .before .before .before .if1 .left) _ (c .before .before .before .before .is-too-bright .ensures) (c .before .before .before .if2 .left) (s .pre), omega (arith, c .before .before .v2-length .ensures))
 
--- src/convert.rt:60:5
 done-requires : tie.Need-done-requires
 done-requires c κs = search needs
 
--- src/convert.rt:38:1
 same-length : tie.Need-same-length
 same-length c = search needs
 
--- src/convert.rt:38:1
 returns-4 : tie.Need-returns-4
-returns-4 c = ?
+returns-4 c = let a = c .before .before .before .before .before .before .before .before .before .before .before .before .before .before .args in done-wrote (a .width) (a .height) (now (a .samples)) (now (a .map)) (now (a .stream)) _ (c .before .before .before .before .before .before .before .before .before .before .is-marked .ensures) (c .before .before .before .before .before .before .before .before .before .if1 .left) _ (c .before .before .before .before .before .before .before .before .is-too-bright .ensures) (c .before .before .before .before .before .before .before .if2 .left) _ (c .before .before .before .before .before .before .v2-length .ensures) _ _ (omega arith) (c .done .ensures) (c .before .before .before .write-v2 .ensures)
 
 pub write-decoded-spec : {M : Type 1} → statement M
 write-decoded-spec =

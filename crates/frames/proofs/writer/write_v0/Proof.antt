@@ -5,7 +5,7 @@ use denote.Ref.{now}
 use borrow.Author.Needs.{needs}
 use lib.Seq.{length-take-le}
 use Rattle.refusals.proofs.RefusalLaws.{cells-most, room}
-use Rattle.frames.proofs.WriterLaws.{writable, early-yields, bright-yields, short-yields, stream-room, table-room, done-yields}
+use Rattle.frames.proofs.WriterLaws.{writable, early-yields, bright-yields, short-yields, stream-room, done-yields}
 use Rattle.frames.proofs.writer.write_v0.Statement.{statement}
 use Rattle.frames.proofs.writer.write_v0.Tie as tie
 
@@ -52,7 +52,7 @@ slice-aggregate-write-v0 : tie.Need-slice-aggregate-write-v0
 slice-aggregate-write-v0 c = sym (length-take-le _ _ (room _ _ _ _ _ _ _ (c .before .before .before .before .before .before .before .before .before .before .before .refuse .ensures) (c .before .before .before .before .before .before .before .before .before .before .if1 .left) .samples-enough))
 
 write-v0-requires : tie.Need-write-v0-requires
-write-v0-requires c κs = let a = c .before .before .before .before .before .before .before .before .before .before .before .before .before .before .before .args in (writable (a .width) (a .height) (now (a .samples)) _ _ (c .before .before .before .before .before .before .before .before .before .before .before .refuse .ensures) (c .before .before .before .before .before .before .before .before .before .before .if1 .left) (c .before .before .before .before .before .before .before .before .is-too-bright .ensures) (c .before .before .before .before .before .before .before .if2 .left), stream-room (now (a .samples)) (a .width) (a .height) (now (a .stream)) (now (a .offsets)) _ (c .before .before .before .before .before .before .before .before .before .before .before .refuse .ensures) (c .before .before .before .before .before .before .before .before .before .before .if1 .left) _ (c .before .before .before .before .before .before .before .before .is-too-bright .ensures) (c .before .before .before .before .before .before .before .if2 .left) _ (c .before .before .before .before .before .v0-length .ensures) _ (c .before .before .before .before .is-short .ensures) (c .before .before .before .if3 .left), table-room (now (a .samples)) (a .width) (a .height) (now (a .stream)) (now (a .offsets)) _ (c .before .before .before .before .before .before .before .before .before .before .before .refuse .ensures) (c .before .before .before .before .before .before .before .before .before .before .if1 .left) _ (c .before .before .before .before .before .before .before .before .is-too-bright .ensures) (c .before .before .before .before .before .before .before .if2 .left) _ (c .before .before .before .before .before .v0-length .ensures) _ (c .before .before .before .before .is-short .ensures) (c .before .before .before .if3 .left))
+write-v0-requires c κs = let a = c .before .before .before .before .before .before .before .before .before .before .before .before .before .before .before .args in (writable (a .width) (a .height) (now (a .samples)) _ _ (c .before .before .before .before .before .before .before .before .before .before .before .refuse .ensures) (c .before .before .before .before .before .before .before .before .before .before .if1 .left) (c .before .before .before .before .before .before .before .before .is-too-bright .ensures) (c .before .before .before .before .before .before .before .if2 .left), stream-room (now (a .samples)) (a .width) (a .height) (now (a .stream)) (now (a .offsets)) _ (c .before .before .before .before .before .before .before .before .before .before .before .refuse .ensures) (c .before .before .before .before .before .before .before .before .before .before .if1 .left) _ (c .before .before .before .before .before .before .before .before .is-too-bright .ensures) (c .before .before .before .before .before .before .before .if2 .left) _ (c .before .before .before .before .before .v0-length .ensures) _ (c .before .before .before .before .is-short .ensures) (c .before .before .before .if3 .left))
 
 done-requires : tie.Need-done-requires
 done-requires c κs = search needs
