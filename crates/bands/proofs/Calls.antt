@@ -109,13 +109,13 @@ module _ (c : Call) where
 -- ── What an entry owes ──
 
 -- A refusal is answered by its number, and leaves samples and scratch as they were.
-pub refused-yields : (c : Call) (k : ℕ) → refusal c ≡ k → k ≢ 0 → (r : Answer) → r ≡ record { number = k; row = 0 }
+pub refused-yields : (c : Call) (k : ℕ) → refusal c ≡ k → k ≢ 0 → (r : Answer) → r ≡ Plain.refused k
     → Yields c r (c .samples) (c .scratch)
 unfolding answer
 refused-yields c k e ne r q =
     let some-refusal : refusal c ≢ 0 = λ z. ne (sym e ∙ z) in
     record {
-      answered = q ∙ ap (λ n. record { number = n; row = 0 }) (sym e);
+      answered = q ∙ ap Plain.refused (sym e);
       samples = sym (samples-kept c some-refusal);
       scratch = sym (scratch-kept c some-refusal);
     }
@@ -128,7 +128,7 @@ pub done-yields : (c : Call) → refusal c ≡ 0 → (r : Answer) → r ≡ Plai
 unfolding answer samples-after scratch-after
 done-yields c e r q new dirs en ed =
     record {
-      answered = q ∙ ap (λ n. record { number = n; row = 0 }) (sym e);
+      answered = q ∙ ap Plain.refused (sym e);
       samples = rw (e, en);
       scratch = ed ∙ rw e;
     }

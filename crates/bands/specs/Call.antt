@@ -56,7 +56,7 @@ refusal c =
 
 -- Every number comes with row 0, and V0 is done if none is given.
 unfoldable pub answer : Call → Answer
-answer c = record { number = refusal c; row = 0 }
+answer c = Plain.refused (refusal c)
 
 -- The samples; those from N on never change, and where a number is given none does.
 unfoldable pub samples-after : Call → List ℕ

@@ -1,10 +1,9 @@
 -- Both ways of `refill` leave enough, and one cut of what it leaves is the read.
 use mathlib.Core.Path.{_≡_, _∙_}
-use mathlib.Core.Bool.{Bool, _||_}
 use mathlib.Core.List.{List}
 use Prim.Native.Nat.{ℕ, _+_, _*_, _-_, _%_, _^_, _≤_, _<_, min}
 use native.Mathlib.Omega.{arith}
-use Rattle.rules.specs.Reader.{fetched, held, first-bits}
+use Rattle.rules.specs.Reader.{fetched, counted, held, first-bits}
 use Rattle.rules.proofs.ReaderLaws.{held-small, read-held, read-next, read-capped}
 use Rattle.rules.specs.declared.reader.Bits.{Bits}
 use Rattle.rules.specs.declared.reader.Word.{Word}
@@ -12,7 +11,7 @@ use Rattle.bits.specs.Refilled.{Enough, Whole}
 use Rattle.bits.specs.declared.Refilled.{Refilled}
 
 module _ (s : List ℕ) (b : Bits) (k h : ℕ) (few : k ≤ 32) (is : h ≡ held b) where
-  pub enough-held : k ≤ h → Enough s b k (record { words = b .word; bits = record { pos = b .pos; word = b .word; count = h; overrun = b .overrun } })
+  pub enough-held : k ≤ h → Enough s b k (record { words = b .word; bits = record { pos = b .pos; word = b .word; count = h; filler = b .filler } })
   enough-held l =
       let m : min k 32 ≡ k = omega arith in
       record {
@@ -22,8 +21,8 @@ module _ (s : List ℕ) (b : Bits) (k h : ℕ) (few : k ≤ 32) (is : h ≡ held
         whole = λ e. absurd (omega (arith, is));
       }
 
-  pub enough-next : (w : Word) (p : ℕ) (o : Bool) → h < k → w ≡ fetched s (b .pos) → w .value < 2 ^ 32 → p ≡ (b .pos + 4) % 2 ^ 64 → o ≡ b .overrun || w .missing
-      → Enough s b k (record { words = b .word * 2 ^ 32 + w .value; bits = record { pos = p; word = w .value; count = h + 32; overrun = o } })
+  pub enough-next : (w : Word) (p : ℕ) (o : ℕ) → h < k → w ≡ fetched s (b .pos) → w .value < 2 ^ 32 → p ≡ (b .pos + 4) % 2 ^ 64 → o ≡ counted (b .filler) (w .missing)
+      → Enough s b k (record { words = b .word * 2 ^ 32 + w .value; bits = record { pos = p; word = w .value; count = h + 32; filler = o } })
   enough-next w p o l ew lw ep eo =
       let m : min k 32 ≡ k = omega arith in
       record {
@@ -34,7 +33,7 @@ module _ (s : List ℕ) (b : Bits) (k h : ℕ) (few : k ≤ 32) (is : h ≡ held
       }
 
 pub read-cut : (s : List ℕ) (b : Bits) (n k : ℕ) (r : Refilled) (v : ℕ) → k ≡ min n 32 → Enough s b k r → v ≡ first-bits (r .words) (r .bits .count) k
-    → Whole s b n (record { value = v; bits = record { pos = r .bits .pos; word = r .bits .word; count = (r .bits .count - k) % 32; overrun = r .bits .overrun } })
+    → Whole s b n (record { value = v; bits = record { pos = r .bits .pos; word = r .bits .word; count = (r .bits .count - k) % 32; filler = r .bits .filler } })
 read-cut s b n k r v ek e ev =
     let c : (r .bits .count - k) % 32 ≡ r .bits .count - k = omega (arith, e .few, e .enough) in
     record { reads = rw (← read-capped s b n, ← ek, e .reads, ev, c); whole = rw ek at (e .whole) }

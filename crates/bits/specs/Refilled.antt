@@ -13,7 +13,7 @@ cut r k =
     let b = r .bits in
     record {
       value = first-bits (r .words) (b .count) k;
-      bits = record { pos = b .pos; word = b .word; count = b .count - k; overrun = b .overrun };
+      bits = record { pos = b .pos; word = b .word; count = b .count - k; filler = b .filler };
     }
 
 -- A state that holds enough for a read of k bits, and not a whole word more.

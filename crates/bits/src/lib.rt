@@ -1,9 +1,8 @@
 // The reader's core: bits of a stream of words, the state by value. Any state, any stream, any count of bits and any 64-bit
 // position is answered, by document 01's "Reader record".
-ghost use mathlib.Core.Bool.{_||_};
 ghost use mathlib.Core.Path.{_≡_};
 ghost use Prim.Native.Nat.{_+_, _*_, _/_, _%_, _^_, _≤_, _<_, min};
-ghost use Rattle.rules.specs.Reader.{fetched, held, reset-at, read, signed, read-signed, modulo, read-residual};
+ghost use Rattle.rules.specs.Reader.{fetched, counted, held, reset-at, read, signed, read-signed, modulo, read-residual};
 ghost use Rattle.bits.specs.Refilled.{Enough, Whole};
 
 pub mod four;
@@ -55,10 +54,16 @@ fn capped(n: u32) -> u32
     }
 }
 
-fn either(a: bool, b: bool) -> bool
-    ensures { λ r. ⌜ r ≡ a || b ⌝ }
+// A count of missing words after a word.
+fn count_missing(filler: u64, missing: bool) -> u64
+    ensures { λ r. ⌜ r ≡ counted filler missing ⌝ }
 {
-    a || b
+    if missing {
+        if filler < Bits::MOST_FILLER {
+            return filler + 1;
+        }
+    }
+    filler
 }
 
 // How many bits a state holds.
@@ -91,7 +96,7 @@ fn refill(src: &[u8], bits: Bits, k: u32) -> Refilled
                 pos: bits.pos,
                 word: bits.word,
                 count: have,
-                overrun: bits.overrun,
+                filler: bits.filler,
             },
         };
     }
@@ -102,7 +107,7 @@ fn refill(src: &[u8], bits: Bits, k: u32) -> Refilled
             pos: std::num::wrapping_add_u64(bits.pos, Bits::WORD_BYTES),
             word: next.value,
             count: have + Bits::WORD_BITS,
-            overrun: either(bits.overrun, next.missing),
+            filler: count_missing(bits.filler, next.missing),
         },
     }
 }
@@ -123,7 +128,7 @@ pub fn get_whole(src: &[u8], bits: Bits, n: u32) -> Got
             pos: full.pos,
             word: full.word,
             count: left % Bits::WORD_BITS,
-            overrun: full.overrun,
+            filler: full.filler,
         },
     }
 }
@@ -135,16 +140,16 @@ pub fn get(src: &[u8], bits: Bits, n: u32) -> Got
     get_whole(src, bits, n)
 }
 
-// Drops the buffered bits and goes to `pos`; an overrun stays.
+// Drops the buffered bits and goes to `pos`; the count of missing words stays.
 pub fn reset_at(bits: Bits, pos: u64) -> Bits
     ensures { λ r. ⌜ r ≡ reset-at bits pos ⌝ }
 {
-    let overrun = bits.overrun;
+    let filler = bits.filler;
     Bits {
         pos,
         word: 0,
         count: 0,
-        overrun,
+        filler,
     }
 }
 

@@ -141,8 +141,7 @@ module _ (x : Coding) (u : Unit (x .unit)) (row at : ℕ) (f f′ : List ℕ) (p
     unfolding row-bytes padded
     row-gone f″ q (e, w) =
         let n = gap (8 * x .unit) (length (row-bits x row)) in
-        let w′ : Wrote f′ p (replicate n false) f″ q = rw gap-is at w in
-        (
+        let w′ : Wrote f′ p (replicate n false) f″ q = rw gap-is at w in (
           omega (arith, e, w .grown, length-replicate (gap (8 * v) (8 * p .pos + p .count)) false, end-is),
           wrote-whole f at (padded (8 * x .unit) (row-bits x row)) f″ q e
               (rw (padded-length (8 * x .unit) (row-bits x row)) (gap-whole (length (row-bits x row)) u)) (wrote-both all w′),

@@ -24,13 +24,7 @@ fn in_units(format: Format, bits: usize) -> usize
 }
 
 // The bytes of a row.
-fn row_length(
-    samples: &[u16],
-    format: Format,
-    width: usize,
-    height: usize,
-    row: usize,
-) -> usize
+fn row_length(samples: &[u16], format: Format, width: usize, height: usize, row: usize) -> usize
     requires { ⌜ Writable format width height (now samples) × (row < height) ⌝ }
     ensures { λ r. ⌜ r ≡ length (row-bytes (coding format width height (now (samples .entry))) row) ⌝ }
 {

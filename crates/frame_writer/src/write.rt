@@ -79,13 +79,7 @@ fn write_rows(
 // ── Frames ──
 
 // Writes a V0 frame: the stream from byte 0 on, and its offsets.
-pub fn write_v0(
-    out: &mut [u8],
-    offsets: &mut [u32],
-    samples: &[u16],
-    width: usize,
-    height: usize,
-)
+pub fn write_v0(out: &mut [u8], offsets: &mut [u32], samples: &[u16], width: usize, height: usize)
     requires { ⌜ Writable Variants.V0 width height (now samples) × (length (V0.stream-for (size width height) (now samples)) ≤ length (now out)) ⌝ }
     ensures { λ _. ⌜ now (out .exit) ≡ sets (now (out .entry)) 0 (V0.stream-for (size width height) (now (samples .entry))) ⌝ }
     ensures { λ _. ⌜ now (offsets .exit) ≡ sets (now (offsets .entry)) 0 (V0.offsets-for (size width height) (now (samples .entry))) ⌝ }

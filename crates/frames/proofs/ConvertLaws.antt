@@ -76,8 +76,7 @@ module _ (w h : ℕ) (f m stream : List ℕ) where
             → (r ≡ late-answer w h f m (length stream)) × (left ≡ late-stream w h f m stream)
         unfolding late late-answer late-stream
         done-wrote r left l q e =
-            let ok : late z f m (length stream) ≡ 0 = rw (← marked, clean, ← bright, dim, ← is, le-ltb (length stream) n l) in
-            (
+            let ok : late z f m (length stream) ≡ 0 = rw (← marked, clean, ← bright, dim, ← is, le-ltb (length stream) n l) in (
               rw ok (q ∙ ap written is),
               rw ok (e ∙ sets-eq (stream-for z f) stream 0 (omega (arith, is)) ∙ ap (λ k. stream-for z f ++ drop k stream) (zero-add (length (stream-for z f)))),
             )

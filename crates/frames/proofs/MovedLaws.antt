@@ -11,7 +11,7 @@ use borrow.Author.Tests.{ltb-false, eqb-true}
 use Rattle.rules.specs.declared.answer.Answer.{Answer}
 use Rattle.rules.specs.declared.answer.Size.{Size}
 use Rattle.rules.specs.Frame.{cells}
-use Rattle.rules.specs.Answer.{done, first-of}
+use Rattle.rules.specs.Answer.{done, refused, first-of}
 use Rattle.rules.proofs.Tests.{neither}
 use Rattle.refusals.proofs.RefusalLaws.{cells-most, size-most}
 use Rattle.planes.specs.Lent.{Within, Lends}
@@ -44,8 +44,8 @@ room z read written k e q =
     }
 
 module _ (w h : ℕ) (from to : List ℕ) (k : ℕ) (e : k ≡ refusal (size w h) (length from) (length to)) where
-  pub refused-answer : (r : Answer) → r ≡ record { number = k; row = 0 } → r ≡ answer w h from to
-  refused-answer r q = q ∙ ap (λ n. record { number = n; row = 0 }) e
+  pub refused-answer : (r : Answer) → r ≡ refused k → r ≡ answer w h from to
+  refused-answer r q = q ∙ ap refused e
 
   pub refused-after : (moved : Size → List ℕ → List ℕ) → (k ≡ 0 → ⊥) → to ≡ after moved w h from to
   unfolding after
@@ -62,7 +62,7 @@ module _ (w h : ℕ) (from to : List ℕ) (k : ℕ) (e : k ≡ refusal (size w h
         record { within = r .within; read = length-take-le (w * h) from (r .read-enough); written = length-take-le (w * h) to (r .written-enough) }
 
     pub passed-answer : (r : Answer) → r ≡ done → r ≡ answer w h from to
-    passed-answer r q = q ∙ ap (λ n. record { number = n; row = 0 }) (sym ok ∙ e)
+    passed-answer r q = q ∙ ap refused (sym ok ∙ e)
 
     pub passed-after : (moved : Size → List ℕ → List ℕ) (new : List ℕ) → new ≡ moved (size w h) (take (w * h) from) → new ++ drop (w * h) to ≡ after moved w h from to
     unfolding after

@@ -9,7 +9,7 @@ use lib.ListN.{length, take, drop}
 use Rattle.rules.specs.declared.answer.Answer.{Answer}
 use Rattle.rules.specs.declared.answer.Size.{Size}
 use Rattle.rules.specs.Frame.{cells}
-use Rattle.rules.specs.Answer.{too-large, first-of}
+use Rattle.rules.specs.Answer.{refused, too-large, first-of}
 
 abbrev pub size : ℕ → ℕ → Size
 size w h = record { width = w; height = h }
@@ -19,7 +19,7 @@ unfoldable pub refusal : Size → ℕ → ℕ → ℕ
 refusal z read written = first-of (too-large z) false (ltb read (cells z) || ltb written (cells z)) false
 
 abbrev pub answer : ℕ → ℕ → List ℕ → List ℕ → Answer
-answer w h from to = record { number = refusal (size w h) (length from) (length to); row = 0 }
+answer w h from to = refused (refusal (size w h) (length from) (length to))
 
 -- What a way of moving leaves in the buffer that is written.
 unfoldable pub after : (Size → List ℕ → List ℕ) → ℕ → ℕ → List ℕ → List ℕ → List ℕ

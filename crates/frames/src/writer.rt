@@ -3,12 +3,12 @@ ghost use mathlib.Core.Path.{_≡_};
 ghost use mathlib.Core.Bool.{_||_};
 ghost use lib.Dec.{ltb};
 ghost use Rattle.writers.specs.Calls.{call, Yields};
+use frame_writer::measure::v0_length;
+use frame_writer::write;
 use refusals::Lending;
 use refusals::refuse;
 use rules::Answer;
 use rules::Size;
-use frame_writer::measure::v0_length;
-use frame_writer::write;
 use writers::Written;
 use writers::is_too_bright;
 

@@ -23,7 +23,7 @@ pub record Appends (t : List ℕ) (n : ℕ) (xs t′ : List ℕ) (r : ℕ) : Typ
 
 -- One sample of `samples-text`.
 unfoldable pub sample-text : ℕ → ℕ → List ℕ
-sample-text v m = 32 ∷ (decimal v ++ cond (eqb m 1) (42 ∷ []) [])
+sample-text v m = 32 ∷ (decimal v ++ cond (eqb m 0) [] (42 ∷ []))
 
 -- One row of `rows-text`.
 unfoldable pub row-text : ℕ → List ℕ → List ℕ → List ℕ

@@ -78,14 +78,14 @@ pub(crate) fn put_refused(text: &mut [u8], number: usize) -> usize
     put_numbered(text, b"refused ", number)
 }
 
-// A sample: a space, its value, and an asterisk where its mark is 1.
+// A sample: a space, its value, and an asterisk unless its map byte is 0.
 fn put_sample(text: &mut [u8], n: usize, value: usize, mark: u8) -> usize
     requires { ⌜ Room (now text) n (sample-text value mark) ⌝ }
     ensures { λ r. ⌜ Appends (now (text .entry)) n (sample-text value mark) (now (text .exit)) r ⌝ }
 {
     let number = put(text, n, b' ');
     let end = put_digits(text, number, 5, value);
-    if mark == 1 {
+    if mark != 0 {
         return put(text, end, b'*');
     }
     end

@@ -1,5 +1,7 @@
 // The host's reader: it borrows the stream and steps through it, thin over the core by value.
+ghost use mathlib.Core.Bool.{not};
 ghost use mathlib.Core.Path.{_≡_};
+ghost use lib.Dec.{eqb};
 ghost use Rattle.rules.specs.Reader.{fresh, read};
 ghost use Rattle.ph1bits.specs.Host.{stepped, moved};
 use rules::Bits;
@@ -18,7 +20,7 @@ impl<'a> Ph1Bits<'a> {
             pos,
             word: 0,
             count: 0,
-            overrun: false,
+            filler: 0,
         };
         Ph1Bits { data, state }
     }
@@ -39,7 +41,7 @@ impl<'a> Ph1Bits<'a> {
         self.state.pos
     }
 
-    // Drops the buffered bits and goes to `pos`; an overrun stays.
+    // Drops the buffered bits and goes to `pos`; the count of missing words stays.
     pub fn reset_at(&mut self, pos: u64)
         ensures { λ _. ⌜ now (self .exit) ≡ moved (now (self .entry)) pos ⌝ }
     {
@@ -47,10 +49,17 @@ impl<'a> Ph1Bits<'a> {
         self.state = s;
     }
 
+    // How many words were missing, at most 2^64 - 1.
+    pub fn filler(&self) -> u64
+        ensures { λ r. ⌜ r ≡ now (self .entry) .state .filler ⌝ }
+    {
+        self.state.filler
+    }
+
     // Whether a word was missing.
     pub fn overrun(&self) -> bool
-        ensures { λ r. ⌜ r ≡ now (self .entry) .state .overrun ⌝ }
+        ensures { λ r. ⌜ r ≡ not (eqb (now (self .entry) .state .filler) 0) ⌝ }
     {
-        self.state.overrun
+        self.state.filler != 0
     }
 }

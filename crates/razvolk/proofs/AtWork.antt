@@ -74,17 +74,6 @@ module _ (s offsets : List ℕ) (w h : ℕ) (samples : List ℕ) where
         learnt = record { answered = refl; samples = refl; map = refl; scratch = refl };
       })
 
-  abbrev pub two-phase-map-call : List ℕ → List ℕ → Export
-  two-phase-map-call map scratch =
-      Exports.two-phase-map
-      (record {
-        κs = ([], ([], ([], ([], ([], tt)))));
-        args = (slice s, (slice offsets, (w, (h, (slice samples, (slice map, (slice scratch, tt)))))));
-        result = answer two-phase-ask (lengths (buffers samples (some map) (some scratch)));
-        exit = (slice s, (slice offsets, (w, (h, (slice (samples-after two-phase-ask (lengths (buffers samples (some map) (some scratch))) samples), (slice (map-after two-phase-ask (lengths (buffers samples (some map) (some scratch))) map), (slice (scratch-after two-phase-ask (lengths (buffers samples (some map) (some scratch))) scratch), tt)))))));
-        learnt = record { answered = refl; samples = refl; map = refl; scratch = refl };
-      })
-
   abbrev pub v2-call : Export
   v2-call =
       Exports.v2
@@ -134,10 +123,6 @@ module _ (s offsets : List ℕ) (w h : ℕ) (samples : List ℕ) where
   unfolding returned entry
   two-phase-finds c = (refl, refl)
 
-  pub two-phase-map-finds : (m c : List ℕ) → (exported (two-phase-map-call m c) .ask ≡ two-phase-ask) × (exported (two-phase-map-call m c) .found ≡ buffers samples (some m) (some c))
-  unfolding returned entry
-  two-phase-map-finds m c = (refl, refl)
-
   pub v2-finds : (exported v2-call .ask ≡ v2-ask) × (exported v2-call .found ≡ buffers samples none none)
   unfolding returned entry
   v2-finds = (refl, refl)
@@ -184,7 +169,7 @@ two-by-two-ask = ask Answer.direct frame-stream (0 ∷ 4 ∷ []) 2 2
 
 two-by-two-marks : (Answer.marks two-by-two-ask ≡ 1 ∷ 0 ∷ 1 ∷ 0 ∷ [])
     × ((position-of two-by-two-ask 2 ≡ 1) × (amount-of two-by-two-ask 2 ≡ 0))
-unfolding Reader.fetched Reader.held Reader.read Reader.fields Reader.four Reader.signed Reader.read-signed Reader.modulo Reader.read-residual Frame.tabulate V0.fresh-row V0.operated V0.operate V0.head V0.bounded V0.predictor V0.length-of V0.length-bits V0.residual-bits V0.sample V0.samples V0.blocks V0.row-ops V0.rows V0.put V0.apply V0.swap V0.exchange-columns V0.exchange-rows V0.exchange V0.frame Map.moved Map.origins Map.position Map.amount Map.v0-map Answer.frame-marks
+unfolding Reader.fetched Reader.counted Reader.held Reader.read Reader.fields Reader.four Reader.signed Reader.read-signed Reader.modulo Reader.read-residual Frame.tabulate V0.fresh-row V0.operated V0.operate V0.head V0.bounded V0.predictor V0.length-of V0.length-bits V0.residual-bits V0.sample V0.samples V0.blocks V0.row-blocks V0.rows V0.rows-filler V0.frame-filler V0.put V0.apply V0.write V0.write-all V0.swap V0.exchange-columns V0.exchange-rows V0.exchange V0.frame Map.moved Map.origins Map.position Map.amount Map.v0-map Answer.frame-marks
 two-by-two-marks = (refl, (refl, refl))
 
 -- What the claim says of two such calls, at the end of every two lists of calls.
@@ -237,7 +222,7 @@ abbrev zeros : List ℕ
 zeros = 0 ∷ 0 ∷ 0 ∷ 0 ∷ []
 
 six-long : length (take 4 six-after-two) ≡ 4
-unfolding returned entry Reader.fetched Reader.held Reader.read Reader.fields Reader.four Reader.signed Reader.read-signed Reader.modulo Reader.read-residual Frame.tabulate V0.fresh-row V0.operated V0.operate V0.head V0.bounded V0.predictor V0.length-of V0.length-bits V0.residual-bits V0.sample V0.samples V0.blocks V0.row-ops V0.rows V0.put V0.apply V0.swap V0.exchange-columns V0.exchange-rows V0.exchange V0.frame Phases.first-rows Phases.phase-one Phases.phase-two Phases.directions Phases.scratch Phases.two-phase Answer.too-large Answer.too-small Answer.short-offsets Answer.short-samples Answer.short-map Answer.short-scratch Answer.first-of Answer.refusal Answer.frame-samples Answer.unless-refused Answer.samples-after
+unfolding returned entry Reader.fetched Reader.counted Reader.held Reader.read Reader.fields Reader.four Reader.signed Reader.read-signed Reader.modulo Reader.read-residual Frame.tabulate V0.fresh-row V0.operated V0.operate V0.head V0.bounded V0.predictor V0.length-of V0.length-bits V0.residual-bits V0.sample V0.samples V0.blocks V0.row-blocks V0.rows V0.rows-filler V0.frame-filler V0.put V0.apply V0.write V0.write-all V0.swap V0.exchange-columns V0.exchange-rows V0.exchange V0.frame Phases.first-rows Phases.phase-one Phases.phase-two Phases.directions Phases.scratch Phases.two-phase Answer.too-large Answer.too-small Answer.short-offsets Answer.short-samples Answer.short-map Answer.short-scratch Answer.first-of Answer.refusal Answer.frame-samples Answer.unless-refused Answer.samples-after
 six-long = refl
 
 -- The frame that follows leaves the same second sample in both.

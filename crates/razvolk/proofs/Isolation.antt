@@ -5,7 +5,9 @@ use Rattle.rules.proofs.Isolation.{Returned, Step}
 use Rattle.rules.proofs.Isolation as Rules
 use Rattle.samsung.proofs.Isolation.{Made, Call, returned, ended}
 use Rattle.samsung.proofs.Isolation as Entries
+use Rattle.rules.proofs.CutCalls.{calls-final}
 use Rattle.samsung.proofs.TwoPhase.{Paired, SameFrame, same-frame}
+use Rattle.samsung.proofs.CutUpload.{CutFinal}
 use Rattle.razvolk.proofs.direct.razvolk_decode_v0_reference.Kinds as direct-kinds
 use Rattle.razvolk.proofs.direct.razvolk_decode_v0_reference.Reads as direct-reads
 use Rattle.razvolk.proofs.direct.razvolk_decode_v0_reference.Statement as direct-stated
@@ -18,10 +20,6 @@ use Rattle.razvolk.proofs.two_phase.razvolk_decode_v0.Kinds as two-phas
 use Rattle.razvolk.proofs.two_phase.razvolk_decode_v0.Reads as two-phase-reads
 use Rattle.razvolk.proofs.two_phase.razvolk_decode_v0.Statement as two-phase-stated
 use Rattle.razvolk.proofs.two_phase.razvolk_decode_v0.Met as two-phase-thm
-use Rattle.razvolk.proofs.two_phase.razvolk_decode_v0_map.Kinds as two-phase-map-kinds
-use Rattle.razvolk.proofs.two_phase.razvolk_decode_v0_map.Reads as two-phase-map-reads
-use Rattle.razvolk.proofs.two_phase.razvolk_decode_v0_map.Statement as two-phase-map-stated
-use Rattle.razvolk.proofs.two_phase.razvolk_decode_v0_map.Met as two-phase-map-thm
 use Rattle.razvolk.proofs.in_bands.razvolk_decode_v0_bands.Kinds as bands-kinds
 use Rattle.razvolk.proofs.in_bands.razvolk_decode_v0_bands.Reads as bands-reads
 use Rattle.razvolk.proofs.in_bands.razvolk_decode_v0_bands.Statement as bands-stated
@@ -35,12 +33,11 @@ use Rattle.razvolk.proofs.v2.razvolk_decode_v2_map.Reads as v2-map-read
 use Rattle.razvolk.proofs.v2.razvolk_decode_v2_map.Statement as v2-map-stated
 use Rattle.razvolk.proofs.v2.razvolk_decode_v2_map.Met as v2-map-thm
 
--- A call of one of the six exported decoders whose contracts are the plain rules.
+-- A call of one of the five exported decoders whose contracts are the plain rules.
 pub data Export : Type 0 where
   direct : Made direct-kinds.ps direct-kinds.r direct-reads.Learnt → Export
   direct-map : Made direct-map-kinds.ps direct-map-kinds.r direct-map-reads.Learnt → Export
   two-phase : Made two-phase-kinds.ps two-phase-kinds.r two-phase-reads.Learnt → Export
-  two-phase-map : Made two-phase-map-kinds.ps two-phase-map-kinds.r two-phase-map-reads.Learnt → Export
   v2 : Made v2-kinds.ps v2-kinds.r v2-reads.Learnt → Export
   v2-map : Made v2-map-kinds.ps v2-map-kinds.r v2-map-reads.Learnt → Export
 
@@ -49,7 +46,6 @@ unfoldable pub entry : Export → Call
 entry (direct c) = Entries.direct (record { κs = c .κs; args = c .args; result = c .result; exit = c .exit; learnt = c .learnt })
 entry (direct-map c) = Entries.direct-map (record { κs = c .κs; args = c .args; result = c .result; exit = c .exit; learnt = c .learnt })
 entry (two-phase c) = Entries.two-phase (record { κs = c .κs; args = c .args; result = c .result; exit = c .exit; learnt = c .learnt })
-entry (two-phase-map c) = Entries.two-phase-map (record { κs = c .κs; args = c .args; result = c .result; exit = c .exit; learnt = c .learnt })
 entry (v2 c) = Entries.v2 (record { κs = c .κs; args = c .args; result = c .result; exit = c .exit; learnt = c .learnt })
 entry (v2-map c) = Entries.v2-map (record { κs = c .κs; args = c .args; result = c .result; exit = c .exit; learnt = c .learnt })
 
@@ -64,7 +60,7 @@ Banded = Made bands-kinds.ps bands-kinds.r bands-reads.Learnt
 abbrev pub banded : Banded → Entries.Banded
 banded c = record { κs = c .κs; args = c .args; result = c .result; exit = c .exit; learnt = c .learnt }
 
--- A call of one of the seven, and what it does to the sample buffer.
+-- A call of one of the six, and what it does to the sample buffer.
 pub data Any : Type 0 where
   plain : Export → Any
   in-bands : Banded → Any
@@ -89,24 +85,28 @@ Isolation = Rules.Isolation step final
 pub isolation : Isolation
 isolation = Rules.isolation step final
 
--- Two-phase equals direct, of the exports: called alike, with scratch long enough, they give the same answer, samples and marks.
+-- Two-phase equals direct, of the exports: called alike, with scratch long enough, they give the same number, row and samples.
 abbrev pub TwoPhase : Type 0
 TwoPhase = (c d : Export) → Paired (exported c) (exported d) → SameFrame (exported c) (exported d)
 
 pub two-phase-same : TwoPhase
 two-phase-same c d p = same-frame (exported c) (exported d) p
 
--- Both, beside each export's theorem that its code meets the contract that they speak of.
+-- What a cut upload shows is final, of the exports.
+pub cut-final : CutFinal final
+cut-final c d = calls-final (final c) (final d)
+
+-- All three, beside each export's theorem that its code meets the contract that they speak of.
 pub record OfTheCode (M : Type 1) : Type 2 where
   pub decode-v0-reference : direct-stated.statement M
   pub decode-v0-reference-map : direct-map-stated.statement M
   pub decode-v0 : two-phase-stated.statement M
-  pub decode-v0-map : two-phase-map-stated.statement M
   pub decode-v0-bands : bands-stated.statement M
   pub decode-v2 : v2-stated.statement M
   pub decode-v2-map : v2-map-stated.statement M
   pub isolation : Isolation
   pub two-phase-same : TwoPhase
+  pub cut-final : CutFinal final
 
 pub of-the-code : {M : Type 1} → OfTheCode M
 of-the-code =
@@ -114,10 +114,10 @@ of-the-code =
       decode-v0-reference = direct-thm.met;
       decode-v0-reference-map = direct-map-thm.met;
       decode-v0 = two-phase-thm.met;
-      decode-v0-map = two-phase-map-thm.met;
       decode-v0-bands = bands-thm.met;
       decode-v2 = v2-thm.met;
       decode-v2-map = v2-map-thm.met;
       isolation = isolation;
       two-phase-same = two-phase-same;
+      cut-final = cut-final;
     }

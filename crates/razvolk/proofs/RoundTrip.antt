@@ -11,7 +11,7 @@ use lib.Dec.{eqb}
 use lib.ListN.{length, drop}
 use borrow.Author.Tests.{eqb-true}
 use Rattle.rules.specs.declared.answer.Answer.{Answer}
-use Rattle.rules.specs.Answer.{Decoder, Ask, ask, Lent, done, refusal, stream-answer, answer, marks, map-after, lengths}
+use Rattle.rules.specs.Answer.{Decoder, Ask, ask, Lent, done, refused, refusal, stream-answer, answer, marks, map-after, lengths}
 use Rattle.rules.proofs.Cells.{All}
 use Rattle.rules.proofs.Isolation.{Returned}
 use Rattle.samsung.proofs.Isolation.{Made}
@@ -27,7 +27,7 @@ unfolding answer
 not-refused a l = go (eqb (refusal a l) 0) refl
   where
     go : (t : Bool) → eqb (refusal a l) 0 ≡ t
-        → cond {A = Answer} t (stream-answer (a .decoder) (a .stream) (a .size)) (record { number = refusal a l; row = 0 }) .number ≡ 0 → refusal a l ≡ 0
+        → cond {A = Answer} t (stream-answer (a .decoder) (a .stream) (a .offsets) (a .size)) (refused (refusal a l)) .number ≡ 0 → refusal a l ≡ 0
     go true e q = eqb-true (refusal a l) 0 e
     go false e q = q
 

@@ -12,7 +12,7 @@ pub extern "C" fn razvolk_get(src: &[u8], state: Bits, n: u32) -> Got
     bits::get(src, state, n)
 }
 
-// Drops the buffered bits and goes to `pos`; an overrun stays.
+// Drops the buffered bits and goes to `pos`; the count of missing words stays.
 #[no_mangle]
 pub extern "C" fn razvolk_reset_at(state: Bits, pos: u64) -> Bits
     ensures { λ r. ⌜ r ≡ reset-at state pos ⌝ }

@@ -1,4 +1,4 @@
-// The two-phase V0 decoder.
+// The two-phase V0 decoder. It makes no map.
 ghost use mathlib.Core.Option.{none, some};
 ghost use Rattle.rules.specs.Answer.{two-phase, ask, buffers, Yields};
 use rules::Answer;
@@ -18,22 +18,4 @@ pub extern "C" fn razvolk_decode_v0(
         r (buffers (now (samples .exit)) none (some (now (scratch .exit)))) ⌝ }
 {
     samsung::decode_v0(src, offsets, width, height, samples, scratch)
-}
-
-// The same, and which samples rest on old values. Refusals 1, 3 and 4.
-#[no_mangle]
-pub extern "C" fn razvolk_decode_v0_map(
-    src: &[u8],
-    offsets: &[u32],
-    width: usize,
-    height: usize,
-    samples: &mut [u16],
-    map: &mut [u8],
-    scratch: &mut [u8],
-) -> Answer
-    ensures { λ r. ⌜ Yields (ask two-phase (now (src .entry)) (now (offsets .entry)) width height)
-        (buffers (now (samples .entry)) (some (now (map .entry))) (some (now (scratch .entry))))
-        r (buffers (now (samples .exit)) (some (now (map .exit))) (some (now (scratch .exit)))) ⌝ }
-{
-    samsung::decode_v0_map(src, offsets, width, height, samples, map, scratch)
 }

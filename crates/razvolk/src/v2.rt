@@ -19,7 +19,7 @@ pub extern "C" fn razvolk_decode_v2(
     samsung::decode_v2(src, width, height, samples)
 }
 
-// The same, and which samples rest on old values. Refusals 1 to 8.
+// The same, and what each sample rests on: old values, filler, both or neither. Refusals 1 to 8.
 #[no_mangle]
 pub extern "C" fn razvolk_decode_v2_map(
     src: &[u8],

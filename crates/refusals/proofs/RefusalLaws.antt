@@ -80,8 +80,3 @@ scratch-fits w h p q =
     let a : (w + 15) / 16 ≤ 1_024 = omega arith in
     let b : h - 2 ≤ 16_384 = omega arith in
     mul-le-mul a b
-
--- Ones, one more.
-pub ones-more : (n : ℕ) → replicate {A = ℕ} n 1 ++ (1 ∷ []) ≡ replicate (suc n) 1
-ones-more zero = refl
-ones-more (suc n) = ap (λ l. 1 ∷ l) (ones-more n)

@@ -1,10 +1,9 @@
-// Refusals 1 to 4, tested before anything is written, and the map that starts all old.
+// Refusals 1 to 4, tested before anything is written.
 ghost use mathlib.Core.Path.{_≡_};
 ghost use mathlib.Core.Bool.{_||_};
 ghost use Prim.Native.Nat.{_≤_};
 ghost use lib.Dec.{ltb};
-ghost use lib.ListN.{length, replicate};
-ghost use Rattle.rules.specs.Answer.{v2, too-large, too-small, scratch-bytes, first-of};
+ghost use Rattle.rules.specs.Answer.{refused, v2, too-large, too-small, scratch-bytes, first-of};
 ghost use Rattle.rules.specs.Frame.{cells};
 ghost use Rattle.refusals.specs.Lending.{short};
 use rules::Answer;
@@ -18,11 +17,15 @@ pub enum Lending {
     Length(usize),
 }
 
-// A refusal of 1 to 4: its row is 0.
+// A refusal that comes before a word is read: its row is 0, and no word was missing.
 pub fn refused(number: u32) -> Answer
-    ensures { λ r. ⌜ r ≡ record { number = number; row = 0 } ⌝ }
+    ensures { λ r. ⌜ r ≡ refused number ⌝ }
 {
-    Answer { number, row: 0 }
+    Answer {
+        number,
+        row: 0,
+        filler: 0,
+    }
 }
 
 // 1: the size is above the limit.
@@ -91,15 +94,4 @@ pub fn refuse(
         return Answer::SHORT_MAP;
     }
     0
-}
-
-// At entry every sample rests on an old value.
-pub fn mark_old(map: &mut [u8])
-    ensures { λ _. ⌜ now (map .exit) ≡ replicate (length (now (map .entry))) 1 ⌝ }
-{
-    let mut i: usize = 0;
-    while i < map.len() {
-        map[i] = 1;
-        i += 1;
-    }
 }

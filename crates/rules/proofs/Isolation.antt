@@ -4,8 +4,9 @@
 -- them, each list on one buffer: a call is lent the buffer, or the part of it that starts at its first sample, as the call before
 -- left it, and nobody else writes it. What the buffers first held is free, and so is what maps and scratch hold at entry. If the
 -- last calls of the two lists are alike (in decoder, stream, offsets, size and the lengths of what they are lent) and both end
--- with done or 5 to 8, then their answers are equal; the maps' first N bytes are the rules' marks, which stream, offsets and size
--- alone set; every one of the first N samples that is marked 0 is equal; and in V0 a sample marked 1 is the sample that the call
+-- with done or 5 to 8, then their answers are equal, with the count of missing words; the maps' first N bytes are the rules', whole,
+-- which stream, offsets and size alone set; by the first part of its byte a sample is marked 0 or 1: every one of the first N
+-- samples that is marked 0 is equal; and in V0 a sample marked 1 is the sample that the call
 -- found at one position plus an amount, modulo 65,536, both set by stream, offsets and size alone.
 -- Nothing is said of samples marked 1 in V2, of what lies past N, or of calls that end with 1 to 4: those change nothing.
 use Prim.Native.Nat.{ℕ, _+_, _%_, _<_, _≤_}
@@ -22,7 +23,7 @@ use borrow.Author.Tests.{eqb-true}
 use Rattle.rules.specs.declared.answer.Answer.{Answer}
 use Rattle.rules.specs.declared.answer.Size.{Size}
 use Rattle.rules.specs.Frame.{cells}
-use Rattle.rules.specs.Map.{stream, origins, position, amount}
+use Rattle.rules.specs.Map.{old-part, stream, origins, position, amount}
 use Rattle.rules.specs.Answer.{Decoder, direct, two-phase, v2, Ask, Buffers, lengths, Yields, answer, refusal, marks, frame-samples, frame-marks, stream-answer, samples-after, map-after, unless-refused}
 use Rattle.rules.proofs.Cells.{All, all-append, all-take, all-drop}
 use Rattle.rules.proofs.Refusals.{passed, answer-passed, samples-enough}
@@ -30,7 +31,7 @@ use Rattle.rules.proofs.V0Cells as V0Cells
 use Rattle.rules.proofs.V2Cells as V2Cells
 use Rattle.rules.proofs.Origins.{position-below, marked-value, unmarked-same}
 use Rattle.rules.proofs.V2Fixed.{v2-unmarked-same}
-use Rattle.rules.proofs.TwoPhase.{two-phase-direct, two-phase-map-direct, two-phase-below}
+use Rattle.rules.proofs.TwoPhase.{two-phase-direct, two-phase-below}
 
 -- ── The statement ──
 
@@ -76,7 +77,7 @@ pub data IsV0 : Decoder → Type 0 where
 
 -- The mark, the position and the amount of sample i of a frame.
 abbrev pub mark-of : Ask → ℕ → ℕ
-mark-of a i = getD (marks a) i 0
+mark-of a i = old-part (getD (marks a) i 0)
 
 abbrev pub position-of : Ask → ℕ → ℕ
 position-of a i = position (getD (origins (a .stream) (a .offsets) (a .size)) i (stream 0))
@@ -119,7 +120,7 @@ module _ (s offsets : List ℕ) (z : Size) where
   marks-length : (k : Decoder) → length (frame-marks k s offsets z) ≡ cells z
   unfolding frame-marks
   marks-length direct = V0Cells.v0-map-length s offsets z
-  marks-length two-phase = V0Cells.two-phase-map-length s offsets z
+  marks-length two-phase = V0Cells.v0-map-length s offsets z
   marks-length v2 = V2Cells.v2-map-length s z
 
   frame-below : (k : Decoder) (f : List ℕ) → length f ≡ cells z → Samples f → Samples (frame-samples k s offsets z f)
@@ -130,12 +131,12 @@ module _ (s offsets : List ℕ) (z : Size) where
 
   -- A sample marked 0 is the same over every two old frames.
   frame-same : (k : Decoder) (f g : List ℕ) → length f ≡ cells z → length g ≡ cells z → Samples f → Samples g → (i : ℕ)
-      → getD (frame-marks k s offsets z) i 0 ≡ 0 → getD (frame-samples k s offsets z f) i 0 ≡ getD (frame-samples k s offsets z g) i 0
+      → old-part (getD (frame-marks k s offsets z) i 0) ≡ 0 → getD (frame-samples k s offsets z f) i 0 ≡ getD (frame-samples k s offsets z g) i 0
   unfolding frame-samples frame-marks
   frame-same direct f g e e′ b b′ i m = unmarked-same s offsets z f e b i g e′ b′ m
   frame-same two-phase f g e e′ b b′ i m =
       rw (two-phase-direct s offsets z f e, two-phase-direct s offsets z g e′)
-      (unmarked-same s offsets z f e b i g e′ b′ (rw (two-phase-map-direct s offsets z) at m))
+      (unmarked-same s offsets z f e b i g e′ b′ m)
   frame-same v2 f g e e′ b b′ i m = v2-unmarked-same s z f g e e′ i m
 
   -- In V0 a sample marked 1 is the old value at its position plus its amount.
@@ -145,12 +146,11 @@ module _ (s offsets : List ℕ) (z : Size) where
       × (v ≡ (getD f (position (getD (origins s offsets z) i (stream 0))) 0 + amount (getD (origins s offsets z) i (stream 0))) % 65_536)
 
   frame-old : (k : Decoder) → IsV0 k → (f : List ℕ) → length f ≡ cells z → Samples f → (i : ℕ)
-      → getD (frame-marks k s offsets z) i 0 ≡ 1 → Old (getD (frame-samples k s offsets z f) i 0) f i
+      → old-part (getD (frame-marks k s offsets z) i 0) ≡ 1 → Old (getD (frame-samples k s offsets z f) i 0) f i
   unfolding frame-samples frame-marks
   frame-old direct is-direct f e b i m = (position-below s offsets z i m, marked-value s offsets z f e b i m)
   frame-old two-phase is-two-phase f e b i m =
-      let m′ = rw (two-phase-map-direct s offsets z) at m in
-      rw (two-phase-direct s offsets z f e) (position-below s offsets z i m′, marked-value s offsets z f e b i m′)
+      rw (two-phase-direct s offsets z f e) (position-below s offsets z i m, marked-value s offsets z f e b i m)
 
 -- ── A call that ran ──
 
@@ -160,18 +160,18 @@ of-lent P f h none m e = absurd (Option·some-ne-none m e)
 of-lent P f h (some x) m e = subst P (sym (Option·some-injective m (f x) e)) (h x)
 
 module _ (c : Returned) where
-  abbrev n : ℕ
+  abbrev pub n : ℕ
   n = cells (c .ask .size)
 
   -- The frame that the call decoded, and the one that it found.
-  abbrev frame : List ℕ → List ℕ
+  abbrev pub frame : List ℕ → List ℕ
   frame f = frame-samples (c .ask .decoder) (c .ask .stream) (c .ask .offsets) (c .ask .size) f
 
-  abbrev before : List ℕ
+  abbrev pub before : List ℕ
   before = take n (c .found .samples)
 
   module _ (ok : refusal (c .ask) (lengths (c .found)) ≡ 0) where
-    before-length : length before ≡ n
+    pub before-length : length before ≡ n
     before-length = length-take-le n (c .found .samples) (samples-enough (c .ask) (lengths (c .found)) ok)
 
     frame-long : length (frame before) ≡ n
@@ -181,7 +181,7 @@ module _ (c : Returned) where
     unfolding samples-after unless-refused
     left-framed = c .yields .samples ∙ rw ok
 
-    sample-framed : (i : ℕ) → i < n → getD (c .left .samples) i 0 ≡ getD (frame before) i 0
+    pub sample-framed : (i : ℕ) → i < n → getD (c .left .samples) i 0 ≡ getD (frame before) i 0
     sample-framed i l = rw left-framed (List·getD-append (frame before) (drop n (c .found .samples)) 0 i (omega (arith, frame-long)))
 
     -- The first N bytes of a map are the rules' marks.
@@ -247,7 +247,7 @@ calls-below step h (call cs c rest e) =
 same : (c d : Returned) → Samples (c .found .samples) → Samples (d .found .samples) → Alike c d → Ran (c .answered) → Ran (d .answered) → Same c d
 same c d below below′ alike ran ran′ =
     record {
-      answers = c .yields .answered ∙ answer-passed (c .ask) (lengths (c .found)) ok ∙ ap (λ a. stream-answer (a .decoder) (a .stream) (a .size)) (alike .ask)
+      answers = c .yields .answered ∙ answer-passed (c .ask) (lengths (c .found)) ok ∙ ap (λ a. stream-answer (a .decoder) (a .stream) (a .offsets) (a .size)) (alike .ask)
           ∙ sym (d .yields .answered ∙ answer-passed (d .ask) (lengths (d .found)) ok′);
       marks-c = marked c ok below;
       marks-d = marked d ok′ below′;

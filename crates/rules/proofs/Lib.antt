@@ -1,9 +1,10 @@
 -- What follows from the rules: laws of the reader; what every kind of cell keeps; V0, its origins and its two phases; V2; answers;
--- and the claim that no earlier frame reaches a sample marked 0.
+-- the claim that no earlier frame reaches a sample marked 0; and that what a cut upload shows is final.
 pub mod Cells
 pub mod Examples
 pub mod Pins
 pub mod ReaderLaws
+pub mod Longer
 pub mod Tests
 pub mod Refusals
 pub mod Order
@@ -17,6 +18,10 @@ pub mod Stored
 pub mod SkipRule
 pub mod TwoPhase
 pub mod V0NoMarks
+pub mod FillerRule
+pub mod V0Longer
+pub mod Kept
+pub mod V0Final
 pub mod V2Cells
 pub mod V2Places
 pub mod V2References
@@ -25,4 +30,10 @@ pub mod V2Position
 pub mod V2Rows
 pub mod V2Fixed
 pub mod V2NoMarks
+pub mod V2Longer
+pub mod V2Final
+pub mod NoFiller
+pub mod Complete
+pub mod Missing
 pub mod Isolation
+pub mod CutCalls

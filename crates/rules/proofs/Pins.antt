@@ -13,6 +13,7 @@ pub mod V2Pins
 pub mod MapPins
 pub mod AnswerPins
 pub mod JobPins
+pub mod MissingPins
 use Rattle.rules.proofs.Pins.Values.{Hold}
 use Rattle.rules.proofs.Pins.ReaderPins as Reader
 use Rattle.rules.proofs.Pins.V0Pins as V0
@@ -21,6 +22,7 @@ use Rattle.rules.proofs.Pins.V2Pins as V2
 use Rattle.rules.proofs.Pins.MapPins as Map
 use Rattle.rules.proofs.Pins.AnswerPins as Answer
 use Rattle.rules.proofs.Pins.JobPins as Job
+use Rattle.rules.proofs.Pins.MissingPins as Missing
 
 -- The examples of a file of specs/.
 pub record Section : Type 0 where
@@ -36,6 +38,7 @@ sections =
     ∷ record { examples = Map.examples; hold = Map.examples-hold }
     ∷ record { examples = Answer.examples; hold = Answer.examples-hold }
     ∷ record { examples = Job.examples; hold = Job.examples-hold }
+    ∷ record { examples = Missing.examples; hold = Missing.examples-hold }
     ∷ []
 
 unfoldable pub all-of : List Section → List Example

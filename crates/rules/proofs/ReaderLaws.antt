@@ -1,6 +1,6 @@
 -- What a reader of the rules may expect of the reader record. Only this file opens its definitions.
 use mathlib.Core.Path.{_≡_, refl, sym, ap, _∙_}
-use mathlib.Core.Bool.{Bool, true, false, cond, _||_}
+use mathlib.Core.Bool.{Bool, true, false, cond}
 use mathlib.Core.List.{List, [], _∷_, _++_}
 use Prim.Native.Nat.{ℕ, zero, suc, _+_, _*_, _-_, _/_, _%_, _^_, _≤_, _<_, min}
 use native.Mathlib.Nat.{div-one, mod-eq-of-lt, one-mul, zero-mul, mul-assoc, mul-add-mod-self-right, div-eq-of-lt, div-eq-of-lt-le, mod-le, mod-lt}
@@ -12,7 +12,7 @@ use lib.Pow.{pow-pos, pow-mono, pow-add, high, field, shr-shr, mod-mod-pow}
 use lib.Seq.{getD-take, take-take}
 use lib.Signed.{mag}
 use borrow.Author.Tests.{le-leb, lt-leb, lt-ltb, le-ltb, ltb-true, ltb-false, leb-true, leb-false}
-use Rattle.rules.specs.Reader.{word-at, fetched, held, from-held, from-next, read, fields, four, signed, read-signed, modulo, read-residual}
+use Rattle.rules.specs.Reader.{word-at, fetched, most-filler, counted, held, from-held, from-next, read, fields, four, signed, read-signed, modulo, read-residual}
 use Rattle.rules.specs.declared.reader.Bits.{Bits}
 use Rattle.rules.specs.declared.reader.Got.{Got}
 use Rattle.rules.specs.declared.reader.Word.{Word}
@@ -65,6 +65,27 @@ pub held-none : (b : Bits) → 32 ≤ b .count → held b ≡ 0
 unfolding held
 held-none b h = simp (le-ltb (b .count) 32 h)
 
+-- ── Missing words ──
+
+-- What a count becomes: the same after a word that was there, one more after a missing one, and the greatest stays.
+pub counted-there : (n : ℕ) → counted n false ≡ n
+unfolding counted
+counted-there n = refl
+
+pub counted-missing : (n : ℕ) → n < most-filler → counted n true ≡ n + 1
+unfolding counted
+counted-missing n l = omega arith
+
+pub counted-held : (n : ℕ) → n < 2 ^ 64 → most-filler ≤ n → counted n true ≡ n
+unfolding counted
+counted-held n l m = omega arith
+
+-- A count that is 0 after a word was 0 before it, and the word was there.
+pub counted-zero : (n : ℕ) (missing : Bool) → counted n missing ≡ 0 → (n ≡ 0) × (missing ≡ false)
+unfolding counted
+counted-zero n true e = absurd (omega arith)
+counted-zero n false e = (e, refl)
+
 -- ── Reading ──
 
 pub read-held : (s : List ℕ) (b : Bits) (n : ℕ) → min n 32 ≤ held b → read s b n ≡ from-held b (min n 32)
@@ -103,7 +124,7 @@ read-below s b n =
     read-either (λ g. g .value < 2 ^ min n 32) s b n (λ h. mod-lt _ (pow-pos (min n 32))) (λ h. mod-lt _ (pow-pos (min n 32)))
 
 -- A read of 0 bits gives 0 and fetches nothing.
-pub read-zero : (s : List ℕ) (b : Bits) → read s b 0 ≡ record { value = 0; bits = record { pos = b .pos; word = b .word; count = held b; overrun = b .overrun } }
+pub read-zero : (s : List ℕ) (b : Bits) → read s b 0 ≡ record { value = 0; bits = record { pos = b .pos; word = b .word; count = held b; filler = b .filler } }
 read-zero s b =
     let k : min 0 32 ≡ 0 = omega arith in
     let c : held b - 0 ≡ held b = omega arith in
@@ -114,14 +135,11 @@ read-zero s b =
 pub read-none : (s : List ℕ) (b : Bits) → b .count < 32 → read s b 0 ≡ record { value = 0; bits = b }
 read-none s b h = rw (read-zero s b, held-is b h)
 
--- Overrun is never cleared by a read.
-pub read-kept : (s : List ℕ) (b : Bits) (n : ℕ) → read s b n .bits .overrun ≡ false → b .overrun ≡ false
+-- A count of missing words is never set back to 0 by a read.
+pub read-kept : (s : List ℕ) (b : Bits) (n : ℕ) → read s b n .bits .filler ≡ 0 → b .filler ≡ 0
 read-kept s b n =
-    read-either (λ g. g .bits .overrun ≡ false → b .overrun ≡ false) s b n (λ h e. e) (λ h. first (b .overrun) (fetched s (b .pos) .missing))
-  where
-    first : (x y : Bool) → x || y ≡ false → x ≡ false
-    first true y e = e
-    first false y e = refl
+    read-either (λ g. g .bits .filler ≡ 0 → b .filler ≡ 0) s b n (λ h e. e)
+    (λ h e. counted-zero (b .filler) (fetched s (b .pos) .missing) e .0)
 
 -- The same state read on streams that agree in their first q bytes, where the word that it may fetch lies below q.
 pub read-agree : (s t : List ℕ) (b : Bits) (n q : ℕ) → take q s ≡ take q t → q ≤ length s → q ≤ length t → b .pos + 4 ≤ q → read s b n ≡ read t b n
@@ -139,15 +157,11 @@ fetched-prefix s p at l m = go (leb (at + 4) p) refl
     go true e = fetched-agree (take p s) s p at (take-take p p s (omega arith)) (omega (arith, len)) l (leb-true (at + 4) p e)
     go false e = cc (fetched-missing (take p s) at (omega (arith, len, leb-false (at + 4) p e)))
 
--- A read of the first p bytes of a stream that ends without overrun is the read of the whole stream.
-pub read-prefix : (s : List ℕ) (p : ℕ) (b : Bits) (n : ℕ) → p ≤ length s → read (take p s) b n .bits .overrun ≡ false → read (take p s) b n ≡ read s b n
+-- A read of the first p bytes of a stream after which no word was missing is the read of the whole stream.
+pub read-prefix : (s : List ℕ) (p : ℕ) (b : Bits) (n : ℕ) → p ≤ length s → read (take p s) b n .bits .filler ≡ 0 → read (take p s) b n ≡ read s b n
 read-prefix s p b n l =
-    read-either (λ g. g .bits .overrun ≡ false → g ≡ read s b n) (take p s) b n (λ h e. sym (read-held s b n h))
-    (λ h e. rw (fetched-prefix s p (b .pos) l (second (b .overrun) (fetched (take p s) (b .pos) .missing) e)) (sym (read-next s b n h)))
-  where
-    second : (x y : Bool) → x || y ≡ false → y ≡ false
-    second true y e = cc
-    second false y e = e
+    read-either (λ g. g .bits .filler ≡ 0 → g ≡ read s b n) (take p s) b n (λ h e. sym (read-held s b n h))
+    (λ h e. rw (fetched-prefix s p (b .pos) l (counted-zero (b .filler) (fetched (take p s) (b .pos) .missing) e .1)) (sym (read-next s b n h)))
 
 -- ── A read split in two ──
 
@@ -295,12 +309,12 @@ unfolding fields
 fields-pos s [] b = omega arith
 fields-pos s (n ∷ ns) b = omega (arith, read-pos s b n, fields-pos s ns (read s b n .bits))
 
-pub fields-kept : (s : List ℕ) (ns : List ℕ) (b : Bits) → fields s ns b .bits .overrun ≡ false → b .overrun ≡ false
+pub fields-kept : (s : List ℕ) (ns : List ℕ) (b : Bits) → fields s ns b .bits .filler ≡ 0 → b .filler ≡ 0
 unfolding fields
 fields-kept s [] b e = e
 fields-kept s (n ∷ ns) b e = read-kept s b n (fields-kept s ns (read s b n .bits) e)
 
-pub fields-prefix : (s : List ℕ) (p : ℕ) (ns : List ℕ) (b : Bits) → p ≤ length s → fields (take p s) ns b .bits .overrun ≡ false
+pub fields-prefix : (s : List ℕ) (p : ℕ) (ns : List ℕ) (b : Bits) → p ≤ length s → fields (take p s) ns b .bits .filler ≡ 0
     → fields (take p s) ns b ≡ fields s ns b
 unfolding fields
 fields-prefix s p [] b l e = refl

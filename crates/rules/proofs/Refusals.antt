@@ -19,8 +19,9 @@ use Rattle.rules.specs.declared.v2.V2Row.{V2Row}
 use Rattle.rules.specs.declared.v2.V2Block.{V2Block}
 use Rattle.rules.specs.declared.v2.V2Block.the-variants.{Next, EarlyMotion, Outside, LongDifference}
 use Rattle.rules.specs.Frame.{cells}
+use Rattle.rules.specs.V0.{frame-filler}
 use Rattle.rules.specs.V2.{Block, Row, read-block, then, blocks, read-row, rows, read-frame, aligned, fresh-row, fresh-mode, header}
-use Rattle.rules.specs.Answer.{done, Decoder, direct, two-phase, v2, Ask, Lent, Buffers, Yields, too-large, too-small, short-offsets, short-samples, short-map, scratch-bytes, short-scratch, first-of, refusal, stream-answer, answer, unless-refused, samples-after, map-after, scratch-after}
+use Rattle.rules.specs.Answer.{done-with, refused, Decoder, direct, two-phase, v2, Ask, Lent, Buffers, Yields, too-large, too-small, short-offsets, short-samples, short-map, scratch-bytes, short-scratch, first-of, refusal, stream-answer, answer, unless-refused, samples-after, map-after, scratch-after}
 use Rattle.rules.proofs.Cells.{All, nil, more, all-get}
 use Rattle.rules.proofs.Tests.{clash, neither}
 use Rattle.rules.proofs.V2Rows.{then-rows-cases}
@@ -105,12 +106,12 @@ module _ (a : Ask) (l : Lent) where
 
   -- ── Answers ──
 
-  -- A refusal is answered with its number and row 0; else the stream answers.
-  pub answer-refused : 1 ≤ refusal a l → answer a l ≡ record { number = refusal a l; row = 0 }
+  -- A refusal is answered with its number, row 0 and no missing word; else the stream answers.
+  pub answer-refused : 1 ≤ refusal a l → answer a l ≡ refused (refusal a l)
   unfolding answer
   answer-refused h = rw (ne-eqb (refusal a l) 0 (λ e. omega arith))
 
-  pub answer-passed : refusal a l ≡ 0 → answer a l ≡ stream-answer (a .decoder) (a .stream) (a .size)
+  pub answer-passed : refusal a l ≡ 0 → answer a l ≡ stream-answer (a .decoder) (a .stream) (a .offsets) (a .size)
   unfolding answer
   answer-passed e = rw e
 
@@ -211,7 +212,7 @@ yields-once p q = (
 
 -- Done, or one of 5 to 8 with a row of the frame.
 pub data Ending (height : ℕ) (a : Answer) : Type 0 where
-  accepted : a ≡ done → Ending height a
+  accepted : a ≡ done-with (a .filler) → Ending height a
   stopped : 5 ≤ a .number → a .number ≤ 8 → a .row < height → Ending height a
 
 -- A row that is refused is refused with 5, 6 or 7.
@@ -230,18 +231,22 @@ blocks-number s h w row (suc k) col b st mode =
     go (Outside b) x rest r e = (lit≤ tt, lit≤ tt)
     go (LongDifference b) x rest r e = (lit≤ tt, lit≤ tt)
 
+row-early : (s : List ℕ) (h : V2Hdr) (w row : ℕ) (b : Bits) → (let q = read-row s h w row b in q .number ≢ 0 → (5 ≤ q .number) × (q .number ≤ 7))
+unfolding read-row
+row-early s h w row b = blocks-number s h w row (w / 16) 0 (aligned b) fresh-row (fresh-mode row)
+
 rows-ending : (s : List ℕ) (h : V2Hdr) (w k row : ℕ) (b : Bits) → Ending (row + k) (rows s h w k row b .answer)
-unfolding rows read-row
+unfolding rows
 rows-ending s h w zero row b = accepted refl
 rows-ending s h w (suc k) row b =
     let q = read-row s h w row b in
     let below : row < row + suc k = omega arith in
     then-rows-cases (λ x. Ending (row + suc k) (x .answer)) row q (rows s h w k (suc row) (q .bits))
-    (λ e. refused (blocks-number s h w row (w / 16) 0 (aligned b) fresh-row (fresh-mode row) e)) (λ e. stopped (lit≤ tt) (lit≤ tt) below)
-    (λ e. later (rows-ending s h w k (suc row) (q .bits)))
+    (λ e. early (row-early s h w row b e)) (λ e m. stopped (lit≤ tt) (lit≤ tt) below)
+    (λ e m. later (rows-ending s h w k (suc row) (q .bits)))
   where
-    refused : {m : ℕ} → (5 ≤ m) × (m ≤ 7) → Ending (row + suc k) (record { number = m; row = row })
-    refused p = stopped (p .0) (omega arith) (omega arith)
+    early : {m k′ : ℕ} → (5 ≤ m) × (m ≤ 7) → Ending (row + suc k) (record { number = m; row = row; filler = k′ })
+    early p = stopped (p .0) (omega arith) (omega arith)
 
     later : {a : Answer} → Ending (suc row + k) a → Ending (row + suc k) a
     later (accepted e) = accepted e
@@ -255,30 +260,61 @@ v2-ending s z =
     rw e at (rows-ending s (x .hdr) (z .width) (z .height) 0 (x .bits))
 
 -- The answer of a call that was not refused is done, or in V2 one of 5 to 8 with a row of the frame.
-pub stream-ending : (k : Decoder) (s : List ℕ) (z : Size) → Ending (z .height) (stream-answer k s z)
+pub stream-ending : (k : Decoder) (s offsets : List ℕ) (z : Size) → Ending (z .height) (stream-answer k s offsets z)
 unfolding stream-answer
-stream-ending direct s z = accepted refl
-stream-ending two-phase s z = accepted refl
-stream-ending v2 s z = v2-ending s z
+stream-ending direct s offsets z = accepted refl
+stream-ending two-phase s offsets z = accepted refl
+stream-ending v2 s offsets z = v2-ending s z
 
 module _ (a : Ask) (l : Lent) where
   -- Every call is answered with done or one of 1 to 8.
   pub answer-most : answer a l .number ≤ 8
   unfolding answer
-  answer-most = go (eqb (refusal a l) 0) (stream-ending (a .decoder) (a .stream) (a .size))
+  answer-most = go (eqb (refusal a l) 0) (stream-ending (a .decoder) (a .stream) (a .offsets) (a .size))
     where
-      go : (t : Bool) {x : Answer} → Ending (a .size .height) x → cond t x (record { number = refusal a l; row = 0 }) .number ≤ 8
+      go : (t : Bool) {x : Answer} → Ending (a .size .height) x → cond t x (refused (refusal a l)) .number ≤ 8
       go true (accepted e) = rw e (lit≤ tt)
       go true (stopped l m h) = m
       go false e = omega (arith, refusal-least a l .most)
 
-  -- An answer of 1 to 4 is the refusal, with row 0.
-  pub answer-early : 1 ≤ answer a l .number → answer a l .number ≤ 4 → answer a l ≡ record { number = refusal a l; row = 0 }
+  -- An answer of 1 to 4 is the refusal, with row 0 and no missing word.
+  pub answer-early : 1 ≤ answer a l .number → answer a l .number ≤ 4 → answer a l ≡ refused (refusal a l)
   unfolding answer
-  answer-early = go (eqb (refusal a l) 0) (stream-ending (a .decoder) (a .stream) (a .size))
+  answer-early = go (eqb (refusal a l) 0) (stream-ending (a .decoder) (a .stream) (a .offsets) (a .size))
     where
       go : (t : Bool) {x : Answer} → Ending (a .size .height) x
-          → (let y = cond t x (record { number = refusal a l; row = 0 }) in 1 ≤ y .number → y .number ≤ 4 → y ≡ record { number = refusal a l; row = 0 })
+          → (let y = cond t x (refused (refusal a l)) in 1 ≤ y .number → y .number ≤ 4 → y ≡ refused (refusal a l))
       go true (accepted e) o f = absurd (let q = rw e at o in omega arith)
       go true (stopped l m h) o f = absurd (omega arith)
       go false e o f = refl
+
+-- ── Missing words ──
+
+-- The two V0 decoders' answers differ in the count alone.
+pub two-phase-answer : (s offsets : List ℕ) (z : Size) → stream-answer two-phase s offsets z ≡ done-with 0
+unfolding stream-answer
+two-phase-answer s offsets z = refl
+
+pub direct-answer : (s offsets : List ℕ) (z : Size) → stream-answer direct s offsets z ≡ done-with (frame-filler s offsets z)
+unfolding stream-answer
+direct-answer s offsets z = refl
+
+-- A count that refusal 8 and done come with.
+abbrev Missing : Answer → Type 0
+Missing a = (a .number ≡ 8 → a .filler ≢ 0) × (a .number ≡ 0 → a .filler ≡ 0)
+
+rows-missing : (s : List ℕ) (h : V2Hdr) (w k row : ℕ) (b : Bits) → (k ≡ 0 → b .filler ≡ 0) → Missing (rows s h w k row b .answer)
+unfolding rows
+rows-missing s h w zero row b z = (λ e. absurd (let q : 0 ≡ 8 = e in omega arith), λ e. z refl)
+rows-missing s h w (suc k) row b z =
+    let q = read-row s h w row b in
+    then-rows-cases (λ x. Missing (x .answer)) row q (rows s h w k (suc row) (q .bits))
+    (λ e. (λ m. absurd (let l = row-early s h w row b e in omega arith), λ m. absurd (e m)))
+    (λ e m. (λ f. m, λ f. absurd (let q : 8 ≡ 0 = f in omega arith))) (λ e m. rows-missing s h w k (suc row) (q .bits) (λ f. m))
+
+-- Refusal 8 comes with a count above 0, and done with count 0.
+pub v2-missing : (s : List ℕ) (z : Size) → 1 ≤ z .height → Missing (read-frame s z .answer)
+unfolding read-frame
+v2-missing s z l =
+    let x = header s in
+    rows-missing s (x .hdr) (z .width) (z .height) 0 (x .bits) (λ e. absurd (omega arith))

@@ -311,8 +311,8 @@ module _ (s : List ℕ) (h : V2Hdr) (w : ℕ) (deep : h .depth ≤ 16) (small : 
   rows-sound (suc k) row b =
       let q = read-row s h w row b in
       let this : All Sound (q .blocks) = blocks-sound row (w / 16) 0 (aligned b) fresh-row (fresh-mode row) scale-starts (omega arith) in
-      then-rows-cases (λ x. All Sound (x .blocks)) row q (rows s h w k (suc row) (q .bits)) (λ e. this) (λ e. this)
-      (λ e. all-append Sound this (rows-sound k (suc row) (q .bits)))
+      then-rows-cases (λ x. All Sound (x .blocks)) row q (rows s h w k (suc row) (q .bits)) (λ e. this) (λ e m. this)
+      (λ e m. all-append Sound this (rows-sound k (suc row) (q .bits)))
 
 -- Each block of a frame of width at most 16,384 has its scale in −512..4,605 and its differences in −65,536..65,535.
 pub frame-sound : (s : List ℕ) (z : Size) → z .width ≤ 16_384 → All Sound (read-frame s z .blocks)

@@ -1,4 +1,4 @@
--- Document 01, "The map": an accepted V2 frame of a width divisible by 16 has no 1. Its blocks follow one another without a gap
+-- Document 01, "The map": an accepted V2 frame of a width divisible by 16 has no 1, by the first part of the map's bytes. Its blocks follow one another without a gap
 -- from the first sample to the last, and each reads only before itself.
 use Prim.Native.Nat.{ℕ, zero, suc, _+_, _-_, _*_, _/_, _%_, _<_, _≤_, max}
 use mathlib.Core.Bool.{Bool, true, false, cond}
@@ -8,7 +8,7 @@ use mathlib.Core.List.{List, [], _∷_, _++_}
 use native.Mathlib.Omega.{arith}
 use native.Mathlib.Decide.{ℕ-discrete}
 use native.Mathlib.Nat.{mul-comm, add-zero}
-use lib.ListN.{length, getD, set, length-set, length-replicate}
+use lib.ListN.{length, getD, set, replicate, length-set, length-replicate}
 use lib.Seq.{sets, getD-set-same, getD-set-other, length-sets}
 use lib.Dec.{ltb, eqb}
 use borrow.Author.Tests.{ltb-false, le-ltb, eqb-false}
@@ -19,10 +19,13 @@ use Rattle.rules.specs.declared.v2.V2Row.{V2Row}
 use Rattle.rules.specs.declared.v2.V2Block.{V2Block}
 use Rattle.rules.specs.declared.v2.V2Block.the-variants.{Next, EarlyMotion, Outside, LongDifference}
 use Rattle.rules.specs.Frame.{cells, tabulate}
-use Rattle.rules.specs.V2.{Base, given, copied, averaged, motion-averages, repeated, referred, base, refers-before, base-refusal, Block, Parsed, read-block, Row, then, blocks, fresh-row, fresh-mode, aligned, read-row, rows, read-frame, header, base-cell, block-cells, apply, frame}
-use Rattle.rules.specs.Map.{v2-marks, v2-map, all-old}
+use Rattle.rules.specs.V2.{Kind, Base, given, copied, averaged, motion-averages, repeated, referred, base, refers-before, base-refusal, Block, Parsed, read-block, Row, then, blocks, fresh-row, fresh-mode, aligned, read-row, rows, read-frame, header, base-cell, block-cells, write, apply, frame}
+use Rattle.rules.specs.Map.{old-part, either-part, v2-marks, v2-map, all-old}
 use Rattle.rules.specs.Answer.{v2, Ask, Lent, stream-answer, answer, frame-marks, marks}
 use Rattle.rules.specs.Ranges.{reference-5}
+use Rattle.rules.proofs.Cells.{Each, none, both, each-get}
+use Rattle.rules.proofs.V0NoMarks.{all-joined}
+use Rattle.rules.proofs.V2Cells.{Joined, frame-joined, write-plain}
 use Rattle.rules.proofs.Refusals.{passed, answer-passed, v2-size-least}
 use Rattle.rules.proofs.V2Rows.{then-rows-cases}
 use Rattle.rules.proofs.V2Places.{further, reference-is, reference-before}
@@ -50,7 +53,26 @@ chain-le : {n m : ℕ} {bs : List Block} → Chain n bs m → n ≤ m
 chain-le stop = omega arith
 chain-le (link at before c) = let q = chain-le c in omega arith
 
--- The first n bytes are 0.
+-- The first part alone, which filler leaves as it is.
+abbrev pub old-kind : Kind ℕ
+old-kind = record { constant = λ v. 0; average = max; adjust = λ scale d a. a; filled = λ a. a }
+
+abbrev pub Old : ℕ → ℕ → Type 0
+Old a b = old-part a ≡ b
+
+old-joined : Joined Old v2-marks old-kind
+unfolding either-part
+old-joined = record { constant = λ v. refl; average = averages; adjust = λ scale d a b e. e; filled = λ a b e. omega arith }
+  where
+    averages : (a b a′ b′ : ℕ) → Old a b → Old a′ b′ → (max (a % 2) (a′ % 2) + 2 * max (a / 2) (a′ / 2)) % 2 ≡ max b b′
+    averages a b a′ b′ e e′ = omega arith
+
+-- A map of first parts alone is what every map's first parts are.
+pub v2-first-parts : (s : List ℕ) (z : Size) → Each Old (v2-map s z) (frame old-kind s z (all-old z))
+unfolding v2-map
+v2-first-parts s z = frame-joined Old v2-marks old-kind old-joined s z (all-joined (cells z))
+
+-- The first n marks are 0.
 abbrev Zero : ℕ → List ℕ → Type 0
 Zero n f = (i : ℕ) → i < n → getD f i 0 ≡ 0
 
@@ -69,18 +91,19 @@ sets-zero (suc k) i g n f l e z =
         go (yes r) = rw r (getD-set-same f n (g i) 0 (omega arith) ∙ e i (omega arith))
         go (no r) = getD-set-other f n j (g i) 0 r ∙ z j (omega arith)
 
-base-zero : (n : ℕ) (f : List ℕ) → Zero n f → (b : Base) → Before n b → base-cell v2-marks f b ≡ 0
+base-zero : (n : ℕ) (f : List ℕ) → Zero n f → (b : Base) → Before n b → base-cell old-kind f b ≡ 0
 unfolding base-cell
 base-zero n f z (given v) p = refl
 base-zero n f z (copied q) p = z q p
 base-zero n f z (averaged q r) p = ap₂ max (z q (p .0)) (z r (p .1))
 
-chain-zero : {n m : ℕ} {bs : List Block} → Chain n bs m → (f : List ℕ) → m ≤ length f → Zero n f → Zero m (apply v2-marks bs f)
+chain-zero : {n m : ℕ} {bs : List Block} → Chain n bs m → (f : List ℕ) → m ≤ length f → Zero n f → Zero m (apply old-kind bs f)
 unfolding apply block-cells
 chain-zero stop f l z = z
 chain-zero (link {n = n} {b = b} at before c) f l z =
-    chain-zero c (sets f (b .place) (block-cells v2-marks f b)) (rw length-sets l)
-    (rw at (sets-zero 16 0 (λ i. base-cell v2-marks f (b .base i)) n f (let q = chain-le c in omega arith) (λ i h. base-zero n f z (b .base i) (before i h)) z))
+    rw (write-plain old-kind (λ a. refl) b f)
+    (chain-zero c (sets f (b .place) (block-cells old-kind f b)) (rw length-sets l)
+    (rw at (sets-zero 16 0 (λ i. base-cell old-kind f (b .base i)) n f (let q = chain-le c in omega arith) (λ i h. base-zero n f z (b .base i) (before i h)) z)))
 
 -- ── A block reads before itself ──
 
@@ -165,8 +188,8 @@ module _ (s : List ℕ) (h : V2Hdr) (w : ℕ) (wide : 20 ≤ w) where
   rows-chain whole (suc k) row b =
       let q = read-row s h w row b in
       then-rows-cases (λ x. x .answer .number ≡ 0 → Chain (row * w) (x .blocks) ((row + suc k) * w)) row q (rows s h w k (suc row) (q .bits))
-      (λ r e. absurd (r e)) (λ r e. absurd (let z : 8 ≡ 0 = e in omega arith))
-      (λ r e. rw on (chain-append (this r) (rows-chain whole k (suc row) (q .bits) e)))
+      (λ r e. absurd (r e)) (λ r m e. absurd (let z : 8 ≡ 0 = e in omega arith))
+      (λ r m e. rw on (chain-append (this r) (rows-chain whole k (suc row) (q .bits) e)))
     where
       on : row + suc k ≡ suc row + k
       on = omega arith
@@ -178,16 +201,17 @@ module _ (s : List ℕ) (h : V2Hdr) (w : ℕ) (wide : 20 ≤ w) where
 
 -- An accepted V2 frame of a width divisible by 16, from 32 on, has no 1.
 pub v2-unmarked : (s : List ℕ) (z : Size) → 20 ≤ z .width → z .width % 16 ≡ 0 → read-frame s z .answer .number ≡ 0
-    → (i : ℕ) → i < cells z → getD (v2-map s z) i 0 ≡ 0
+    → (i : ℕ) → i < cells z → old-part (getD (v2-map s z) i 0) ≡ 0
 unfolding v2-map frame read-frame
 v2-unmarked s z wide whole done i l =
     let x = header s in
-    chain-zero (rows-chain s (x .hdr) (z .width) wide whole (z .height) 0 (x .bits) done) (all-old z)
+    each-get Old (v2-first-parts s z) i 0 0 refl
+    ∙ chain-zero (rows-chain s (x .hdr) (z .width) wide whole (z .height) 0 (x .bits) done) (all-old z)
     (rw length-replicate (omega (arith, mul-comm (z .width) (z .height)))) (λ j h. absurd (omega arith)) i (omega (arith, mul-comm (z .width) (z .height)))
 
 -- So every V2 call that is accepted at such a width has no 1: refusal 2 keeps smaller frames out.
 pub accepted-unmarked : (a : Ask) (l : Lent) → a .decoder ≡ v2 → a .size .width % 16 ≡ 0 → answer a l .number ≡ 0
-    → (i : ℕ) → i < cells (a .size) → getD (marks a) i 0 ≡ 0
+    → (i : ℕ) → i < cells (a .size) → old-part (getD (marks a) i 0) ≡ 0
 unfolding stream-answer frame-marks
 accepted-unmarked a l is-v2 whole e =
     let ok = passed a l (inl e) in

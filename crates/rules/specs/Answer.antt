@@ -17,9 +17,16 @@ use Rattle.rules.specs.Map as Map
 
 -- ── A call ──
 
--- Done is number 0, row 0.
+-- Done is number 0, row 0; with it goes how many words were missing.
+abbrev pub done-with : ℕ → Answer
+done-with n = record { number = 0; row = 0; filler = n }
+
 abbrev pub done : Answer
-done = record { number = 0; row = 0 }
+done = done-with 0
+
+-- A refusal that comes before a word is read has row 0, and no word was missing.
+abbrev pub refused : ℕ → Answer
+refused n = record { number = n; row = 0; filler = 0 }
 
 -- The three decoders.
 pub data Decoder : Type 0 where
@@ -91,16 +98,16 @@ refusal a l =
 
 -- ── What a call answers ──
 
--- What the stream answers once 1 to 4 are passed: V0 is always done, V2 may meet 5 to 8.
-unfoldable pub stream-answer : Decoder → List ℕ → Size → Answer
-stream-answer direct s z = done
-stream-answer two-phase s z = done
-stream-answer v2 s z = V2.read-frame s z .answer
+-- What the stream answers once 1 to 4 are passed: V0 is always done, and its direct decoder alone counts missing words; V2 may
+-- meet 5 to 8.
+unfoldable pub stream-answer : Decoder → List ℕ → List ℕ → Size → Answer
+stream-answer direct s offsets z = done-with (V0.frame-filler s offsets z)
+stream-answer two-phase s offsets z = done
+stream-answer v2 s offsets z = V2.read-frame s z .answer
 
--- The row of refusals 1 to 4 is 0.
 unfoldable pub answer : Ask → Lent → Answer
 answer a l =
-    cond (eqb (refusal a l) 0) (stream-answer (a .decoder) (a .stream) (a .size)) (record { number = refusal a l; row = 0 })
+    cond (eqb (refusal a l) 0) (stream-answer (a .decoder) (a .stream) (a .offsets) (a .size)) (refused (refusal a l))
 
 -- ── What a call leaves ──
 
@@ -110,10 +117,10 @@ frame-samples direct s offsets z f = V0.decoded s offsets z f
 frame-samples two-phase s offsets z f = Phases.two-phase s offsets z f
 frame-samples v2 s offsets z f = V2.decoded s z f
 
--- The frame's marks, by the rules, whether a map is lent or not.
+-- The frame's map by the rules, whether one is lent or not; the two-phase decoder is lent none, and its samples are the direct one's.
 unfoldable pub frame-marks : Decoder → List ℕ → List ℕ → Size → List ℕ
 frame-marks direct s offsets z = Map.v0-map s offsets z
-frame-marks two-phase s offsets z = Map.two-phase-map s offsets z
+frame-marks two-phase s offsets z = Map.v0-map s offsets z
 frame-marks v2 s offsets z = Map.v2-map s z
 
 abbrev pub marks : Ask → List ℕ

@@ -1,7 +1,6 @@
 -- Document 01, "Promises and proved examples": the lines marked P, as one list. `proofs/Examples.antt` proves the one claim, that
 -- in each what the rules give is what the document states.
 use Prim.Native.Nat.{ℕ, suc}
-use mathlib.Core.Bool.{Bool, true, false}
 use mathlib.Core.List.{List, [], _∷_, _++_, map}
 use mathlib.Core.Option.{some}
 use lib.IntN.{ℤ, pos, negsuc}
@@ -24,14 +23,10 @@ pub record Example : Type 0 where
 abbrev size : ℕ → ℕ → Size
 size w h = record { width = w; height = h }
 
--- A number's sign, 1 below 0, and its magnitude; a flag as a number.
+-- A number's sign, 1 below 0, and its magnitude.
 abbrev of-ℤ : ℤ → List ℕ
 of-ℤ (pos n) = 0 ∷ n ∷ []
 of-ℤ (negsuc n) = 1 ∷ suc n ∷ []
-
-abbrev of-bool : Bool → ℕ
-of-bool false = 0
-of-bool true = 1
 
 -- The read of one bit of three bytes.
 abbrev one-of-three : Got
@@ -45,6 +40,10 @@ job-stream = 0x00 ∷ 0x00 ∷ 0x00 ∷ 0x80 ∷ 0x18 ∷ 0x20 ∷ 0xA0 ∷ 0x7F
 abbrev spill-stream : List ℕ
 spill-stream =
     0x18 ∷ 0x20 ∷ 0xA0 ∷ 0x7F ∷ 0x00 ∷ 0x00 ∷ 0x70 ∷ 0x00 ∷ 0x08 ∷ 0x00 ∷ 0xA0 ∷ 0xFF ∷ 0x00 ∷ 0x00 ∷ 0x00 ∷ 0x00 ∷ []
+
+-- Row 0 has no bytes, and its block spills over row 1, whose own reader has its word; with offsets 12 and 0.
+abbrev spilt-filler : List ℕ
+spilt-filler = 0x00 ∷ 0x00 ∷ 0x00 ∷ 0x80 ∷ replicate 8 0x00
 
 -- One sample and no bytes.
 abbrev one-by-one : Answer.Ask
@@ -63,6 +62,16 @@ one-less depth =
     (V2.read-block (0x00 ∷ 0x00 ∷ 0x00 ∷ 0x40 ∷ []) (record { depth = depth; options = 7; initial = 0 }) 646 0 0
     (fresh 0) V2.fresh-row (replicate 3 (replicate 2 0)) .outcome)
 
+-- A V2 frame 32 by 1 whose first length is too long: the second, which would need a word that is missing, is not read.
+abbrev long-length : List ℕ
+long-length = replicate 9 0x00 ++ (0x01 ∷ []) ++ replicate 6 0x00 ++ (0xFF ∷ 0xFF ∷ 0x01 ∷ 0xC0 ∷ [])
+
+-- What a V2 frame of 32 by 1 answers: number, row, and how many words were missing.
+abbrev answered : List ℕ → List ℕ
+answered s =
+    let a = V2.read-frame s (size 32 1) .answer in
+    a .number ∷ a .row ∷ a .filler ∷ []
+
 -- A header of depth 8.
 abbrev depth-8 : V2Hdr
 depth-8 = record { depth = 8; options = 0; initial = 0 }
@@ -72,7 +81,7 @@ unfoldable pub examples : ℕ → ℕ → ℕ → ℕ → List Example
 examples a b c d =
     record { given = fields (0x78 ∷ 0x56 ∷ 0x34 ∷ 0x12 ∷ []) (4 ∷ 4 ∷ 4 ∷ []) (fresh 0) .values; stated = 1 ∷ 2 ∷ 3 ∷ [] }
     ∷ record {
-      given = one-of-three .value ∷ of-bool (one-of-three .bits .overrun) ∷ one-of-three .bits .pos ∷ [];
+      given = one-of-three .value ∷ one-of-three .bits .filler ∷ one-of-three .bits .pos ∷ [];
       stated = 1 ∷ 1 ∷ 4 ∷ [];
     }
     ∷ record { given = V0.decoded job-stream (0 ∷ 4 ∷ []) (size 2 2) (7 ∷ 8 ∷ 9 ∷ 10 ∷ []); stated = 7 ∷ 131 ∷ 8 ∷ 126 ∷ [] }
@@ -85,8 +94,9 @@ examples a b c d =
     ∷ record {
       given = Answer.answer one-by-one one-lent .number
           ∷ Answer.answer one-by-one one-lent .row
+          ∷ Answer.answer one-by-one one-lent .filler
           ∷ Answer.samples-after one-by-one one-lent (a ∷ []) ++ Answer.map-after one-by-one one-lent (0 ∷ []);
-      stated = 0 ∷ 0 ∷ a ∷ 1 ∷ [];
+      stated = 0 ∷ 0 ∷ 1 ∷ a ∷ 3 ∷ [];
     }
     ∷ record { given = no-bytes .depth ∷ no-bytes .options ∷ no-bytes .initial ∷ []; stated = 16 ∷ 15 ∷ 16_383 ∷ [] }
     ∷ record { given = of-ℤ (read-signed (0 ∷ 0 ∷ 0 ∷ 0b1000_0000 ∷ []) (fresh 0) 4 .value); stated = 1 ∷ 8 ∷ [] }
@@ -99,6 +109,10 @@ examples a b c d =
     }
     ∷ record { given = V2.sample-kind (V2.top depth-8) .average 4 7 ∷ []; stated = 6 ∷ [] }
     ∷ record { given = tabulate 16 1 one-less; stated = replicate 16 7 }
+    ∷ record { given = Map.v0-map spilt-filler (12 ∷ 0 ∷ []) (size 2 2); stated = 3 ∷ 3 ∷ 3 ∷ 3 ∷ [] }
+    ∷ record { given = V0.frame-filler spilt-filler (12 ∷ 0 ∷ []) (size 2 2) ∷ []; stated = 1 ∷ [] }
+    ∷ record { given = answered long-length; stated = 7 ∷ 0 ∷ 0 ∷ [] }
+    ∷ record { given = answered []; stated = 5 ∷ 0 ∷ 5 ∷ [] }
     ∷ []
 
 -- Beside them the job program's example: its input, and the text "done", "0: 0* 131", "1: 0* 126".

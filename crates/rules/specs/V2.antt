@@ -18,8 +18,8 @@ use Rattle.rules.specs.declared.v2.V2Scale.{V2Scale}
 use Rattle.rules.specs.declared.v2.V2Lengths.{V2Lengths}
 use Rattle.rules.specs.declared.v2.V2Block.{V2Block}
 use Rattle.rules.specs.declared.v2.V2Block.the-variants.{Next, EarlyMotion, Outside, LongDifference}
-use Rattle.rules.specs.Reader.{fresh, reset-at, read, fields, four, read-signed}
-use Rattle.rules.specs.Frame.{tabulate}
+use Rattle.rules.specs.Reader.{has-filler, fresh, reset-at, read, fields, four, read-signed}
+use Rattle.rules.specs.Frame.{tabulate, ended}
 
 -- ── The header ──
 
@@ -52,7 +52,7 @@ option-4 h = eqb (h .options / 4 % 2) 1
 
 -- ── A row's state ──
 
--- Each row starts at the next multiple of 16 at or after the reader's position; an overrun stays.
+-- Each row starts at the next multiple of 16 at or after the reader's position; the count of missing words stays.
 unfoldable pub aligned : Bits → Bits
 aligned b = reset-at b ((b .pos + (16 - b .pos % 16) % 16) % 2 ^ 64)
 
@@ -219,12 +219,14 @@ read-differences s row ls b = differences-from s row ls 16 0 (record { values = 
 
 -- ── The whole block ──
 
--- What a block does: its first place, the scale, and each sample's base and difference.
+-- What a block does: its first place, the scale, each sample's base and difference, and whether the reader had fetched a filler word
+-- by the block's end, from the header on.
 pub record Block : Type 0 where
   pub place : ℕ
   pub scale : ℤ
   pub base : ℕ → Base
   pub differences : List ℤ
+  pub filler : Bool
 
 -- A block as the stream has it: its outcome, what is remembered after it, and, where the outcome is `Next`, what it does.
 pub record Parsed : Type 0 where
@@ -238,6 +240,13 @@ number (Next b st) = 0
 number (EarlyMotion b) = 5
 number (Outside b) = 6
 number (LongDifference b) = 7
+
+-- The reader's state after an outcome.
+abbrev pub state-after : V2Block → Bits
+state-after (Next b st) = b
+state-after (EarlyMotion b) = b
+state-after (Outside b) = b
+state-after (LongDifference b) = b
 
 -- What lengths and differences give: the outcome, what is remembered, and the differences.
 pub record Tail : Type 0 where
@@ -272,7 +281,13 @@ read-block s h w row col b st mode =
     record {
       outcome = x .outcome;
       mode = x .mode;
-      block = record { place = row * w + col; scale = c .scale; base = base h w row col (m .value); differences = x .differences };
+      block = record {
+        place = row * w + col;
+        scale = c .scale;
+        base = base h w row col (m .value);
+        differences = x .differences;
+        filler = has-filler (state-after (x .outcome));
+      };
     }
 
 -- ── Rows ──
@@ -309,17 +324,17 @@ pub record Frame : Type 0 where
   pub answer : Answer
 
 -- A row and the rest of the frame. A refusal keeps the blocks before it; 8 is tested only after a row without 5 to 7, and keeps
--- that row too.
+-- that row too: a word was missing so far, from the header on. A refusal's answer has the count of missing words as it then stands.
 unfoldable pub then-rows : ℕ → Row → Frame → Frame
 then-rows row q rest =
     cond (eqb (q .number) 0)
-    (cond (q .bits .overrun) (record { blocks = q .blocks; answer = record { number = 8; row = row } })
-    (record { blocks = q .blocks ++ rest .blocks; answer = rest .answer }))
-    (record { blocks = q .blocks; answer = record { number = q .number; row = row } })
+    (cond (eqb (q .bits .filler) 0) (record { blocks = q .blocks ++ rest .blocks; answer = rest .answer })
+    (record { blocks = q .blocks; answer = record { number = 8; row = row; filler = q .bits .filler } }))
+    (record { blocks = q .blocks; answer = record { number = q .number; row = row; filler = q .bits .filler } })
 
 -- k rows from a row on.
 unfoldable pub rows : List ℕ → V2Hdr → ℕ → ℕ → ℕ → Bits → Frame
-rows s h w zero row b = record { blocks = []; answer = record { number = 0; row = 0 } }
+rows s h w zero row b = record { blocks = []; answer = record { number = 0; row = 0; filler = b .filler } }
 rows s h w (suc k) row b =
     let q = read-row s h w row b in
     then-rows row q (rows s h w k (suc row) (q .bits))
@@ -331,11 +346,13 @@ read-frame s z =
 
 -- ── Cells ──
 
--- A kind of cell: a number of the stream, the average of two cells, and a base with its scale and difference.
+-- A kind of cell: a number of the stream, the average of two cells, a base with its scale and difference, and what a cell becomes
+-- whose block ended with filler.
 pub record Kind (A : Type 0) : Type 0 where
   pub constant : ℕ → A
   pub average : A → A → A
   pub adjust : ℤ → ℤ → A → A
+  pub filled : A → A
 
 module _ {A : Type 0} (k : Kind A) where
   unfoldable pub base-cell : List A → Base → A
@@ -347,9 +364,13 @@ module _ {A : Type 0} (k : Kind A) where
   unfoldable pub block-cells : List A → Block → List A
   block-cells f b = tabulate 16 0 (λ i. k .adjust (b .scale) (getD (b .differences) i (pos 0)) (base-cell f (b .base i)))
 
+  -- One block, and what filler makes of its cells.
+  unfoldable pub write : Block → List A → List A
+  write b f = ended (k .filled) (k .constant 0) (b .filler) (b .place) (sets f (b .place) (block-cells f b))
+
   unfoldable pub apply : List Block → List A → List A
   apply [] f = f
-  apply (b ∷ bs) f = apply bs (sets f (b .place) (block-cells f b))
+  apply (b ∷ bs) f = apply bs (write b f)
 
   -- A whole frame.
   unfoldable pub frame : List ℕ → Size → List A → List A
@@ -374,7 +395,7 @@ abbrev pub sample : ℕ → ℤ → ℤ → ℕ → ℕ
 sample t scale d b = hold t (value b d scale)
 
 abbrev pub sample-kind : ℕ → Kind ℕ
-sample-kind t = record { constant = λ v. v; average = average; adjust = sample t }
+sample-kind t = record { constant = λ v. v; average = average; adjust = sample t; filled = λ a. a }
 
 -- The samples that the decoder leaves.
 unfoldable pub decoded : List ℕ → Size → List ℕ → List ℕ

@@ -1,12 +1,13 @@
 // The answer record of document 01, and the frame's size with its limits.
 ghost use mathlib.Core.Path.{_≡_};
-ghost use Rattle.rules.specs.Answer.{done};
+ghost use Rattle.rules.specs.Answer.{done-with, done};
 
-// A number and a row. Number 0 is done, the others are refusals.
+// A number, a row, and how many words were missing. Number 0 is done, the others are refusals.
 #[repr(C)]
 pub struct Answer {
     pub number: u32,
     pub row: u32,
+    pub filler: u64,
 }
 
 impl Answer {
@@ -31,7 +32,7 @@ impl Answer {
     // V2: a difference length above depth + 1.
     pub const LONG_DIFFERENCE: u32 = 7;
 
-    // V2: a row is finished and the reader has overrun.
+    // V2: a row is finished and a word was missing.
     pub const OVERRUN: u32 = 8;
 
     // The writer: a sample is above 16,383.
@@ -46,10 +47,21 @@ impl Answer {
     // In bands: the list is too short or too long, or a step is no block's number or isn't ready.
     pub const BAD_STEPS: u32 = 12;
 
+    // Done, and so many words were missing.
+    pub fn done_with(filler: u64) -> Answer
+        ensures { λ r. ⌜ r ≡ done-with filler ⌝ }
+    {
+        Answer {
+            number: 0,
+            row: 0,
+            filler,
+        }
+    }
+
     pub fn done() -> Answer
         ensures { λ r. ⌜ r ≡ done ⌝ }
     {
-        Answer { number: 0, row: 0 }
+        Answer::done_with(0)
     }
 }
 

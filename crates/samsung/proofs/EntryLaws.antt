@@ -10,7 +10,7 @@ use lib.ListN.{length, take, drop}
 use borrow.Author.Tests.{eqb-true, eqb-false}
 use Rattle.rules.specs.declared.answer.Answer.{Answer}
 use Rattle.rules.specs.Frame.{cells}
-use Rattle.rules.specs.Answer.{Ask, Lent, Buffers, lengths, Yields, refusal, answer, stream-answer, frame-samples, marks, frame-scratch, unless-refused, samples-after, map-after, scratch-after}
+use Rattle.rules.specs.Answer.{refused, Ask, Lent, Buffers, lengths, Yields, refusal, answer, stream-answer, frame-samples, marks, frame-scratch, unless-refused, samples-after, map-after, scratch-after}
 use Rattle.rules.proofs.Refusals.{answer-refused, answer-passed, samples-kept, map-kept, scratch-kept}
 
 -- What leaves every buffer as it was leaves one that may not be lent as it was.
@@ -19,10 +19,10 @@ lent-kept f h none = refl
 lent-kept f h (some m) = ap some (sym (h m))
 
 -- A refusal of 1 to 4 is answered by its number, and leaves every buffer as it was.
-pub refused-yields : (a : Ask) (found : Buffers) (k : ℕ) → refusal a (lengths found) ≡ k → (k ≡ 0 → ⊥) → (r : Answer) → r ≡ record { number = k; row = 0 } → Yields a found r found
+pub refused-yields : (a : Ask) (found : Buffers) (k : ℕ) → refusal a (lengths found) ≡ k → (k ≡ 0 → ⊥) → (r : Answer) → r ≡ refused k → Yields a found r found
 refused-yields a found k e n r q =
     record {
-      answered = q ∙ sym (answer-refused a l some-refusal ∙ ap (λ m. record { number = m; row = 0 }) e);
+      answered = q ∙ sym (answer-refused a l some-refusal ∙ ap refused e);
       samples = sym (samples-kept a l some-refusal (found .samples));
       map = lent-kept (map-after a l) (λ m. map-kept a l some-refusal m) (found .map);
       scratch = lent-kept (scratch-after a l) (λ m. scratch-kept a l some-refusal m) (found .scratch);
@@ -40,7 +40,7 @@ refused-yields a found k e n r q =
 
 -- Else the stream answers, the frame's samples and marks are the first of their buffers, and its directions the first of the scratch.
 module _ (a : Ask) (l : Lent) (ok : refusal a l ≡ 0) where
-  pub passed-answer : (r : Answer) → r ≡ stream-answer (a .decoder) (a .stream) (a .size) → r ≡ answer a l
+  pub passed-answer : (r : Answer) → r ≡ stream-answer (a .decoder) (a .stream) (a .offsets) (a .size) → r ≡ answer a l
   passed-answer r e = e ∙ sym (answer-passed a l ok)
 
   pub passed-samples : (new buffer : List ℕ) → new ≡ frame-samples (a .decoder) (a .stream) (a .offsets) (a .size) (take (cells (a .size)) buffer)

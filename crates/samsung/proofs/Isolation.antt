@@ -1,12 +1,13 @@
--- No earlier frame reaches a sample that is marked 0: the claim of the seven entry points.
+-- No earlier frame reaches a sample that is marked 0: the claim of the six entry points.
 --
 -- Promised. Take every two lists of calls of the entry points, of any decoders, with or without a map, refused ones among them,
 -- each list on one sample buffer: a call is lent the buffer, or the part of it that starts at its first sample, as the call before
 -- left it, and nobody else writes it. If the last calls of the two lists are alike in decoder, stream, offsets, size and the
--- lengths of what they are lent, and both end with done or 5 to 8, then (a) their answers are equal; (b) the first N bytes of a
--- map that either is lent are the rules' marks, which stream, offsets and size alone set, so they are equal too; (c) every one of
--- the first N samples that is marked 0 is equal; (d) in V0 a sample marked 1 is the sample that its call found at one position
--- plus an amount, modulo 65,536, both set by stream, offsets and size alone, and the position is below N.
+-- lengths of what they are lent, and both end with done or 5 to 8, then (a) their answers are equal, with the count of missing
+-- words; (b) the first N bytes of a map that either is lent are the rules', which stream, offsets and size alone set, so they are
+-- equal too, whole; by the first part of its byte a sample is marked 0 or 1: (c) every one of the first N samples that is marked 0
+-- is equal; (d) in V0 a sample marked 1 is the sample that its call found at one position plus an amount, modulo 65,536, both set
+-- by stream, offsets and size alone, and the position is below N.
 -- A call in bands that is done counts as the two-phase call that it equals, by whatever cut and list of steps; the rules' marks are
 -- that call's.
 -- Free. How long the lists are and what came before; what the buffers first held; what maps and scratch hold at entry.
@@ -38,10 +39,6 @@ use Rattle.samsung.proofs.two_phase.decode_v0.Kinds as phases-kinds
 use Rattle.samsung.proofs.two_phase.decode_v0.Reads as phases-reads
 use Rattle.samsung.proofs.two_phase.decode_v0.Statement as phases-stated
 use Rattle.samsung.proofs.two_phase.decode_v0.Met as phases-thm
-use Rattle.samsung.proofs.two_phase.decode_v0_map.Kinds as phases-map-kinds
-use Rattle.samsung.proofs.two_phase.decode_v0_map.Reads as phases-map-reads
-use Rattle.samsung.proofs.two_phase.decode_v0_map.Statement as phases-map-stated
-use Rattle.samsung.proofs.two_phase.decode_v0_map.Met as phases-map-thm
 use Rattle.bands.specs.Call as Bands
 use Rattle.bands.proofs.Lists as Bands-lists
 use Rattle.samsung.proofs.in_bands.decode_v0_bands.Kinds as bands-kinds
@@ -67,12 +64,11 @@ pub record Made {n : ℕ} (ps : List (PK n)) (r : RK n) (Learnt : Out n ps r) : 
   pub exit : AtExit (endedOf n ps r) κs
   pub learnt : Learnt κs args result exit
 
--- A call of one of the six entry points whose contracts are the plain rules.
+-- A call of one of the five entry points whose contracts are the plain rules.
 pub data Call : Type 0 where
   direct : Made direct-kinds.ps direct-kinds.r direct-reads.Learnt → Call
   direct-map : Made direct-map-kinds.ps direct-map-kinds.r direct-map-reads.Learnt → Call
   two-phase : Made phases-kinds.ps phases-kinds.r phases-reads.Learnt → Call
-  two-phase-map : Made phases-map-kinds.ps phases-map-kinds.r phases-map-reads.Learnt → Call
   v2 : Made v2-kinds.ps v2-kinds.r v2-reads.Learnt → Call
   v2-map : Made v2-map-kinds.ps v2-map-kinds.r v2-map-reads.Learnt → Call
 
@@ -101,14 +97,6 @@ returned (two-phase c) =
       found = buffers (now (c .args .1 .1 .1 .1 .0)) none (some (now (c .args .1 .1 .1 .1 .1 .0)));
       answered = c .result;
       left = buffers (now (c .exit .1 .1 .1 .1 .0)) none (some (now (c .exit .1 .1 .1 .1 .1 .0)));
-      yields = c .learnt;
-    }
-returned (two-phase-map c) =
-    record {
-      ask = ask Answer.two-phase (now (c .args .0)) (now (c .args .1 .0)) (c .args .1 .1 .0) (c .args .1 .1 .1 .0);
-      found = buffers (now (c .args .1 .1 .1 .1 .0)) (some (now (c .args .1 .1 .1 .1 .1 .0))) (some (now (c .args .1 .1 .1 .1 .1 .1 .0)));
-      answered = c .result;
-      left = buffers (now (c .exit .1 .1 .1 .1 .0)) (some (now (c .exit .1 .1 .1 .1 .1 .0))) (some (now (c .exit .1 .1 .1 .1 .1 .1 .0)));
       yields = c .learnt;
     }
 returned (v2 c) =
@@ -140,7 +128,7 @@ called c =
 abbrev pub yielded : (c : Banded) → Bands.Yields (called c) (c .result) (now (c .exit .1 .1 .1 .1 .0)) (now (c .exit .1 .1 .1 .1 .1 .0))
 yielded c = c .learnt
 
--- A call of one of the seven entry points, and what it does to the sample buffer.
+-- A call of one of the six entry points, and what it does to the sample buffer.
 pub data Entry : Type 0 where
   plain : Call → Entry
   in-bands : Banded → Entry
@@ -170,7 +158,6 @@ pub record OfTheCode (M : Type 1) : Type 2 where
   pub decode-v0-reference : direct-stated.statement M
   pub decode-v0-reference-map : direct-map-stated.statement M
   pub decode-v0 : phases-stated.statement M
-  pub decode-v0-map : phases-map-stated.statement M
   pub decode-v0-bands : bands-stated.statement M
   pub decode-v2 : v2-stated.statement M
   pub decode-v2-map : v2-map-stated.statement M
@@ -182,7 +169,6 @@ of-the-code =
       decode-v0-reference = direct-thm.met;
       decode-v0-reference-map = direct-map-thm.met;
       decode-v0 = phases-thm.met;
-      decode-v0-map = phases-map-thm.met;
       decode-v0-bands = bands-thm.met;
       decode-v2 = v2-thm.met;
       decode-v2-map = v2-map-thm.met;

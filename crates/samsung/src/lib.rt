@@ -9,6 +9,5 @@ pub use direct::decode_v0_reference;
 pub use direct::decode_v0_reference_map;
 pub use in_bands::decode_v0_bands;
 pub use two_phase::decode_v0;
-pub use two_phase::decode_v0_map;
 pub use v2_entries::decode_v2;
 pub use v2_entries::decode_v2_map;

@@ -8,9 +8,9 @@ ghost use Rattle.rules.specs.V2 as V2;
 ghost use Rattle.rules.specs.Map.{v2-map};
 ghost use Rattle.rules.specs.Answer.{v2, ask, buffers, Yields};
 ghost use Rattle.v2.specs.Blocks.{Lends};
+use maps::mark_old;
 use refusals::Lending;
 use refusals::is_too_small;
-use refusals::mark_old;
 use refusals::refuse;
 use refusals::refused;
 use rules::Answer;
@@ -51,7 +51,7 @@ fn decode_marked(src: &[u8], size: Size, out: &mut [u16], map: &mut [u8]) -> Ans
     decode_frame(src, size, out, map)
 }
 
-// The same, and which samples rest on old values. Refusals 1 to 8.
+// The same, and what each sample rests on: old values, filler, both or neither. Refusals 1 to 8.
 pub fn decode_v2_map(
     src: &[u8],
     width: usize,

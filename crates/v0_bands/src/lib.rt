@@ -94,8 +94,7 @@ pub fn decode_frame(
     ensures samples { λ _. ⌜ now (out .exit) ≡ in-bands (now (src .entry)) (now (offsets .entry)) (cut size bands «block_width») (now (steps .entry)) (now (out .entry)) ⌝ }
     ensures directions { λ _. ⌜ now (scratch .exit) ≡ Phases.scratch (now (src .entry)) (now (offsets .entry)) size ++ drop (length (Phases.scratch (now (src .entry)) (now (offsets .entry)) size)) (now (scratch .entry)) ⌝ }
 {
-    let mut no_map: [u8; 0] = [];
-    store_rows(src, offsets, size, out, &mut no_map, scratch);
+    store_rows(src, offsets, size, out, scratch);
     add_steps(
         out,
         scratch,

@@ -5,15 +5,16 @@ use mathlib.Core.List.{List, [], _∷_, _++_}
 use Prim.Native.Nat.{ℕ, _+_, _-_, _*_, _%_, _≤_, _<_}
 use native.Mathlib.Omega.{arith}
 use native.Mathlib.Nat.{mul-le-mul}
-use lib.ListN.{length, getD, set, length-set}
+use lib.ListN.{length, getD, set}
 use lib.Seq.{set-out}
 use borrow.Author.Tests.{lt-ltb, le-ltb, ne-eqb}
-use Rattle.rules.specs.V0.{Kind, put, apply, predictor, bounded, limit, rows-up}
+use Rattle.rules.specs.V0.{Kind, Block, put, apply, write-all, predictor, bounded, limit, rows-up}
 use Rattle.rules.specs.Map.{v0-marks}
 use Rattle.rules.specs.declared.answer.Size.{Size}
 use Rattle.rules.specs.declared.v0.Predictor.{Predictor}
 use Rattle.rules.specs.declared.v0.Predictor.the-variants.{Skipped, Constant, Sample}
 use Rattle.rules.specs.declared.v0.V0Op.{V0Op}
+use Rattle.rules.proofs.V0Cells.{apply-append, apply-length, write-all-append, write-all-length}
 use Rattle.v0_cells.specs.Places.{InFrame}
 
 -- ── The predictor ──
@@ -79,12 +80,6 @@ module _ (k : Kind ℕ) where
   unfolding put
   put-sample place q p d b v f e eb ev = rw (e, ev, eb)
 
-  put-length : (place : ℕ) (p : Predictor) (d : ℕ) (f : List ℕ) → length (put k place p d f) ≡ length f
-  unfolding put
-  put-length place Skipped d f = refl
-  put-length place Constant d f = length-set f place (k .plus (k .constant 128) d)
-  put-length place (Sample p) d f = length-set f place (k .plus (getD f p (k .constant 0)) d)
-
 -- No residual changes a mark.
 pub put-mark-alike : (place : ℕ) (p : Predictor) (d e : ℕ) (f : List ℕ) → put v0-marks place p d f ≡ put v0-marks place p e f
 unfolding put
@@ -92,20 +87,8 @@ put-mark-alike place Skipped d e f = refl
 put-mark-alike place Constant d e f = refl
 put-mark-alike place (Sample p) d e f = refl
 
--- ── Operations one after another ──
-
+-- A frame of no cells stays one.
 module _ (k : Kind ℕ) where
-  pub apply-length : (os : List V0Op) (f : List ℕ) → length (apply k os f) ≡ length f
-  unfolding apply
-  apply-length [] f = refl
-  apply-length (o ∷ os) f = apply-length os (put k (o .place) (o .predictor) (o .residual) f) ∙ put-length k (o .place) (o .predictor) (o .residual) f
-
-  pub apply-append : (xs ys : List V0Op) (f : List ℕ) → apply k (xs ++ ys) f ≡ apply k ys (apply k xs f)
-  unfolding apply
-  apply-append [] ys f = refl
-  apply-append (o ∷ xs) ys f = apply-append xs ys (put k (o .place) (o .predictor) (o .residual) f)
-
-  -- A frame of no cells stays one.
   put-empty : (place : ℕ) (p : Predictor) (d : ℕ) → put k place p d [] ≡ []
   unfolding put
   put-empty place Skipped d = refl
@@ -117,22 +100,44 @@ module _ (k : Kind ℕ) where
   apply-empty [] = refl
   apply-empty (o ∷ os) = ap (apply k os) (put-empty (o .place) (o .predictor) (o .residual)) ∙ apply-empty os
 
--- A loop over operations: what is left of them, done from here, comes to what the whole does from the start.
-pub record Left (k : Kind ℕ) (rest whole : List V0Op) (f₀ f : List ℕ) : Type 0 where
-  pub cells-are : apply k rest f ≡ apply k whole f₀
+-- ── Operations, or blocks, one after another ──
+
+-- What a list of them does to a frame's cells: one list after another, and the frame keeps its length.
+pub record Walk (B : Type 0) : Type 0 where
+  pub over : List B → List ℕ → List ℕ
+  pub none : (f : List ℕ) → over [] f ≡ f
+  pub append : (xs ys : List B) (f : List ℕ) → over (xs ++ ys) f ≡ over ys (over xs f)
+  pub keeps-length : (xs : List B) (f : List ℕ) → length (over xs f) ≡ length f
+
+pub apply-none : (k : Kind ℕ) (f : List ℕ) → apply k [] f ≡ f
+unfolding apply
+apply-none k f = refl
+
+pub write-none : (k : Kind ℕ) (f : List ℕ) → write-all k [] f ≡ f
+unfolding write-all
+write-none k f = refl
+
+abbrev pub ops-walk : Kind ℕ → Walk V0Op
+ops-walk k = record { over = apply k; none = apply-none k; append = apply-append k; keeps-length = apply-length k }
+
+abbrev pub blocks-walk : Kind ℕ → Walk Block
+blocks-walk k = record { over = write-all k; none = write-none k; append = write-all-append k; keeps-length = write-all-length k }
+
+-- A loop over them: what is left, done from here, comes to what the whole does from the start.
+pub record Left {B : Type 0} (k : Walk B) (rest whole : List B) (f₀ f : List ℕ) : Type 0 where
+  pub cells-are : k .over rest f ≡ k .over whole f₀
   pub same-length : length f ≡ length f₀
 
-module _ (k : Kind ℕ) where
-  pub left-begun : (rest whole : List V0Op) (f : List ℕ) → rest ≡ whole → Left k rest whole f f
-  left-begun rest whole f e = record { cells-are = ap (λ os. apply k os f) e; same-length = refl }
+module _ {B : Type 0} (k : Walk B) where
+  pub left-begun : (rest whole : List B) (f : List ℕ) → rest ≡ whole → Left k rest whole f f
+  left-begun rest whole f e = record { cells-are = ap (λ os. k .over os f) e; same-length = refl }
 
-  pub left-on : (x rest rest′ whole : List V0Op) (f₀ f f′ : List ℕ) → rest ≡ x ++ rest′ → f′ ≡ apply k x f → Left k rest whole f₀ f → Left k rest′ whole f₀ f′
+  pub left-on : (x rest rest′ whole : List B) (f₀ f f′ : List ℕ) → rest ≡ x ++ rest′ → f′ ≡ k .over x f → Left k rest whole f₀ f → Left k rest′ whole f₀ f′
   left-on x rest rest′ whole f₀ f f′ e q l =
       record {
-        cells-are = ap (apply k rest′) q ∙ sym (apply-append k x rest′ f) ∙ sym (ap (λ os. apply k os f) e) ∙ l .cells-are;
-        same-length = ap length q ∙ apply-length k x f ∙ l .same-length;
+        cells-are = ap (k .over rest′) q ∙ sym (k .append x rest′ f) ∙ sym (ap (λ os. k .over os f) e) ∙ l .cells-are;
+        same-length = ap length q ∙ k .keeps-length x f ∙ l .same-length;
       }
 
-  pub left-none : (rest whole : List V0Op) (f₀ f : List ℕ) → rest ≡ [] → Left k rest whole f₀ f → f ≡ apply k whole f₀
-  unfolding apply
-  left-none rest whole f₀ f e l = sym (ap (λ os. apply k os f) e) ∙ l .cells-are
+  pub left-none : (rest whole : List B) (f₀ f : List ℕ) → rest ≡ [] → Left k rest whole f₀ f → f ≡ k .over whole f₀
+  left-none rest whole f₀ f e l = sym (k .none f) ∙ sym (ap (λ os. k .over os f) e) ∙ l .cells-are

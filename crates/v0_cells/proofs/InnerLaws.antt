@@ -20,7 +20,7 @@ use Rattle.rules.specs.declared.v0.V0Op.{V0Op}
 use Rattle.rules.proofs.Predictors.{predictor-late}
 use Rattle.v0_cells.specs.Places.{Inner, Inside, Whole}
 use Rattle.v0_cells.specs.Inner.{source-of, inner-ops}
-use Rattle.v0_cells.proofs.CellLaws.{product, apply-empty, Left, left-begun, left-on, left-none}
+use Rattle.v0_cells.proofs.CellLaws.{product, apply-empty, ops-walk, Left, left-begun, left-on, left-none}
 
 -- ── The source of a sample ──
 
@@ -56,18 +56,18 @@ late-source w row col false c two after = rw (ne-eqb col 0 (λ e. omega arith))
 
 pub record Putting (k : Kind ℕ) (w base : ℕ) (up : Bool) (vs f₀ f : List ℕ) (j : ℕ) : Type 0 where
   pub below : j ≤ 16
-  pub left : Left k (inner-ops w base up (drop j order) (drop j vs)) (inner-ops w base up order vs) f₀ f
+  pub left : Left (ops-walk k) (inner-ops w base up (drop j order) (drop j vs)) (inner-ops w base up order vs) f₀ f
 
 module _ (k : Kind ℕ) (w base : ℕ) (up : Bool) (vs f₀ : List ℕ) where
   pub putting-begun : Putting k w base up vs f₀ f₀ 0
-  putting-begun = record { below = omega arith; left = left-begun k _ _ f₀ refl }
+  putting-begun = record { below = omega arith; left = left-begun (ops-walk k) _ _ f₀ refl }
 
   pub putting-on : (f : List ℕ) (j c p v : ℕ) → j < 16 → length vs ≡ 16 → c ≡ getD order j 0 → p ≡ source-of w base up c
       → v ≡ k .plus (getD f p (k .constant 0)) (getD vs j 0)
       → Putting k w base up vs f₀ f j → Putting k w base up vs f₀ (set f (base + c) v) (j + 1)
   unfolding inner-ops apply put
   putting-on f j c p v l n ec ep ev r =
-      record { below = omega arith; left = left-on k (op ∷ []) _ _ _ f₀ f (set f (base + c) v) first (rw (ev, ep)) (r .left) }
+      record { below = omega arith; left = left-on (ops-walk k) (op ∷ []) _ _ _ f₀ f (set f (base + c) v) first (rw (ev, ep)) (r .left) }
     where
       op : V0Op
       op = record { place = base + c; predictor = Sample (source-of w base up c); residual = getD vs j 0 }
@@ -80,7 +80,7 @@ module _ (k : Kind ℕ) (w base : ℕ) (up : Bool) (vs f₀ : List ℕ) where
   putting-done f j l r =
       let e : j ≡ 16 = omega (arith, r .below) in
       let r′ : Putting k w base up vs f₀ f 16 = rw e at r in
-      left-none k _ _ f₀ f refl (r′ .left)
+      left-none (ops-walk k) _ _ f₀ f refl (r′ .left)
 
 -- Its marks are the same by any residuals.
 pub marks-alike : (w base : ℕ) (up : Bool) (cs vs ws f : List ℕ) → length vs ≡ length ws

@@ -18,7 +18,7 @@ use Rattle.rules.proofs.Cells.{All, nil, more}
 use Rattle.rules.proofs.Order.{all-order, order-whole}
 use Rattle.v0_cells.specs.Places.{Inside}
 use Rattle.v0_cells.specs.Inner.{source-of, inner-ops, Replaced}
-use Rattle.v0_cells.proofs.CellLaws.{apply-length}
+use Rattle.rules.proofs.V0Cells.{apply-length}
 
 -- ── Cells replaced one after another ──
 

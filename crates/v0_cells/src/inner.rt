@@ -91,7 +91,7 @@ fn mark_left(map: &mut [u8], w: usize, base: usize)
 }
 
 // The marks of a block at `base`: no residual changes one.
-pub fn mark_inner(map: &mut [u8], w: usize, base: usize, up: bool)
+fn mark_inner(map: &mut [u8], w: usize, base: usize, up: bool)
     requires { ⌜ Inside w base (now map) × (base < 1_000_000_000) ⌝ }
     ensures { λ _. ⌜ now (map .exit) ≡ V0.apply v0-marks (inner-ops w base up V0.order (replicate 16 0)) (now (map .entry)) ⌝ }
 {

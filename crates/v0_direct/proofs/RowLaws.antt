@@ -1,26 +1,27 @@
 -- A row: what is left of its blocks comes to the whole row, and its lengths stay near 0.
 use mathlib.Core.Path.{_≡_, refl, sym, ap, ap₂, _∙_}
 use mathlib.Core.Bool.{true, false}
-use mathlib.Core.List.{List, [], _++_}
+use mathlib.Core.List.{List, [], _∷_, _++_}
 use Prim.Native.Nat.{ℕ, suc, _+_, _-_, _*_, _/_, _%_, _≤_, _<_}
 use native.Mathlib.Omega.{arith}
 use lib.Dec.{leb}
 use lib.ListN.{length}
 use borrow.Author.Tests.{leb-true}
-use Rattle.rules.specs.Frame.{cells}
-use Rattle.rules.specs.V0.{Kind, apply, sample-kind, head, predictor, order, blocks, row-ops, fresh-row}
-use Rattle.rules.specs.Map.{v0-marks}
+use Rattle.rules.specs.Reader.{has-filler}
+use Rattle.rules.specs.Frame.{cells, ended}
+use Rattle.rules.specs.V0.{Block, Blocks, Kind, apply, write, write-all, sample-kind, head, predictor, order, blocks, row-blocks, fresh-row}
+use Rattle.rules.specs.Map.{with-filler, v0-marks}
 use Rattle.rules.specs.declared.answer.Size.{Size}
 use Rattle.rules.specs.declared.reader.Bits.{Bits}
 use Rattle.rules.specs.declared.v0.V0Row.{V0Row}
 use Rattle.rules.specs.declared.v0.V0Head.{V0Head}
-use Rattle.rules.specs.declared.v0.V0Op.{V0Op}
 use Rattle.v0_stream.specs.Lengths.{Within, furthest}
 use Rattle.v0_cells.specs.Places.{Whole, InFrame, Inner}
 use Rattle.v0_direct.specs.Lent.{InRow}
 use Rattle.v0_direct.specs.Block.{samples-of, block-ops, after-block}
 use Rattle.v0_stream.proofs.HeadLaws.{within-more, fresh-within, head-within}
-use Rattle.v0_cells.proofs.CellLaws.{Left, left-begun, left-on, left-none}
+use Rattle.rules.proofs.V0Cells.{write-plain}
+use Rattle.v0_cells.proofs.CellLaws.{product, blocks-walk, Left, left-begun, left-on, left-none}
 
 -- ── One block ──
 
@@ -41,33 +42,53 @@ module _ (s : List ℕ) (z : Size) (row col : ℕ) (st : V0Row) (h : V0Head) (eh
   unfolding block-ops
   block-cells k f f′ e = e ∙ ap (λ x. apply k (samples-of s z row col x order (x .row .bits) .ops) f) eh
 
+-- The block with its place and its end.
+abbrev this-block : List ℕ → Size → ℕ → ℕ → V0Row → Block
+this-block s z row col st = record { place = row * z .width + col; ops = block-ops s z row col st .ops; filler = has-filler (block-ops s z row col st .bits) }
+
+module _ (s : List ℕ) (z : Size) (row col : ℕ) (st : V0Row) where
+  samples-written : (f f′ : List ℕ) → f′ ≡ apply sample-kind (block-ops s z row col st .ops) f → f′ ≡ write-all sample-kind (this-block s z row col st ∷ []) f
+  unfolding write-all
+  samples-written f f′ e = e ∙ sym (write-plain sample-kind (λ a. refl) (this-block s z row col st) f)
+
+  marks-written : (st′ : V0Row) (f g f′ : List ℕ) → st′ ≡ after-block s z row col st → g ≡ apply v0-marks (block-ops s z row col st .ops) f
+      → f′ ≡ ended with-filler 0 (has-filler (st′ .bits)) (row * z .width + col) g → f′ ≡ write-all v0-marks (this-block s z row col st ∷ []) f
+  unfolding write-all write after-block
+  marks-written st′ f g f′ es eg ef = ef ∙ ap₂ (λ b x. ended with-filler 0 (has-filler b) (row * z .width + col) x) (ap (λ x. x .bits) es) eg
+
 -- ── The blocks of a row ──
 
 -- What is left of a row from a column on.
-abbrev pub rest-of : List ℕ → Size → ℕ → ℕ → V0Row → List V0Op
-rest-of s z row col st = blocks s (row * z .width) (predictor z row) ((z .width + 15 - col) / 16) col st .ops
+abbrev pub rest-of : List ℕ → Size → ℕ → ℕ → V0Row → Blocks
+rest-of s z row col st = blocks s (row * z .width) (predictor z row) ((z .width + 15 - col) / 16) col st
 
 pub record Rowing (s : List ℕ) (z : Size) (row offset : ℕ) (out₀ out map₀ map : List ℕ) (st : V0Row) (col : ℕ) : Type 0 where
   pub whole : col % 16 ≡ 0
   pub below : col ≤ z .width + 15
   pub near : Within (15 + col / 16) (st .lengths)
-  pub samples-left : Left sample-kind (rest-of s z row col st) (row-ops s z row offset .ops) out₀ out
-  pub marks-left : Left v0-marks (rest-of s z row col st) (row-ops s z row offset .ops) map₀ map
+  pub samples-left : Left (blocks-walk sample-kind) (rest-of s z row col st .blocks) (row-blocks s z row offset .blocks) out₀ out
+  pub marks-left : Left (blocks-walk v0-marks) (rest-of s z row col st .blocks) (row-blocks s z row offset .blocks) map₀ map
+  pub reader-left : rest-of s z row col st .bits ≡ row-blocks s z row offset .bits
 
 module _ (s : List ℕ) (z : Size) (row offset : ℕ) (out₀ map₀ : List ℕ) where
   pub rowing-begun : (st : V0Row) → st ≡ fresh-row row offset → Rowing s z row offset out₀ out₀ map₀ map₀ st 0
-  unfolding row-ops
+  unfolding row-blocks
   rowing-begun st e =
       record {
         whole = refl;
         below = omega arith;
         near = rw e (fresh-within row offset);
-        samples-left = left-begun sample-kind _ _ out₀ all;
-        marks-left = left-begun v0-marks _ _ map₀ all;
+        samples-left = left-begun (blocks-walk sample-kind) _ _ out₀ (ap (λ x. x .blocks) all);
+        marks-left = left-begun (blocks-walk v0-marks) _ _ map₀ (ap (λ x. x .blocks) all);
+        reader-left = ap (λ x. x .bits) all;
       }
     where
-      all : rest-of s z row 0 st ≡ row-ops s z row offset .ops
-      all = let q : z .width + 15 - 0 ≡ z .width + 15 = omega arith in ap₂ (λ n x. blocks s (row * z .width) (predictor z row) (n / 16) 0 x .ops) q e
+      all : rest-of s z row 0 st ≡ row-blocks s z row offset
+      all = let q : z .width + 15 - 0 ≡ z .width + 15 = omega arith in ap₂ (λ n x. blocks s (row * z .width) (predictor z row) (n / 16) 0 x) q e
+
+  -- Its places fit a machine word.
+  pub places-fit : InRow z row out₀ map₀ → row * z .width ≤ 268_550_144
+  places-fit i = product row (z .width) (omega (arith, i .row-in, i .height)) (omega (arith, i .width))
 
   -- A block that the row still has lies in the frame, its lengths near enough to 0.
   pub row-block : (out map : List ℕ) (st : V0Row) (col : ℕ) → col < z .width → InRow z row out₀ map₀ → Rowing s z row offset out₀ out map₀ map st col
@@ -80,31 +101,48 @@ module _ (s : List ℕ) (z : Size) (row offset : ℕ) (out₀ map₀ : List ℕ)
     ),
   )
 
-  pub rowing-on : (out out′ map map′ : List ℕ) (st st′ : V0Row) (col : ℕ) → col < z .width → st′ ≡ after-block s z row col st
-      → out′ ≡ apply sample-kind (block-ops s z row col st .ops) out → map′ ≡ apply v0-marks (block-ops s z row col st .ops) map
+  pub rowing-on : (out out′ map marked map′ : List ℕ) (st st′ : V0Row) (col : ℕ) → col < z .width → st′ ≡ after-block s z row col st
+      → out′ ≡ apply sample-kind (block-ops s z row col st .ops) out → marked ≡ apply v0-marks (block-ops s z row col st .ops) map
+      → map′ ≡ ended with-filler 0 (has-filler (st′ .bits)) (row * z .width + col) marked
       → Rowing s z row offset out₀ out map₀ map st col → Rowing s z row offset out₀ out′ map₀ map′ st′ (col + 16)
   unfolding blocks block-ops after-block
-  rowing-on out out′ map map′ st st′ col l es eo em r =
+  rowing-on out out′ map marked map′ st st′ col l es eo em ee r =
       record {
         whole = omega (arith, r .whole);
         below = omega arith;
         near = rw es (within-more (suc (15 + col / 16)) (15 + (col + 16) / 16) (head s st .row .lengths) (omega arith) (head-within s st (15 + col / 16) (omega arith) (r .near)));
-        samples-left = left-on sample-kind (block-ops s z row col st .ops) _ _ _ out₀ out out′ first eo (r .samples-left);
-        marks-left = left-on v0-marks (block-ops s z row col st .ops) _ _ _ map₀ map map′ first em (r .marks-left);
+        samples-left = left-on (blocks-walk sample-kind) (this ∷ []) _ _ _ out₀ out out′ first (samples-written s z row col st out out′ eo) (r .samples-left);
+        marks-left = left-on (blocks-walk v0-marks) (this ∷ []) _ _ _ map₀ map map′ first (marks-written s z row col st st′ map marked map′ es em ee) (r .marks-left);
+        reader-left = sym on ∙ r .reader-left;
       }
     where
+      this : Block
+      this = this-block s z row col st
+
       more : (z .width + 15 - col) / 16 ≡ suc ((z .width + 15 - (col + 16)) / 16)
       more = omega arith
 
-      first : rest-of s z row col st ≡ block-ops s z row col st .ops ++ rest-of s z row (col + 16) st′
+      first : rest-of s z row col st .blocks ≡ (this ∷ []) ++ rest-of s z row (col + 16) st′ .blocks
       first =
-          ap (λ n. blocks s (row * z .width) (predictor z row) n col st .ops) more
-          ∙ ap (λ x. block-ops s z row col st .ops ++ rest-of s z row (col + 16) x) (sym es)
+          ap (λ n. blocks s (row * z .width) (predictor z row) n col st .blocks) more
+          ∙ ap (λ x. (this ∷ []) ++ rest-of s z row (col + 16) x .blocks) (sym es)
 
-  pub rowed : (k : Kind ℕ) (st : V0Row) (col : ℕ) (f₀ f : List ℕ) → z .width ≤ col → Left k (rest-of s z row col st) (row-ops s z row offset .ops) f₀ f
-      → f ≡ apply k (row-ops s z row offset .ops) f₀
+      on : rest-of s z row col st .bits ≡ rest-of s z row (col + 16) st′ .bits
+      on =
+          ap (λ n. blocks s (row * z .width) (predictor z row) n col st .bits) more
+          ∙ ap (λ x. rest-of s z row (col + 16) x .bits) (sym es)
+
+  -- From the row's end on nothing is left.
+  none-left : (st : V0Row) (col : ℕ) → z .width ≤ col → rest-of s z row col st ≡ record { blocks = []; bits = st .bits }
   unfolding blocks
-  rowed k st col f₀ f l r =
+  none-left st col l =
       let e : (z .width + 15 - col) / 16 ≡ 0 = omega arith in
-      let none : rest-of s z row col st ≡ [] = ap (λ n. blocks s (row * z .width) (predictor z row) n col st .ops) e in
-      left-none k _ _ f₀ f none r
+      ap (λ n. blocks s (row * z .width) (predictor z row) n col st) e
+
+  pub rowed : (k : Kind ℕ) (st : V0Row) (col : ℕ) (f₀ f : List ℕ) → z .width ≤ col → Left (blocks-walk k) (rest-of s z row col st .blocks) (row-blocks s z row offset .blocks) f₀ f
+      → f ≡ write-all k (row-blocks s z row offset .blocks) f₀
+  rowed k st col f₀ f l r = left-none (blocks-walk k) _ _ f₀ f (ap (λ x. x .blocks) (none-left st col l)) r
+
+  pub row-read : (st : V0Row) (col : ℕ) → z .width ≤ col → rest-of s z row col st .bits ≡ row-blocks s z row offset .bits
+      → st .bits .filler ≡ row-blocks s z row offset .bits .filler
+  row-read st col l e = ap (λ b. b .filler) (sym (ap (λ x. x .bits) (none-left st col l)) ∙ e)

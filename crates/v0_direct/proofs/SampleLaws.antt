@@ -15,7 +15,7 @@ use Rattle.rules.specs.declared.reader.Residual.{Residual}
 use Rattle.rules.specs.declared.v0.Predictor.{Predictor}
 use Rattle.rules.specs.declared.v0.V0Head.{V0Head}
 use Rattle.v0_direct.specs.Block.{samples-of}
-use Rattle.v0_cells.proofs.CellLaws.{put-mark-alike, Left, left-begun, left-on, left-none}
+use Rattle.v0_cells.proofs.CellLaws.{put-mark-alike, ops-walk, Left, left-begun, left-on, left-none}
 
 -- ── One sample ──
 
@@ -45,12 +45,12 @@ module _ (s : List ℕ) (z : Size) (row col : ℕ) (h : V0Head) (c : ℕ) (b : B
 pub record Sampling (s : List ℕ) (z : Size) (row col : ℕ) (h : V0Head) (b₀ b : Bits) (out₀ out map₀ map : List ℕ) (k : ℕ) : Type 0 where
   pub below : k ≤ 16
   pub bits-are : samples-of s z row col h (drop k order) b .bits ≡ samples-of s z row col h order b₀ .bits
-  pub samples-left : Left sample-kind (samples-of s z row col h (drop k order) b .ops) (samples-of s z row col h order b₀ .ops) out₀ out
-  pub marks-left : Left v0-marks (samples-of s z row col h (drop k order) b .ops) (samples-of s z row col h order b₀ .ops) map₀ map
+  pub samples-left : Left (ops-walk sample-kind) (samples-of s z row col h (drop k order) b .ops) (samples-of s z row col h order b₀ .ops) out₀ out
+  pub marks-left : Left (ops-walk v0-marks) (samples-of s z row col h (drop k order) b .ops) (samples-of s z row col h order b₀ .ops) map₀ map
 
 module _ (s : List ℕ) (z : Size) (row col : ℕ) (h : V0Head) (b₀ : Bits) (out₀ map₀ : List ℕ) where
   pub sampling-begun : Sampling s z row col h b₀ b₀ out₀ out₀ map₀ map₀ 0
-  sampling-begun = record { below = omega arith; bits-are = refl; samples-left = left-begun sample-kind _ _ out₀ refl; marks-left = left-begun v0-marks _ _ map₀ refl }
+  sampling-begun = record { below = omega arith; bits-are = refl; samples-left = left-begun (ops-walk sample-kind) _ _ out₀ refl; marks-left = left-begun (ops-walk v0-marks) _ _ map₀ refl }
 
   pub sampling-on : (b b′ : Bits) (out out′ map map′ : List ℕ) (k c : ℕ) → k < 16 → c ≡ getD order k 0
       → b′ ≡ samples-of s z row col h (c ∷ []) b .bits
@@ -62,8 +62,8 @@ module _ (s : List ℕ) (z : Size) (row col : ℕ) (h : V0Head) (b₀ : Bits) (o
       record {
         below = omega arith;
         bits-are = sym (ap (λ x. x .bits) first) ∙ r .bits-are;
-        samples-left = left-on sample-kind (one .ops) _ _ _ out₀ out out′ (ap (λ x. x .ops) first) eo (r .samples-left);
-        marks-left = left-on v0-marks (one .ops) _ _ _ map₀ map map′ (ap (λ x. x .ops) first) em (r .marks-left);
+        samples-left = left-on (ops-walk sample-kind) (one .ops) _ _ _ out₀ out out′ (ap (λ x. x .ops) first) eo (r .samples-left);
+        marks-left = left-on (ops-walk v0-marks) (one .ops) _ _ _ map₀ map map′ (ap (λ x. x .ops) first) em (r .marks-left);
       }
     where
       one : Ops
@@ -79,4 +79,4 @@ module _ (s : List ℕ) (z : Size) (row col : ℕ) (h : V0Head) (b₀ : Bits) (o
   sampled b out map k l r =
       let e : k ≡ 16 = omega (arith, r .below) in
       let r′ : Sampling s z row col h b₀ b out₀ out map₀ map 16 = rw e at r in
-      (r′ .bits-are, (left-none sample-kind _ _ out₀ out refl (r′ .samples-left), left-none v0-marks _ _ map₀ map refl (r′ .marks-left)))
+      (r′ .bits-are, (left-none (ops-walk sample-kind) _ _ out₀ out refl (r′ .samples-left), left-none (ops-walk v0-marks) _ _ map₀ map refl (r′ .marks-left)))

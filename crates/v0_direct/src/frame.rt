@@ -1,16 +1,29 @@
 // A whole frame: its rows, then the exchange. Samples and marks go through the same code; a map that is not lent is a frame of no
 // cells.
 ghost use mathlib.Core.Path.{_≡_};
-ghost use Prim.Native.Nat.{_≤_};
+ghost use Prim.Native.Nat.{_+_, _≤_, min};
+ghost use Rattle.rules.specs.Reader.{most-filler};
 ghost use Rattle.rules.specs.V0 as V0;
 ghost use Rattle.rules.specs.Map.{v0-marks};
 ghost use Rattle.v0_direct.specs.Lent.{Lends};
 use super::row::decode_row;
+use rules::Bits;
 use rules::Size;
 use v0_cells::exchange::exchange;
 use v0_cells::exchange::exchange_marks;
 
-// The first `count` rows.
+// Two counts of missing words together, held as a reader's is.
+fn held_sum(a: u64, b: u64) -> u64
+    ensures { λ r. ⌜ r ≡ min (a + b) most-filler ⌝ }
+{
+    if b < Bits::MOST_FILLER - a {
+        a + b
+    } else {
+        Bits::MOST_FILLER
+    }
+}
+
+// The first `count` rows: how many words were missing in them.
 pub fn decode_rows(
     src: &[u8],
     offsets: &[u32],
@@ -18,26 +31,32 @@ pub fn decode_rows(
     count: usize,
     out: &mut [u16],
     map: &mut [u8],
-)
+) -> u64
     requires { ⌜ Lends size (now offsets) (now out) (now map) × (count ≤ size .height) ⌝ }
-    ensures { λ _. ⌜ now (out .exit) ≡ V0.apply V0.sample-kind (V0.rows (now (src .entry)) (now (offsets .entry)) size count 0) (now (out .entry)) ⌝ }
-    ensures { λ _. ⌜ now (map .exit) ≡ V0.apply v0-marks (V0.rows (now (src .entry)) (now (offsets .entry)) size count 0) (now (map .entry)) ⌝ }
+    ensures { λ r. ⌜ r ≡ V0.rows-filler (now (src .entry)) (now (offsets .entry)) size count 0 0 ⌝ }
+    ensures { λ _. ⌜ now (out .exit) ≡ V0.write-all V0.sample-kind (V0.rows (now (src .entry)) (now (offsets .entry)) size count 0) (now (out .entry)) ⌝ }
+    ensures { λ _. ⌜ now (map .exit) ≡ V0.write-all v0-marks (V0.rows (now (src .entry)) (now (offsets .entry)) size count 0) (now (map .entry)) ⌝ }
 {
+    let mut filler: u64 = 0;
     let mut row: usize = 0;
     while row < count {
-        decode_row(src, size, row, offsets[row], out, map);
+        let missing = decode_row(src, size, row, offsets[row], out, map);
+        filler = held_sum(filler, missing);
         row += 1;
     }
+    filler
 }
 
-// All rows, and the exchange after them.
-pub fn decode_frame(src: &[u8], offsets: &[u32], size: Size, out: &mut [u16], map: &mut [u8])
+// All rows, and the exchange after them: how many words were missing.
+pub fn decode_frame(src: &[u8], offsets: &[u32], size: Size, out: &mut [u16], map: &mut [u8]) -> u64
     requires { ⌜ Lends size (now offsets) (now out) (now map) ⌝ }
+    ensures { λ r. ⌜ r ≡ V0.frame-filler (now (src .entry)) (now (offsets .entry)) size ⌝ }
     ensures { λ _. ⌜ now (out .exit) ≡ V0.decoded (now (src .entry)) (now (offsets .entry)) size (now (out .entry)) ⌝ }
     ensures { λ _. ⌜ now (map .exit) ≡ V0.frame v0-marks (now (src .entry)) (now (offsets .entry)) size (now (map .entry)) ⌝ }
 {
     let h = size.height;
-    decode_rows(src, offsets, size, h, out, map);
+    let filler = decode_rows(src, offsets, size, h, out, map);
     exchange(out, size);
     exchange_marks(map, size);
+    filler
 }

@@ -1,16 +1,19 @@
 // A row: its blocks one after another, the inner ones in one go and the others by the literal rule.
 ghost use mathlib.Core.Bool.{true};
 ghost use mathlib.Core.Path.{_≡_};
-ghost use Prim.Native.Nat.{_<_};
+ghost use Prim.Native.Nat.{_+_, _^_, _<_};
 ghost use lib.ListN.{length};
 ghost use Rattle.rules.specs.V0 as V0;
-ghost use Rattle.rules.specs.Frame.{cells};
-ghost use Rattle.rules.specs.Map.{v0-marks};
+ghost use Rattle.rules.specs.Reader.{has-filler};
+ghost use Rattle.rules.specs.Frame.{cells, ended};
+ghost use Rattle.rules.specs.Map.{with-filler, v0-marks};
 ghost use Rattle.v0_stream.specs.Lengths.{Within, furthest};
 ghost use Rattle.v0_cells.specs.Places.{Whole, InFrame, Inner};
 ghost use Rattle.v0_direct.specs.Lent.{InRow};
 ghost use Rattle.v0_direct.specs.Block.{block-ops, after-block};
 use super::sample::decode_samples;
+use maps::fill_block;
+use rules::Bits;
 use rules::Size;
 use rules::V0Row;
 use v0_cells::inner::mark_block;
@@ -80,17 +83,40 @@ fn decode_block(
     V0Row { lengths, bits }
 }
 
-// A row whose data begins at an offset of the stream.
-pub fn decode_row(src: &[u8], size: Size, row: usize, offset: u32, out: &mut [u16], map: &mut [u8])
+// A block's end: its map bytes gain 2 if its reader had fetched filler by then.
+fn end_block(map: &mut [u8], place: usize, bits: Bits)
+    requires { ⌜ place + 16 < 2 ^ 64 ⌝ }
+    ensures { λ _. ⌜ now (map .exit) ≡ ended with-filler 0 (has-filler bits) place (now (map .entry)) ⌝ }
+{
+    if bits.filler == 0 {
+        return;
+    }
+    fill_block(map, place);
+}
+
+// A row whose data begins at an offset of the stream: how many words were missing in it.
+pub fn decode_row(
+    src: &[u8],
+    size: Size,
+    row: usize,
+    offset: u32,
+    out: &mut [u16],
+    map: &mut [u8],
+) -> u64
     requires { ⌜ InRow size row (now out) (now map) ⌝ }
-    ensures { λ _. ⌜ now (out .exit) ≡ V0.apply V0.sample-kind (V0.row-ops (now (src .entry)) size row offset .ops) (now (out .entry)) ⌝ }
-    ensures { λ _. ⌜ now (map .exit) ≡ V0.apply v0-marks (V0.row-ops (now (src .entry)) size row offset .ops) (now (map .entry)) ⌝ }
+    ensures { λ r. ⌜ r ≡ V0.row-blocks (now (src .entry)) size row offset .bits .filler ⌝ }
+    ensures { λ _. ⌜ now (out .exit) ≡ V0.write-all V0.sample-kind (V0.row-blocks (now (src .entry)) size row offset .blocks) (now (out .entry)) ⌝ }
+    ensures { λ _. ⌜ now (map .exit) ≡ V0.write-all v0-marks (V0.row-blocks (now (src .entry)) size row offset .blocks) (now (map .entry)) ⌝ }
 {
     let w = size.width;
     let mut state = V0Row::fresh(row, offset);
     let mut col: usize = 0;
     while col < w {
         state = decode_block(src, size, row, col, state, out, map);
+        let after = state.bits;
+        end_block(map, row * w + col, after);
         col += V0Row::BLOCK;
     }
+    let bits = state.bits;
+    bits.filler
 }

@@ -15,17 +15,14 @@ use Rattle.rules.specs.V0.{put, apply, order, blocks-in, rows-up, columns-back}
 use Rattle.rules.specs.Phases.{Stage, upward, late-predictor, predict-samples, predict-blocks, phase-two}
 use Rattle.rules.specs.declared.v0.Predictor.{Predictor}
 use Rattle.rules.specs.declared.v0.Predictor.the-variants.{Constant, Sample}
-use Rattle.rules.specs.declared.answer.Size.{Size}
 use Rattle.rules.proofs.Cells.{All, nil, more}
 use Rattle.rules.proofs.Order.{Apart, end, next, all-order, order-apart}
 use Rattle.rules.proofs.Spill.{put-other}
-use Rattle.rules.proofs.V0Cells.{phase-two-length}
 use Rattle.v0_cells.specs.Places.{Inside}
 use Rattle.v0_cells.specs.Inner.{inner-ops}
 use Rattle.v0_cells.proofs.CellLaws.{product}
 use Rattle.v0_cells.proofs.InnerLaws.{late-source}
-use Rattle.v0_cells.proofs.ExchangeLaws.{map-framed}
-use Rattle.v0_two_phase.specs.Lent.{LateRow, PhaseLent, MapLent}
+use Rattle.v0_two_phase.specs.Lent.{LateRow}
 
 -- ── The predictor ──
 
@@ -193,21 +190,6 @@ module _ (g : Stage ℕ) (w h : ℕ) (ds : List ℕ) where
   rows-done f₀ f r l p =
       let none : h - 2 - r ≡ 0 = omega arith in
       rw none at (p .cells-are)
-
--- ── No map ──
-
-no-cells : (xs ys : List ℕ) → length xs ≡ 0 → length ys ≡ length xs → xs ≡ ys
-no-cells [] [] e q = refl
-no-cells [] (y ∷ ys) e q = absurd (let z : suc (length ys) ≡ 0 = q in omega arith)
-no-cells (x ∷ xs) ys e q = absurd (let z : suc (length xs) ≡ 0 = e in omega arith)
-
--- Phase two does nothing to a map that isn't lent ..
-pub none-lent : (g : Stage ℕ) (w n row : ℕ) (ds f : List ℕ) → length f ≡ 0 → f ≡ phase-two g w n row ds f
-none-lent g w n row ds f e = no-cells f (phase-two g w n row ds f) e (phase-two-length g w n row ds f)
-
--- .. and one that is lent has a byte for each sample.
-pub map-whole : {z : Size} {map dirs : List ℕ} → MapLent z map dirs → (length map ≡ 0 → ⊥) → PhaseLent z map dirs
-map-whole m lent = record { frame = map-framed _ _ (m .frame) lent; directions-lent = m .directions-lent }
 
 -- ── The directions that are read ──
 

@@ -1,11 +1,11 @@
 -- What the decoder and its two phases are lent.
 use Prim.Native.Nat.{ℕ, _+_, _*_, _≤_, _<_}
-use mathlib.Core.List.{List}
+use mathlib.Core.List.{List, []}
 use lib.ListN.{length}
 use Rattle.rules.specs.Answer.{scratch-bytes}
 use Rattle.rules.specs.V0.{blocks-in}
 use Rattle.rules.specs.declared.answer.Size.{Size}
-use Rattle.v0_cells.specs.Places.{Framed, MapFramed}
+use Rattle.v0_cells.specs.Places.{Framed}
 use Rattle.v0_direct.specs.Lent as Direct
 
 -- What the parser of a row is lent: its samples, and a direction byte for each of its blocks. Both may reach further.
@@ -17,11 +17,6 @@ pub record RowLent (w : ℕ) (out dirs : List ℕ) : Type 0 where
 -- What a phase is lent: a frame's cells, and a direction byte for each block from row 2 on.
 pub record PhaseLent (z : Size) (f dirs : List ℕ) : Type 0 where
   pub frame : Framed z f
-  pub directions-lent : scratch-bytes z ≤ length dirs
-
--- The same for the marks, of a map that is lent whole or not at all.
-pub record MapLent (z : Size) (map dirs : List ℕ) : Type 0 where
-  pub frame : MapFramed z map
   pub directions-lent : scratch-bytes z ≤ length dirs
 
 -- A row from row 2 on, of w cells.
@@ -40,6 +35,6 @@ pub record LateSample (w row col c : ℕ) : Type 0 where
   pub sample-in : c < 16
 
 -- What a call of the decoder is lent, once refusals 1, 3 and 4 are passed.
-pub record Lends (z : Size) (offsets out map dirs : List ℕ) : Type 0 where
-  pub frame : Direct.Lends z offsets out map
+pub record Lends (z : Size) (offsets out dirs : List ℕ) : Type 0 where
+  pub frame : Direct.Lends z offsets out []
   pub directions-lent : scratch-bytes z ≤ length dirs

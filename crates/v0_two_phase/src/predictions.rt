@@ -1,5 +1,4 @@
-// Phase two: the prediction of each sample from row 2 on, added to the residual that phase one left in its place; and the marks,
-// which need no residual.
+// Phase two: the prediction of each sample from row 2 on, added to the residual that phase one left in its place.
 ghost use mathlib.Core.Path.{_≡_};
 ghost use mathlib.Core.Bool.{true, false, cond};
 ghost use mathlib.Core.List.{[], _∷_};
@@ -8,17 +7,14 @@ ghost use lib.Dec.{eqb};
 ghost use lib.ListN.{length, getD, take, drop};
 ghost use Rattle.rules.specs.V0.{order, blocks-in, sample-kind};
 ghost use Rattle.rules.specs.Phases.{late-predictor, predict-samples, predict-blocks, phase-two, sample-stage};
-ghost use Rattle.rules.specs.Map.{mark-stage};
 ghost use Rattle.v0_cells.specs.Places.{Inside};
 ghost use Rattle.v0_cells.specs.Inner.{Replaced};
 ghost use Rattle.v0_two_phase.specs.Inner.{predict-inner};
-ghost use Rattle.v0_two_phase.specs.Lent.{LateSample, LateRow, PhaseLent, MapLent};
+ghost use Rattle.v0_two_phase.specs.Lent.{LateSample, LateRow, PhaseLent};
 use rules::Predictor;
 use rules::Size;
 use rules::V0Row;
 use v0_cells::cells::put;
-use v0_cells::cells::put_mark;
-use v0_cells::inner::mark_inner;
 use v0_stream::order::stream_column;
 
 // How many rows up sample c looks.
@@ -185,83 +181,4 @@ pub fn add_rows(out: &mut [u16], dirs: &[u8], size: Size)
         add_part(out, dirs, r * blocks, 0, blocks, w, r + 2);
         r += 1;
     }
-}
-
-// The mark of sample c of a block, if it lies within the row.
-fn mark_sample(map: &mut [u8], w: usize, row: usize, col: usize, up: bool, c: usize)
-    requires { ⌜ LateRow w row (now map) × ((col < w) × (c < 16)) ⌝ }
-    ensures { λ _. ⌜ now (map .exit) ≡ predict-samples mark-stage w row col up (c ∷ []) (now (map .entry)) ⌝ }
-{
-    if col + c < w {
-        let from = predictor(w, row, col, up, c);
-        put_mark(map, row * w + col + c, from);
-    }
-}
-
-// The marks of a block at an edge of its row.
-fn mark_edge(map: &mut [u8], w: usize, row: usize, col: usize, up: bool)
-    requires { ⌜ LateRow w row (now map) × (col < w) ⌝ }
-    ensures { λ _. ⌜ now (map .exit) ≡ predict-samples mark-stage w row col up order (now (map .entry)) ⌝ }
-{
-    let mut k: usize = 0;
-    while k < V0Row::BLOCK {
-        let c = stream_column(k);
-        mark_sample(map, w, row, col, up, c);
-        k += 1;
-    }
-}
-
-// The marks of a block.
-fn mark_block(map: &mut [u8], w: usize, row: usize, col: usize, up: bool)
-    requires { ⌜ LateRow w row (now map) × (col < w) ⌝ }
-    ensures { λ _. ⌜ now (map .exit) ≡ predict-samples mark-stage w row col up order (now (map .entry)) ⌝ }
-{
-    if col == 0 {
-        mark_edge(map, w, row, col, up);
-        return;
-    }
-    if w < col + V0Row::BLOCK {
-        mark_edge(map, w, row, col, up);
-        return;
-    }
-    mark_inner(map, w, row * w + col, up);
-}
-
-// The marks of a row, whose directions begin at `start`.
-fn mark_row(map: &mut [u8], dirs: &[u8], start: usize, w: usize, row: usize)
-    requires { ⌜ LateRow w row (now map) × (start + blocks-in w ≤ length (now dirs)) ⌝ }
-    ensures { λ _. ⌜ now (map .exit) ≡ predict-blocks mark-stage w row 0 (take (blocks-in w) (drop start (now (dirs .entry)))) (now (map .entry)) ⌝ }
-{
-    let blocks = (w + 15) / V0Row::BLOCK;
-    let mut k: usize = 0;
-    while k < blocks {
-        mark_block(map, w, row, k * V0Row::BLOCK, dirs[start + k] != 0);
-        k += 1;
-    }
-}
-
-// The marks of rows 2 on.
-fn mark_rows(map: &mut [u8], dirs: &[u8], size: Size)
-    requires { ⌜ PhaseLent size (now map) (now dirs) ⌝ }
-    ensures { λ _. ⌜ now (map .exit) ≡ phase-two mark-stage (size .width) (size .height - 2) 2 (now (dirs .entry)) (now (map .entry)) ⌝ }
-{
-    let w = size.width;
-    let h = size.height;
-    let blocks = (w + 15) / V0Row::BLOCK;
-    let mut r: usize = 0;
-    while r + 2 < h {
-        mark_row(map, dirs, r * blocks, w, r + 2);
-        r += 1;
-    }
-}
-
-// The same, if a map is lent.
-pub fn mark_lent(map: &mut [u8], dirs: &[u8], size: Size)
-    requires { ⌜ MapLent size (now map) (now dirs) ⌝ }
-    ensures { λ _. ⌜ now (map .exit) ≡ phase-two mark-stage (size .width) (size .height - 2) 2 (now (dirs .entry)) (now (map .entry)) ⌝ }
-{
-    if map.len() == 0 {
-        return;
-    }
-    mark_rows(map, dirs, size);
 }

@@ -1,5 +1,5 @@
 -- Where a row and a frame stand: what is left from here comes to what the whole comes to, for samples and marks alike.
-use mathlib.Core.Bool.{true, false}
+use mathlib.Core.Bool.{Bool, true, false}
 use mathlib.Core.List.{List, [], _∷_, _++_}
 use mathlib.Core.Logic.{_⊎_, ⊎-elim}
 use mathlib.Core.Path.{_≡_, refl, sym, ap, ap₂, _∙_}
@@ -10,6 +10,7 @@ use native.Mathlib.Omega.{arith}
 use lib.Dec.{eqb}
 use lib.ListN.{length}
 use lib.Seq.{sets}
+use borrow.Author.Tests.{ne-eqb}
 use Rattle.rules.specs.declared.answer.Answer.{Answer}
 use Rattle.rules.specs.declared.answer.Size.{Size}
 use Rattle.rules.specs.declared.reader.Bits.{Bits}
@@ -18,11 +19,14 @@ use Rattle.rules.specs.declared.v2.V2Block.{V2Block}
 use Rattle.rules.specs.declared.v2.V2Hdr.{V2Hdr}
 use Rattle.rules.specs.declared.v2.V2Row.{V2Row}
 use Rattle.rules.specs.declared.v2.V2Start.{V2Start}
-use Rattle.rules.specs.Frame.{cells, tabulate}
-use Rattle.rules.specs.Map.{v2-marks}
-use Rattle.rules.specs.V2.{header, aligned, fresh-row, fresh-mode, number, base, Block, read-block, Row, then, blocks, read-row, Frame, then-rows, rows, read-frame, Kind, base-cell, block-cells, apply, frame, top, sample-kind, decoded}
+use Rattle.rules.specs.Reader.{has-filler}
+use Rattle.rules.specs.Frame.{cells, tabulate, ended}
+use Rattle.rules.specs.Map.{with-filler, v2-marks}
+use Rattle.rules.specs.V2.{header, aligned, fresh-row, fresh-mode, number, state-after, base, Block, read-block, Row, then, blocks, read-row, Frame, then-rows, rows, read-frame, Kind, base-cell, block-cells, write, apply, frame, top, sample-kind, decoded}
+use Rattle.rules.specs.Answer.{done-with}
 use Rattle.rules.specs.Ranges.{ScaleAt}
 use Rattle.rules.proofs.V2Bounds.{depth-most, scale-starts, next-state, next-unrefused, next-motion, next-scale}
+use Rattle.rules.proofs.V2Cells.{write-plain}
 use Rattle.v2_cells.specs.declared.Place.{Place}
 use Rattle.v2_cells.specs.Places.{Placed, Markable}
 use Rattle.v2.specs.Blocks.{written}
@@ -33,7 +37,7 @@ use Rattle.v2_stream.proofs.LengthLaws.{left-suc, left-none}
 apply-append : (K : Kind ℕ) (xs ys : List Block) (f : List ℕ) → apply K (xs ++ ys) f ≡ apply K ys (apply K xs f)
 unfolding apply
 apply-append K [] ys f = refl
-apply-append K (x ∷ xs) ys f = apply-append K xs ys (sets f (x .place) (block-cells K f x))
+apply-append K (x ∷ xs) ys f = apply-append K xs ys (write K x f)
 
 -- The blocks `rest` over samples f and marks g come to what the blocks `whole` come to over f₀ and g₀.
 pub record Comes (t : ℕ) (whole : List Block) (f₀ g₀ : List ℕ) (rest : List Block) (f g : List ℕ) : Type 0 where
@@ -56,9 +60,11 @@ module _ {t : ℕ} {whole : List Block} {f₀ g₀ : List ℕ} where
   comes-same rest e = record { samples = rw e; marks = rw e }
 
 comes-block : (t : ℕ) (x : Block) (rest : List Block) (f g f′ g′ : List ℕ) → f′ ≡ sets f (x .place) (block-cells (sample-kind t) f x)
-    → g′ ≡ sets g (x .place) (block-cells v2-marks g x) → Comes t (x ∷ rest) f g rest f′ g′
-unfolding apply
-comes-block t x rest f g f′ g′ ef eg = record { samples = rw (← ef); marks = rw (← eg) }
+    → g′ ≡ ended with-filler 0 (x .filler) (x .place) (sets g (x .place) (block-cells v2-marks g x)) → Comes t (x ∷ rest) f g rest f′ g′
+unfolding apply write
+comes-block t x rest f g f′ g′ ef eg =
+    let samples-are : f′ ≡ write (sample-kind t) x f = ef ∙ sym (write-plain (sample-kind t) (λ a. refl) x f) in
+    record { samples = rw (← samples-are); marks = rw (← eg) }
 
 -- ── A row ──
 
@@ -91,12 +97,12 @@ row-starts t s h w row b st mode f g e =
 
 -- What follows a refusal is nothing.
 refused : (o : V2Block) → ((b : Bits) (st : V2Row) → o ≡ Next b st → ⊥) → (x : Block) (rest : Bits → V2Row → Row)
-    → (then o x rest .number ≡ number o) × (then o x rest .blocks ≡ [])
+    → then o x rest ≡ record { blocks = []; number = number o; bits = state-after o }
 unfolding then
 refused (Next b st) no-next x rest = absurd (no-next b st refl)
-refused (EarlyMotion b) no-next x rest = (refl, refl)
-refused (Outside b) no-next x rest = (refl, refl)
-refused (LongDifference b) no-next x rest = (refl, refl)
+refused (EarlyMotion b) no-next x rest = refl
+refused (Outside b) no-next x rest = refl
+refused (LongDifference b) no-next x rest = refl
 
 module _ (t : ℕ) (s : List ℕ) (h : V2Hdr) (w row : ℕ) (whole : Row) (f₀ g₀ : List ℕ) (col : ℕ) (b : Bits) (st : V2Row) (mode : List (List ℕ)) (f g : List ℕ)
     (r : RowGoing t s h w row whole f₀ g₀ col b st mode f g) where
@@ -117,10 +123,11 @@ module _ (t : ℕ) (s : List ℕ) (h : V2Hdr) (w row : ℕ) (whole : Row) (f₀ 
     first-block = let z : w / 16 - col / 16 ≡ suc (w / 16 - (col + 16) / 16) = omega (arith, r .whole-blocks) in rw (z, ← eo)
 
     -- At a refusal the row has come to its end, without the block.
-    pub row-stops : ((b′ : Bits) (st′ : V2Row) → o ≡ Next b′ st′ → ⊥) → (whole .number ≡ number o) × Comes t (whole .blocks) f₀ g₀ [] f g
+    pub row-stops : ((b′ : Bits) (st′ : V2Row) → o ≡ Next b′ st′ → ⊥)
+        → (whole .number ≡ number o) × ((whole .bits ≡ state-after o) × Comes t (whole .blocks) f₀ g₀ [] f g)
     row-stops no-next =
-        let q = refused o no-next (read-block s h w row col b st mode .block) (λ b′ st′. Left s h w row (col + 16) b′ st′ (read-block s h w row col b st mode .mode)) in
-        (r .number-is ∙ ap (λ (x : Row). x .number) first-block ∙ q .0, comes-on (r .comes) (comes-same _ (ap (λ (x : Row). x .blocks) first-block ∙ q .1)))
+        let e = first-block ∙ refused o no-next (read-block s h w row col b st mode .block) (λ b′ st′. Left s h w row (col + 16) b′ st′ (read-block s h w row col b st mode .mode)) in
+        (r .number-is ∙ ap (λ (x : Row). x .number) e, (r .bits-are ∙ ap (λ (x : Row). x .bits) e, comes-on (r .comes) (comes-same _ (ap (λ (x : Row). x .blocks) e))))
 
     module _ (b′ : Bits) (st′ : V2Row) (en : o ≡ Next b′ st′) (mode′ : List (List ℕ)) (em : mode′ ≡ read-block s h w row col b st mode .mode) where
       block-next : This ≡ record {
@@ -135,18 +142,23 @@ module _ (t : ℕ) (s : List ℕ) (h : V2Hdr) (w row : ℕ) (whole : Row) (f₀ 
       unfolding read-block block-cells
       marks-are h′ = rw (next-state s h w row col b st mode b′ st′ (sym eo ∙ en))
 
+      -- The reader's state at its end is the next one.
+      filler-is : read-block s h w row col b st mode .block .filler ≡ has-filler b′
+      unfolding read-block
+      filler-is = ap (λ x. has-filler (state-after x)) (sym eo ∙ en)
+
       -- Its samples and marks are written at its place.
       comes-first : (rest : List Block) (old new f′ g′ : List ℕ) (p : ℕ) → p ≡ row * w + col → new ≡ written o (block-cells (sample-kind t) f (read-block s h w row col b st mode .block)) old
-          → f′ ≡ sets f p new → g′ ≡ sets g (row * w + col) (tabulate 16 0 (λ i. base-cell v2-marks g (base h w row col (st′ .motion) i)))
+          → f′ ≡ sets f p new → g′ ≡ ended with-filler 0 (has-filler b′) (row * w + col) (sets g (row * w + col) (tabulate 16 0 (λ i. base-cell v2-marks g (base h w row col (st′ .motion) i))))
           → Comes t (read-block s h w row col b st mode .block ∷ rest) f g rest f′ g′
       unfolding read-block written
       comes-first rest old new f′ g′ p ep ev ef eg =
           comes-block t (read-block s h w row col b st mode .block) rest f g f′ g′ (ef ∙ ap₂ (λ (x : ℕ) (v : List ℕ). sets f x v) ep (rw en at ev))
-          (eg ∙ ap (λ (v : List ℕ). sets g (row * w + col) v) (sym (marks-are g)))
+          (eg ∙ ap₂ (λ (x : Bool) (v : List ℕ). ended with-filler 0 x (row * w + col) (sets g (row * w + col) v)) (sym filler-is) (sym (marks-are g)))
 
       -- The row goes on after a block that goes on.
       pub row-goes : (old new f′ g′ : List ℕ) (p : ℕ) → p ≡ row * w + col → new ≡ written o (block-cells (sample-kind t) f (read-block s h w row col b st mode .block)) old
-          → f′ ≡ sets f p new → g′ ≡ sets g (row * w + col) (tabulate 16 0 (λ i. base-cell v2-marks g (base h w row col (st′ .motion) i)))
+          → f′ ≡ sets f p new → g′ ≡ ended with-filler 0 (has-filler b′) (row * w + col) (sets g (row * w + col) (tabulate 16 0 (λ i. base-cell v2-marks g (base h w row col (st′ .motion) i))))
           → RowGoing t s h w row whole f₀ g₀ (col + 16) b′ st′ mode′ f′ g′
       row-goes old new f′ g′ p ep ev ef eg = record {
         within = l;
@@ -190,10 +202,10 @@ module _ (t : ℕ) (s : List ℕ) (h : V2Hdr) (w height : ℕ) (whole : Frame) (
   abbrev These : Frame
   These = rows s h w (height - row) row b
 
-  pub frame-ends : height ≤ row → Ended (record { number = 0; row = 0 }) f g
+  pub frame-ends : height ≤ row → Ended (done-with (b .filler)) f g
   unfolding rows
   frame-ends l =
-      let e : These ≡ record { blocks = []; answer = record { number = 0; row = 0 } } = rw (left-none height row l) in
+      let e : These ≡ record { blocks = []; answer = done-with (b .filler) } = rw (left-none height row l) in
       (r .answer-is ∙ ap (λ (x : Frame). x .answer) e, comes-on (r .comes) (comes-same _ (ap (λ (x : Frame). x .blocks) e)))
 
   module _ (l : row < height) (q : Row) (eq : read-row s h w row b ≡ q) (f′ g′ : List ℕ) (d : Comes t (q .blocks) f g [] f′ g′) where
@@ -202,23 +214,26 @@ module _ (t : ℕ) (s : List ℕ) (h : V2Hdr) (w height : ℕ) (whole : Frame) (
     first-row = rw (left-suc height row l, eq, add-one)
 
     -- The frame ends with the row, for a refusal.
-    ended : (a : Answer) → These ≡ record { blocks = q .blocks; answer = a } → Ended a f′ g′
-    ended a e = (r .answer-is ∙ ap (λ (x : Frame). x .answer) e, comes-on (r .comes) (comes-on (comes-same _ (ap (λ (x : Frame). x .blocks) e)) d))
+    ended-by : (a : Answer) → These ≡ record { blocks = q .blocks; answer = a } → Ended a f′ g′
+    ended-by a e = (r .answer-is ∙ ap (λ (x : Frame). x .answer) e, comes-on (r .comes) (comes-on (comes-same _ (ap (λ (x : Frame). x .blocks) e)) d))
 
-    pub frame-refuses : (k : ℕ) → q .number ≡ k → eqb k 0 ≡ false → Ended (record { number = k; row = row }) f′ g′
+    pub frame-refuses : (k : ℕ) (b′ : Bits) → q .number ≡ k → eqb k 0 ≡ false → q .bits ≡ b′
+        → Ended (record { number = k; row = row; filler = b′ .filler }) f′ g′
     unfolding then-rows
-    frame-refuses k ek z = ended (record { number = k; row = row }) (first-row ∙ rw (ek, z))
+    frame-refuses k b′ ek z eb = ended-by (record { number = k; row = row; filler = b′ .filler }) (first-row ∙ rw (ek, z, eb))
 
-    pub frame-overruns : q .number ≡ 0 → q .bits .overrun ≡ true → Ended (record { number = 8; row = row }) f′ g′
+    pub frame-short : (b′ : Bits) → q .number ≡ 0 → q .bits ≡ b′ → (b′ .filler ≡ 0 → ⊥)
+        → Ended (record { number = 8; row = row; filler = b′ .filler }) f′ g′
     unfolding then-rows
-    frame-overruns ek z = ended (record { number = 8; row = row }) (first-row ∙ rw (ek, z))
+    frame-short b′ ek eb z = ended-by (record { number = 8; row = row; filler = b′ .filler }) (first-row ∙ rw (ek, eb, ne-eqb (b′ .filler) 0 z))
 
     -- The frame goes on after a row without a refusal.
-    pub frame-goes : (b′ : Bits) → q .number ≡ 0 → q .bits ≡ b′ → b′ .overrun ≡ false → FrameGoing t s h w height whole f₀ g₀ (row + 1) b′ f′ g′
+    pub frame-goes : (b′ : Bits) → q .number ≡ 0 → q .bits ≡ b′ → b′ .filler ≡ 0 → FrameGoing t s h w height whole f₀ g₀ (row + 1) b′ f′ g′
     unfolding then-rows
     frame-goes b′ ek eb z =
         let rest = rows s h w (height - (row + 1)) (row + 1) b′ in
-        let e : These ≡ record { blocks = q .blocks ++ rest .blocks; answer = rest .answer } = first-row ∙ rw (ek, eb, z) in
+        let none : eqb (b′ .filler) 0 ≡ true = rw z in
+        let e : These ≡ record { blocks = q .blocks ++ rest .blocks; answer = rest .answer } = first-row ∙ rw (ek, eb, none) in
         record {
           answer-is = r .answer-is ∙ ap (λ (x : Frame). x .answer) e;
           comes = comes-on (r .comes) (comes-on (comes-same _ (ap (λ (x : Frame). x .blocks) e)) (comes-append d (rest .blocks)));

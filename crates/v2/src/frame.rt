@@ -25,8 +25,8 @@ pub fn decode_frame(src: &[u8], size: Size, out: &mut [u16], map: &mut [u8]) -> 
     let height = size.height;
     let start = read_header(src);
     let hdr = start.hdr;
-    let mut answer = Answer::done();
     let mut bits = start.bits;
+    let mut answer = Answer::done_with(bits.filler);
     let mut row: usize = 0;
     'frame: while row < height {
         bits = align(bits);
@@ -38,25 +38,29 @@ pub fn decode_frame(src: &[u8], size: Size, out: &mut [u16], map: &mut [u8]) -> 
             let mut samples = [0u16; 16];
             let outcome = read_block(src, hdr, at, &out[..], bits, state, &mut mode, &mut samples);
             let V2Block::Next(next_bits, next_state) = outcome else {
+                let after = outcome.bits();
                 answer = Answer {
                     number: outcome.number(),
                     row: row as u32,
+                    filler: after.filler,
                 };
                 break 'frame;
             };
             store(&mut out[..], at.first(), &samples);
-            mark_block(&mut map[..], at, next_state.motion);
+            mark_block(&mut map[..], at, next_state.motion, next_bits);
             bits = next_bits;
             state = next_state;
             col += V2Row::BLOCK;
         }
-        if bits.overrun {
+        if bits.filler != 0 {
             answer = Answer {
                 number: Answer::OVERRUN,
                 row: row as u32,
+                filler: bits.filler,
             };
             break 'frame;
         }
+        answer = Answer::done();
         row += 1;
     }
     answer

@@ -1,33 +1,31 @@
 // The marks of a block: a sample's mark is that of the samples that its base was read from.
 ghost use mathlib.Core.Path.{_≡_};
 ghost use mathlib.Core.Bool.{cond};
-ghost use Prim.Native.Nat.{_+_, _*_, _≤_, _<_, max};
+ghost use Prim.Native.Nat.{_+_, _*_, _≤_, _<_};
 ghost use lib.ListN.{length};
 ghost use lib.Seq.{sets};
 ghost use Rattle.rules.specs.declared.v2.V2Hdr.{V2Hdr};
-ghost use Rattle.rules.specs.Frame.{tabulate};
+ghost use Rattle.rules.specs.Frame.{tabulate, ended};
+ghost use Rattle.rules.specs.Reader.{has-filler};
 ghost use Rattle.rules.specs.V2.{base-refusal, base-cell, repeated, base};
-ghost use Rattle.rules.specs.Map.{v2-marks};
+ghost use Rattle.rules.specs.Map.{with-filler, v2-marks};
 ghost use Rattle.v2_cells.specs.Places.{Inside, Markable, along, Runs, cell-from};
 use super::Place;
 use super::base::along_from;
 use super::base::averages;
 use super::base::reference_plus_5;
+use maps::either_part;
+use maps::fill_block;
+use rules::Bits;
 use rules::V2Row;
 
-fn greater(a: u8, b: u8) -> u8
-    ensures { λ r. ⌜ r ≡ max a b ⌝ }
-{
-    if a < b { b } else { a }
-}
-
-// The mark at p, or the greater of it and the one two places on.
+// The mark at p, or the parts of it and of the one two places on.
 fn mark_from(map: &[u8], p: usize, averaging: bool) -> u8
     requires { ⌜ p + cond averaging 2 0 < length (now map) ⌝ }
     ensures { λ r. ⌜ r ≡ cell-from v2-marks (now (map .entry)) averaging p ⌝ }
 {
     if averaging {
-        greater(map[p], map[p + 2])
+        either_part(map[p], map[p + 2])
     } else {
         map[p]
     }
@@ -94,7 +92,7 @@ fn store_marks(map: &mut [u8], at: usize, marks: &[u8; 16])
 }
 
 // Marks a block in a map of the whole frame; an empty map has nothing to mark.
-pub fn mark_block(map: &mut [u8], at: Place, motion: u32)
+fn mark_base(map: &mut [u8], at: Place, motion: u32)
     requires { ⌜ Markable (length (now map)) at motion ⌝ }
     ensures { λ _. ⌜ ((h : V2Hdr) → now (map .exit) ≡ sets (now (map .entry)) (at .row * at .width + at .col) (tabulate 16 0 (λ i. base-cell v2-marks (now (map .entry)) (base h (at .width) (at .row) (at .col) motion i)))) ⌝ }
 {
@@ -104,4 +102,16 @@ pub fn mark_block(map: &mut [u8], at: Place, motion: u32)
     let mut marks = [0u8; 16];
     block_marks(&map[..], at, motion, &mut marks);
     store_marks(&mut map[..], at.first(), &marks);
+}
+
+// The same, and filler where the reader had fetched some by the block's end.
+pub fn mark_block(map: &mut [u8], at: Place, motion: u32, end: Bits)
+    requires { ⌜ Markable (length (now map)) at motion ⌝ }
+    ensures { λ _. ⌜ ((h : V2Hdr) → now (map .exit) ≡ ended with-filler 0 (has-filler end) (at .row * at .width + at .col) (sets (now (map .entry)) (at .row * at .width + at .col) (tabulate 16 0 (λ i. base-cell v2-marks (now (map .entry)) (base h (at .width) (at .row) (at .col) motion i))))) ⌝ }
+{
+    mark_base(map, at, motion);
+    if end.filler == 0 {
+        return;
+    }
+    fill_block(map, at.first());
 }

@@ -9,9 +9,10 @@ use lib.ListN.{length, take, drop}
 use lib.Seq.{length-take-le}
 use borrow.Author.Tests.{eqb-true}
 use Rattle.rules.specs.Frame.{cells}
-use Rattle.rules.specs.Answer.{Decoder, direct, two-phase, Ask, Lent, done, refusal, stream-answer, answer, frame-samples, frame-marks, marks, unless-refused, samples-after, map-after}
+use Rattle.rules.specs.Answer.{Decoder, direct, two-phase, Ask, Lent, done-with, done, refusal, stream-answer, answer, frame-samples, frame-marks, marks, unless-refused, samples-after, map-after}
 use Rattle.rules.proofs.Cells.{All}
 use Rattle.rules.proofs.Refusals.{samples-enough}
+use Rattle.rules.proofs.Missing.{frame-none}
 use Rattle.writers.specs.declared.Written.{Written}
 use Rattle.writers.specs.Calls.{Call, frame-of, stream-of, write-refusal, refused, written, write-answer, stream-after, offsets-after}
 use Rattle.writers.proofs.CallLaws.{write-holds}
@@ -49,17 +50,17 @@ module _ (c : Call) (below : All (λ b. b < 256) (c .stream)) (fewer : length (c
   marks-of : (d : Decoder) → OfV0 d → All (λ x. x ≡ 0) (marks (again c d))
   unfolding frame-marks
   marks-of direct by-direct = back .no-marks
-  marks-of two-phase by-two-phase = back .two-phase-no-marks
+  marks-of two-phase by-two-phase = back .no-marks
 
-  answer-of : (d : Decoder) → OfV0 d → (s : List ℕ) → stream-answer d s (c .size) ≡ done
+  answer-of : (d : Decoder) → OfV0 d → stream-answer d (stream-after c) (offsets-after c) (c .size) ≡ done
   unfolding stream-answer
-  answer-of direct by-direct s = refl
-  answer-of two-phase by-two-phase s = refl
+  answer-of direct by-direct = ap done-with (frame-none (stream-after c) (offsets-after c) (c .size) (back .no-filler))
+  answer-of two-phase by-two-phase = refl
 
   module _ (d : Decoder) (v0 : OfV0 d) (l : Lent) (lends : refusal (again c d) l ≡ 0) where
     pub answered-done : answer (again c d) l ≡ done
     unfolding answer
-    answered-done = rw lends (answer-of d v0 (stream-after c))
+    answered-done = rw lends (answer-of d v0)
 
     pub samples-back : (buffer : List ℕ) → length buffer ≡ l .samples → samples-after (again c d) l buffer ≡ frame-of c ++ drop (cells (c .size)) buffer
     unfolding samples-after unless-refused

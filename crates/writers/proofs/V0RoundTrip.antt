@@ -11,17 +11,19 @@ use lib.Dec.{lit<}
 use Rattle.rules.specs.declared.answer.Size.{Size}
 use Rattle.rules.specs.Reader.{fresh}
 use Rattle.rules.specs.Frame.{cells}
-use Rattle.rules.specs.V0.{fresh-row, blocks-in, order, row-ops, rows, predictor, sample-kind, apply, exchange, frame, decoded}
+use Rattle.rules.specs.V0.{fresh-row, blocks-in, order, row-blocks, rows, predictor, sample-kind, apply, write-all, exchange, frame, decoded}
 use Rattle.rules.specs.Phases.{two-phase}
-use Rattle.rules.specs.Map.{v0-map, two-phase-map}
+use Rattle.rules.specs.Map.{v0-map}
 use Rattle.rules.proofs.Cells.{All, nil, more, all-get, all-append, all-map}
 use Rattle.rules.proofs.Predictors.{HasRowsUp}
 use Rattle.rules.proofs.Spill.{RowHasRowsUp, inner-row, inner-rows, rows-inner}
 use Rattle.rules.proofs.Tests.{clash}
-use Rattle.rules.proofs.TwoPhase.{two-phase-direct, two-phase-map-direct}
+use Rattle.rules.proofs.TwoPhase.{two-phase-direct}
 use Rattle.rules.proofs.V0Blocks.{EachInRow, each-block-map}
-use Rattle.rules.proofs.V0Cells.{apply-append, exchange-length}
-use Rattle.rules.proofs.V0NoMarks.{NoUpward, no-marks}
+use Rattle.rules.proofs.V0Cells.{apply-append, exchange-length, write-all-plain}
+use Rattle.rules.proofs.V0NoMarks.{NoUpward}
+use Rattle.rules.proofs.Missing.{frame-none}
+use Rattle.rules.proofs.NoFiller.{v0-all-0}
 use Rattle.writers.specs.Writer.{padding, padded, bytes, Coding, Unit, word, blocks-bits, row-bytes, rows-bytes, offsets-from, residuals, stream-for, offsets-for}
 use Rattle.writers.proofs.Ahead.{Stream}
 use Rattle.writers.proofs.Exchange.{exchange-twice, exchange-all}
@@ -99,8 +101,8 @@ module _ (s offsets : List ℕ) (st : Stream s) (w h : ℕ) (g : List ℕ) (smal
       sees-blocks s st w h g small row l (blocks-in w) 0 (fresh-row row (getD offsets row 0)) (found row l .rest) (fresh-four row (getD offsets row 0)) refl
       (omega arith) (rw (fresh-bits row (getD offsets row 0)) (found row l .sees))
 
-  row-clean : (row : ℕ) → row < h → row-ops s size row (getD offsets row 0) .bits .overrun ≡ false
-  unfolding row-ops
+  row-clean : (row : ℕ) → row < h → row-blocks s size row (getD offsets row 0) .bits .filler ≡ 0
+  unfolding row-blocks
   row-clean row l = row-seen row l .next-sees .no-filler
 
   row-level : (row : ℕ) → row < h → NoUpward s offsets size row
@@ -120,22 +122,22 @@ module _ (s offsets : List ℕ) (st : Stream s) (w h : ℕ) (g : List ℕ) (smal
       rw (apply-append sample-kind (inner-row s w (predictor size row) row (getD offsets row 0)), row-seen row r .idle) (inner-idle n (suc row) (omega arith))
 
   -- Into any buffer.
-  all-back : (f : List ℕ) → length f ≡ w * h → apply sample-kind (rows s offsets size h 0) f ≡ g
+  all-back : (f : List ℕ) → length f ≡ w * h → write-all sample-kind (rows s offsets size h 0) f ≡ g
   all-back f e =
-      rows-inner sample-kind s offsets size h 0 (omega arith) (λ r q l. row-has r l) f g (λ i l. absurd (omega arith)) e long
+      write-all-plain sample-kind (λ a. refl) (rows s offsets size h 0) f
+      ∙ rows-inner sample-kind s offsets size h 0 (omega arith) (λ r q l. row-has r l) f g (λ i l. absurd (omega arith)) e long
       ∙ inner-idle h 0 (omega arith)
 
 -- ── The round trip ──
 
--- A stream and offsets that hold a frame: both decoders give it back, whatever the buffer held, with no map byte 1. Every block has
+-- A stream and offsets that hold a frame: both decoders give it back, whatever the buffer held, and every map byte is 0. Every block has
 -- direction 0 and lengths of 0 to 16, and no row's reader fetches a filler word.
 pub record Holds (s offsets : List ℕ) (z : Size) (f : List ℕ) : Type 0 where
   pub direct-back : (old : List ℕ) → length old ≡ cells z → decoded s offsets z old ≡ f
   pub two-phase-back : (old : List ℕ) → length old ≡ cells z → two-phase s offsets z old ≡ f
   pub no-marks : All (λ x. x ≡ 0) (v0-map s offsets z)
-  pub two-phase-no-marks : All (λ x. x ≡ 0) (two-phase-map s offsets z)
   pub blocks : (row : ℕ) → row < z .height → EachInRow WrittenBlock s offsets z row
-  pub no-filler : (row : ℕ) → row < z .height → row-ops s z row (getD offsets row 0) .bits .overrun ≡ false
+  pub no-filler : (row : ℕ) → row < z .height → row-blocks s z row (getD offsets row 0) .bits .filler ≡ 0
 
 -- Whatever follows the stream and the offsets.
 module _ (z : Size) (f : List ℕ) (e : length f ≡ cells z) (small : All (λ a. a < 16_384) f) where
@@ -181,7 +183,9 @@ module _ (z : Size) (f : List ℕ) (e : length f ≡ cells z) (small : All (λ a
     direct old l = ap (exchange sample-kind z) (all-back s o st (z .width) (z .height) g g-small g-length found old l) ∙ exchange-twice sample-kind z f e
 
     marks : All (λ x. x ≡ 0) (v0-map s o z)
-    marks = no-marks s o z (λ row q l. row-level s o st (z .width) (z .height) g g-small g-length found row l)
+    marks =
+        v0-all-0 s o z (frame-none s o z (row-clean s o st (z .width) (z .height) g g-small g-length found))
+        (λ row q l. row-level s o st (z .width) (z .height) g g-small g-length found row l)
 
     pub written-holds : Holds s o z f
     written-holds =
@@ -189,7 +193,6 @@ module _ (z : Size) (f : List ℕ) (e : length f ≡ cells z) (small : All (λ a
           direct-back = direct;
           two-phase-back = λ old l. two-phase-direct s o z old l ∙ direct old l;
           no-marks = marks;
-          two-phase-no-marks = rw (two-phase-map-direct s o z) marks;
           blocks = λ row l. row-seen s o st (z .width) (z .height) g g-small g-length found row l .written;
           no-filler = row-clean s o st (z .width) (z .height) g g-small g-length found;
         }

@@ -15,11 +15,11 @@ use Rattle.rules.specs.Reader.{fresh, held}
 use Rattle.rules.specs.Frame.{cells}
 use Rattle.rules.specs.V0.{blocks-in}
 use Rattle.rules.specs.V2.{header, top, aligned, fresh-row, fresh-mode, position, Block, Row, Frame, then-rows, read-row, rows, read-frame, sample-kind, apply, frame, decoded}
-use Rattle.rules.specs.Answer.{done}
+use Rattle.rules.specs.Answer.{done-with, done}
 use Rattle.rules.specs.Map.{v2-map}
 use Rattle.rules.proofs.Cells.{All, nil, all-get, all-append}
 use Rattle.rules.proofs.V2Cells.{apply-length}
-use Rattle.rules.proofs.V2NoMarks.{v2-unmarked}
+use Rattle.rules.proofs.NoFiller.{v2-all-0}
 use Rattle.writers.specs.Writer.{bits-of, fields-bits, gap, padding, padded, bytes, line, blocks-bits, row-bytes, rows-bytes}
 use Rattle.writers.specs.V2Writer.{header-bits, differences, stream-for}
 use Rattle.writers.proofs.Ahead.{Stream, ahead, ahead-length, pos-by-ahead, Sees}
@@ -90,7 +90,7 @@ unfolding aligned held
 next-start s st p bs pad rest b sixteen padding before after = rw (after .no-filler, there) (ap at (mod-eq-of-lt small))
   where
     at : ℕ → Bits
-    at q = record { pos = q; word = 0; count = 0; overrun = false }
+    at q = record { pos = q; word = 0; count = 0; filler = 0 }
 
     whole-length : length bs + length pad + length rest ≡ 32 * ((length s - p) / 4)
     whole-length =
@@ -115,7 +115,7 @@ apply-append t [] ys f = refl
 apply-append t (b ∷ xs) ys f = apply-append t xs ys _
 
 -- A row that met nothing, and the rest of the frame.
-rows-on : (row : ℕ) (q : Row) (rest : Frame) → q .number ≡ 0 → q .bits .overrun ≡ false
+rows-on : (row : ℕ) (q : Row) (rest : Frame) → q .number ≡ 0 → q .bits .filler ≡ 0
     → then-rows row q rest ≡ record { blocks = q .blocks ++ rest .blocks; answer = rest .answer }
 unfolding then-rows
 rows-on row q rest e f = rw (e, f)
@@ -124,7 +124,7 @@ module _ (s : List ℕ) (st : Stream s) (w h : ℕ) (whole : w % 16 ≡ 0) (g : 
   -- One row, after which the next starts at `after`.
   record SeesRow (row : ℕ) (b : Bits) (after : ℕ) : Type 0 where
     accepted : read-row s written-hdr w row b .number ≡ 0
-    no-filler : read-row s written-hdr w row b .bits .overrun ≡ false
+    no-filler : read-row s written-hdr w row b .bits .filler ≡ 0
     back : (f : List ℕ) → length f ≡ w * h → Same (row * w) f g → Same (suc row * w) (apply (sample-kind 16_383) (read-row s written-hdr w row b .blocks) f) g
     next-at : aligned (read-row s written-hdr w row b .bits) ≡ fresh after
 
@@ -188,8 +188,8 @@ module _ (s : List ℕ) (st : Stream s) (w h : ℕ) (whole : w % 16 ≡ 0) (g : 
 
   sees-rows : (k row : ℕ) (b : Bits) (pre post : List ℕ) → row + k ≤ h → length pre % 16 ≡ 0 → s ≡ pre ++ (rows-bytes (differences w g) k row ++ post)
       → aligned b ≡ fresh (length pre) → SeesRows k row b
-  unfolding rows rows-bytes apply
-  sees-rows zero row b pre post l a e at = record { accepted = refl; back = λ f q same. rw (add-zero row) same }
+  unfolding rows rows-bytes apply aligned
+  sees-rows zero row b pre post l a e at = record { accepted = ap done-with (ap (λ x. x .filler) at); back = λ f q same. rw (add-zero row) same }
   sees-rows (suc k) row b pre post l a e at =
       let m = sees-rows k (suc row) (q .bits) (pre ++ row-bytes (differences w g) row) post (omega arith) sixteen (e ∙ regroup′ pre (row-bytes (differences w g) row) (rows-bytes (differences w g) k (suc row)) post) (R .next-at) in
       let on = rows-on row q (rows s written-hdr w k (suc row) (q .bits)) (R .accepted) (R .no-filler) in
@@ -214,10 +214,12 @@ module _ (s : List ℕ) (st : Stream s) (w h : ℕ) (whole : w % 16 ≡ 0) (g : 
 
 -- ── The round trip ──
 
--- A stream that holds a frame: it is accepted, and decoded into any buffer it gives the frame.
+-- A stream that holds a frame: it is accepted, with no word missing, and decoded into any buffer it gives the frame; from 20
+-- columns on no map byte is other than 0.
 pub record Holds (s : List ℕ) (z : Size) (f : List ℕ) : Type 0 where
   pub accepted : read-frame s z .answer ≡ done
   pub samples-back : (old : List ℕ) → length old ≡ cells z → decoded s z old ≡ f
+  pub no-marks : 20 ≤ z .width → (i : ℕ) → i < cells z → getD (v2-map s z) i 0 ≡ 0
 
 -- Whatever follows the stream.
 pub written-holds : (z : Size) (f : List ℕ) → z .width % 16 ≡ 0 → length f ≡ cells z → All (λ a. a < 16_384) f
@@ -225,12 +227,13 @@ pub written-holds : (z : Size) (f : List ℕ) → z .width % 16 ≡ 0 → length
 unfolding stream-for read-frame frame decoded top
 written-holds z f whole e small post st =
     record {
-      accepted = rw (H .hdr-is) (R .accepted);
+      accepted = accepted;
       samples-back = λ old l.
           let p = apply-length (sample-kind 16_383) blocks old in
           rw (H .hdr-is)
           (ext-getD 0 (apply (sample-kind 16_383) blocks old) f (p ∙ l ∙ sym e)
           (λ i q. R .back old l (λ i q. absurd (omega arith)) i (omega (arith, p, l, mul-comm (z .width) (z .height)))));
+      no-marks = λ wide. v2-all-0 s z wide whole (ap (λ x. x .number) accepted);
     }
   where
     w : ℕ
@@ -255,11 +258,11 @@ written-holds z f whole e small post st =
     blocks : List Block
     blocks = rows s written-hdr w (z .height) 0 (header s .bits) .blocks
 
-module _ (z : Size) (f : List ℕ) (wide : z .width ≤ 16_384) (high : z .height ≤ 16_384) (whole : z .width % 16 ≡ 0) (e : length f ≡ cells z) (small : All (λ a. a < 16_384) f) where
-  -- The stream as it is written.
-  pub round-trip : Holds (stream-for z f) z f
-  round-trip = rw (append-nil (stream-for z f)) at (written-holds z f whole e small [] (rw (append-nil (stream-for z f)) (stream-bytes z f wide high)))
+    accepted : read-frame s z .answer ≡ done
+    accepted = rw (H .hdr-is) (R .accepted)
 
-  -- No map byte is 1.
-  pub no-marks : 32 ≤ z .width → (i : ℕ) → i < cells z → getD (v2-map (stream-for z f) z) i 0 ≡ 0
-  no-marks least i l = v2-unmarked (stream-for z f) z (omega arith) whole (ap (λ x. x .number) (round-trip .accepted)) i l
+-- The stream as it is written.
+pub round-trip : (z : Size) (f : List ℕ) → z .width ≤ 16_384 → z .height ≤ 16_384 → z .width % 16 ≡ 0 → length f ≡ cells z → All (λ a. a < 16_384) f
+    → Holds (stream-for z f) z f
+round-trip z f wide high whole e small =
+    rw (append-nil (stream-for z f)) at (written-holds z f whole e small [] (rw (append-nil (stream-for z f)) (stream-bytes z f wide high)))

@@ -13,7 +13,7 @@ use borrow.Author.Tests.{le-ltb}
 use Rattle.rules.specs.declared.reader.Bits.{Bits}
 use Rattle.rules.specs.declared.v2.V2Hdr.{V2Hdr}
 use Rattle.rules.specs.declared.v2.V2Block.the-variants.{Next}
-use Rattle.rules.specs.Reader.{fresh, read, fields, four, signed, read-signed}
+use Rattle.rules.specs.Reader.{fresh, has-filler, read, fields, four, signed, read-signed}
 use Rattle.rules.specs.Frame.{tabulate}
 use Rattle.rules.specs.V2.{field-widths, header, fresh-row, read-scale, read-motion, base, base-refusal, lengths-bit, read-length, Moded, length-step, lengths-from, no-lengths, flagged-lengths, read-lengths, position, Differences, difference-step, differences-from, read-differences, tail, based-tail, Block, Parsed, read-block}
 use Rattle.rules.proofs.Cells.{All, nil, more, all-get, Each, none, both}
@@ -58,9 +58,9 @@ placed row ls d (suc n) k vs =
 abbrev pub block-differences : ℕ → (ℕ → ℕ) → List ℤ
 block-differences row d = placed row (lengths-for d) d 16 0 (replicate 16 (pos 0))
 
-abbrev pub written-block : ℕ → ℕ → ℕ → (ℕ → ℕ) → Block
-written-block w row col d =
-    record { place = row * w + col; scale = pos 0; base = base written-hdr w row col 7; differences = block-differences row d }
+abbrev pub written-block : Bool → ℕ → ℕ → ℕ → (ℕ → ℕ) → Block
+written-block filler w row col d =
+    record { place = row * w + col; scale = pos 0; base = base written-hdr w row col 7; differences = block-differences row d; filler = filler }
 
 -- ── What is seen ──
 
@@ -158,7 +158,7 @@ module _ (s : List ℕ) (st : Stream s) where
   pub record SeesBlock (w row col : ℕ) (d : ℕ → ℕ) (b : Bits) (mode : List (List ℕ)) (rest : List Bool) : Type 0 where
     pub end : Bits
     pub outcome-is : read-block s written-hdr w row col b fresh-row mode .outcome ≡ Next end fresh-row
-    pub block-is : read-block s written-hdr w row col b fresh-row mode .block ≡ written-block w row col d
+    pub block-is : read-block s written-hdr w row col b fresh-row mode .block ≡ written-block (has-filler end) w row col d
     pub end-sees : Sees s end rest
 
   pub sees-block : (w row col : ℕ) (d : ℕ → ℕ) (b : Bits) (mode : List (List ℕ)) (rest : List Bool)
@@ -169,7 +169,7 @@ module _ (s : List ℕ) (st : Stream s) where
       record {
         end = differences-from s row (lengths-for d) 16 0 x .bits;
         outcome-is = rw (motion-is, flags-are, not-long, four-are);
-        block-is = rw (motion-is, flags-are, four-are, D .values-are);
+        block-is = rw (motion-is, flags-are, not-long, four-are, D .values-are);
         end-sees = D .next-sees;
       }
     where

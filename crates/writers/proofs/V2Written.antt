@@ -16,11 +16,12 @@ use lib.Pow.{pow-pos}
 use lib.Signed.{mag}
 use borrow.Author.Tests.{le-ltb, eqb-true, eqb-false}
 use Rattle.rules.specs.declared.reader.Bits.{Bits}
-use Rattle.rules.specs.Reader.{signed, modulo}
+use Rattle.rules.specs.Reader.{has-filler, signed, modulo}
 use Rattle.rules.specs.Frame.{tabulate}
 use Rattle.rules.specs.V2.{fresh-row, repeated, base, given, copied, position, Block, read-block, Row, then, blocks, base-cell, block-cells, apply, value, hold, sample, sample-kind}
 use Rattle.rules.proofs.Cells.{All, nil, more, all-get}
 use Rattle.rules.proofs.ReaderLaws.{signed-mag}
+use Rattle.rules.proofs.V2Cells.{write-plain}
 use Rattle.writers.specs.Writer.{holds, lengths-for, blocks-bits}
 use Rattle.writers.specs.V2Writer.{base-of, difference, differences}
 use Rattle.writers.specs.Weight.{Short}
@@ -196,10 +197,10 @@ module _ (w h : ℕ) (g : List ℕ) (small : All (λ a. a < 16_384) g) (row : �
       (λ none. absurd (positions-all row i l none))
 
   -- A block over a frame that agrees with the written one before it: the frame agrees after it, too.
-  block-back : (col : ℕ) (f : List ℕ) → length f ≡ w * h → col % 16 ≡ 0 → col + 16 ≤ w → Same (row * w + col) f g
-      → Same (row * w + (col + 16)) (sets f (row * w + col) (block-cells (sample-kind 16_383) f (written-block w row col (in-order col)))) g
+  block-back : (filler : Bool) (col : ℕ) (f : List ℕ) → length f ≡ w * h → col % 16 ≡ 0 → col + 16 ≤ w → Same (row * w + col) f g
+      → Same (row * w + (col + 16)) (sets f (row * w + col) (block-cells (sample-kind 16_383) f (written-block filler w row col (in-order col)))) g
   unfolding block-cells Back
-  block-back col f e whole l a =
+  block-back filler col f e whole l a =
       rw on at (sets-same 16 0 cell (row * w + col) f g (omega (arith, room, e, mul-comm w h)) each a)
     where
       cell : ℕ → ℕ
@@ -238,18 +239,21 @@ module _ (s : List ℕ) (st : Stream s) (w h : ℕ) (g : List ℕ) (small : All 
         accepted = rw (B .outcome-is) (m .accepted);
         next-sees = rw (B .outcome-is) (m .next-sees);
         back = λ f e a.
-            rw (B .outcome-is, B .block-is, on)
-            (m .back (sets f (row * w + col) (new f)) (length-sets f (row * w + col) (new f) ∙ e) (block-back w h g small row in-frame col f e whole (omega arith) a));
+            rw (B .outcome-is, B .block-is, on, write-plain (sample-kind 16_383) (λ a. refl) (written-block filler w row col d) f)
+            (m .back (sets f (row * w + col) (new f)) (length-sets f (row * w + col) (new f) ∙ e) (block-back w h g small row in-frame filler col f e whole (omega arith) a));
       }
     where
       d : ℕ → ℕ
       d j = difference w g row col (position row j)
-
-      new : List ℕ → List ℕ
-      new f = block-cells (sample-kind 16_383) f (written-block w row col d)
 
       later : List Bool
       later = blocks-bits (differences w g) row k (col + 16) ++ rest
 
       B : SeesBlock s st w row col d b mode later
       B = sees-block s st w row col d b mode later (subst (Sees s b) (block-parts d (blocks-bits (differences w g) row k (col + 16)) rest) q)
+
+      filler : Bool
+      filler = has-filler (B .end)
+
+      new : List ℕ → List ℕ
+      new f = block-cells (sample-kind 16_383) f (written-block filler w row col d)

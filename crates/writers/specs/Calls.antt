@@ -7,7 +7,7 @@ use lib.ListN.{length, take, drop}
 use lib.Dec.{ltb, eqb}
 use Rattle.rules.specs.declared.answer.Size.{Size}
 use Rattle.rules.specs.Frame.{cells}
-use Rattle.rules.specs.Answer.{done, too-large}
+use Rattle.rules.specs.Answer.{done, refused as early, too-large}
 use Rattle.writers.specs.declared.Written.{Written}
 use Rattle.writers.specs.Writer.{stream-for, offsets-for}
 
@@ -60,7 +60,7 @@ write-refusal c =
 
 -- A refusal has row 0 and length 0.
 abbrev pub refused : ℕ → Written
-refused number = record { answer = record { number = number; row = 0 }; length = 0 }
+refused number = record { answer = early number; length = 0 }
 
 -- Done comes with the stream's length in bytes.
 abbrev pub written : ℕ → Written

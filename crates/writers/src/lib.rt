@@ -37,7 +37,11 @@ impl Written {
     pub fn refused(number: u32) -> Written
         ensures { λ r. ⌜ r ≡ refused number ⌝ }
     {
-        let answer = Answer { number, row: 0 };
+        let answer = Answer {
+            number,
+            row: 0,
+            filler: 0,
+        };
         Written { answer, length: 0 }
     }
 

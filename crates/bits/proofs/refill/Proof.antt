@@ -35,12 +35,12 @@ wrapping-add-u64-requires c κs = search needs
 add-t14 : tie.Need-add-t14
 add-t14 c = search needs
 
-either-requires : tie.Need-either-requires
-either-requires c κs = search needs
+count-missing-requires : tie.Need-count-missing-requires
+count-missing-requires c κs = search needs
 
 returns-2 : tie.Need-returns-2
 returns-2 c = let f = c .before .before .before .before in let h = f .before .before in let a = h .before .before in
-    enough-next _ (a .args .bits) _ _ (a .pre) (h .held-bits .ensures) _ _ _ (omega arith) (f .fetch .ensures) (search needs) (c .before .wrapping-add-u64 .ensures) (c .either .ensures)
+    enough-next _ (a .args .bits) _ _ (a .pre) (h .held-bits .ensures) _ _ _ (omega arith) (f .fetch .ensures) (search needs) (c .before .wrapping-add-u64 .ensures) (c .count-missing .ensures)
 
 pub refill-spec : {M : Type 1} → statement M
 refill-spec =
@@ -56,5 +56,5 @@ refill-spec =
     add-t12
     wrapping-add-u64-requires
     add-t14
-    either-requires
+    count-missing-requires
     returns-2)

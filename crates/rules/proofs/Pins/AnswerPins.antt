@@ -6,19 +6,19 @@ use mathlib.Core.List.{List, [], _∷_, _++_, map}
 use mathlib.Core.Option.{Option, none, some}
 use lib.ListN.{replicate}
 use Rattle.rules.specs.declared.answer.Answer.{Answer}
-use Rattle.rules.specs.Reader.{fetched, held, read, fields, four, signed, read-signed, modulo, read-residual}
-use Rattle.rules.specs.Frame.{tabulate}
+use Rattle.rules.specs.Reader.{fetched, counted, held, read, fields, four, signed, read-signed, modulo, read-residual}
+use Rattle.rules.specs.Frame.{tabulate, change-cells}
 use Rattle.rules.specs.V0 as V0
 use Rattle.rules.specs.Phases as Phases
 use Rattle.rules.specs.V2 as V2
-use Rattle.rules.specs.Map.{v0-map, two-phase-map, v2-map}
-use Rattle.rules.specs.Answer.{done, Decoder, direct, two-phase, v2, Ask, ask, Lent, lent, too-large, too-small, short-offsets, short-samples, short-map, scratch-bytes, short-scratch, first-of, refusal, stream-answer, answer, frame-samples, frame-marks, marks, frame-scratch, unless-refused, samples-after, map-after, scratch-after, Buffers, buffers, lengths}
+use Rattle.rules.specs.Map.{either-part, v0-map, v2-map}
+use Rattle.rules.specs.Answer.{done-with, done, refused, Decoder, direct, two-phase, v2, Ask, ask, Lent, lent, too-large, too-small, short-offsets, short-samples, short-map, scratch-bytes, short-scratch, first-of, refusal, stream-answer, answer, frame-samples, frame-marks, marks, frame-scratch, unless-refused, samples-after, map-after, scratch-after, Buffers, buffers, lengths}
 use Rattle.rules.specs.Examples.{Example}
 use Rattle.rules.proofs.Pins.Values.{is, are, Hold, of-bool, size, rows-bytes, rows-offsets, cells-at}
 use Rattle.rules.proofs.Pins.V2Pins.{frame-bytes}
 
 abbrev of-answer : Answer → List ℕ
-of-answer a = a .number ∷ a .row ∷ []
+of-answer a = a .number ∷ a .row ∷ a .filler ∷ []
 
 -- A frame of 3 by 4, by the V0 decoders; one that is refused by 3.
 abbrev call : Decoder → Ask
@@ -38,7 +38,7 @@ abbrev new-samples : List ℕ
 new-samples = 7 ∷ 128 ∷ 9 ∷ 8 ∷ 128 ∷ 128 ∷ 122 ∷ 128 ∷ 120 ∷ 8 ∷ 128 ∷ 128 ∷ []
 
 abbrev new-marks : List ℕ
-new-marks = 1 ∷ 0 ∷ 1 ∷ 1 ∷ 0 ∷ 0 ∷ 0 ∷ 0 ∷ 0 ∷ 1 ∷ 0 ∷ 0 ∷ []
+new-marks = 1 ∷ 2 ∷ 1 ∷ 1 ∷ 2 ∷ 2 ∷ 2 ∷ 0 ∷ 2 ∷ 1 ∷ 0 ∷ 0 ∷ []
 
 -- Samples, map and scratch, one after another. Lengths: of the samples, 1 and the map's or two zeros, and of the scratch.
 abbrev list-of : Option (List ℕ) → List ℕ
@@ -57,8 +57,8 @@ of-lent l = l .samples ∷ of-option (l .map) ++ (l .scratch ∷ [])
 
 abbrev pub examples : List Example
 examples =
-    -- done; ask, lent: each argument in its place
-    are (of-answer done) (0 ∷ 0 ∷ [])
+    -- done-with, done, refused; ask, lent: each argument in its place
+    are (of-answer (done-with 7) ++ of-answer done ++ of-answer (refused 3)) (0 ∷ 0 ∷ 7 ∷ 0 ∷ 0 ∷ 0 ∷ 3 ∷ 0 ∷ 0 ∷ [])
     ∷ are (ask v2 (1 ∷ []) (2 ∷ []) 3 4 .stream ++ ask v2 (1 ∷ []) (2 ∷ []) 3 4 .offsets) (1 ∷ 2 ∷ [])
     ∷ are (ask v2 (1 ∷ []) (2 ∷ []) 3 4 .size .width ∷ ask v2 (1 ∷ []) (2 ∷ []) 3 4 .size .height ∷ []) (3 ∷ 4 ∷ [])
     ∷ are (lent 5 none 6 .samples ∷ lent 5 none 6 .scratch ∷ []) (5 ∷ 6 ∷ [])
@@ -91,14 +91,15 @@ examples =
     ∷ is (refusal (call direct) (lent 12 (some 11) 0)) 4
     ∷ is (refusal (call two-phase) (lent 12 none 1)) 4
     ∷ is (refusal (call two-phase) (lent 12 (some 12) 2)) 0
-    -- stream-answer: V0 is done; V2 as the stream has it
-    ∷ are (of-answer (stream-answer direct frame-bytes (size 17 4)) ++ of-answer (stream-answer two-phase frame-bytes (size 17 4))) (0 ∷ 0 ∷ 0 ∷ 0 ∷ [])
-    ∷ are (of-answer (stream-answer v2 frame-bytes (size 17 4))) (8 ∷ 3 ∷ [])
+    -- stream-answer: V0 is done, and the direct decoder counts missing words; V2 as the stream has it
+    ∷ are (of-answer (stream-answer direct frame-bytes (64 ∷ 0 ∷ 80 ∷ 4 ∷ []) (size 17 4))) (0 ∷ 0 ∷ 19 ∷ [])
+    ∷ are (of-answer (stream-answer two-phase frame-bytes (64 ∷ 0 ∷ 80 ∷ 4 ∷ []) (size 17 4))) (0 ∷ 0 ∷ 0 ∷ [])
+    ∷ are (of-answer (stream-answer v2 frame-bytes [] (size 17 4))) (8 ∷ 3 ∷ 1 ∷ [])
     -- answer: the row of 1 to 4 is 0; a V2 frame of no bytes meets 5 in row 0, one of sixteen zeros 8
-    ∷ are (of-answer (answer (call direct) too-few)) (3 ∷ 0 ∷ [])
-    ∷ are (of-answer (answer (call direct) enough)) (0 ∷ 0 ∷ [])
-    ∷ are (of-answer (answer (ask v2 [] [] 646 436) (lent 281_656 none 0))) (5 ∷ 0 ∷ [])
-    ∷ are (of-answer (answer (ask v2 (replicate 16 0) [] 646 436) (lent 281_656 none 0))) (8 ∷ 0 ∷ [])
+    ∷ are (of-answer (answer (call direct) too-few)) (3 ∷ 0 ∷ 0 ∷ [])
+    ∷ are (of-answer (answer (call direct) enough)) (0 ∷ 0 ∷ 1 ∷ [])
+    ∷ are (of-answer (answer (ask v2 [] [] 646 436) (lent 281_656 none 0))) (5 ∷ 0 ∷ 5 ∷ [])
+    ∷ are (of-answer (answer (ask v2 (replicate 16 0) [] 646 436) (lent 281_656 none 0))) (8 ∷ 0 ∷ 7 ∷ [])
     -- frame-samples, frame-marks, frame-scratch: by each decoder
     ∷ are (frame-samples direct rows-bytes rows-offsets (size 3 4) (tabulate 12 7 (λ i. i))) new-samples
     ∷ are (frame-samples two-phase rows-bytes rows-offsets (size 3 4) (tabulate 12 7 (λ i. i))) new-samples
@@ -126,5 +127,5 @@ examples =
     ∷ []
 
 pub examples-hold : Hold examples
-unfolding fetched held read fields four signed read-signed modulo read-residual tabulate V0.fresh-row V0.operated V0.operate V0.head V0.bounded V0.predictor V0.length-of V0.length-bits V0.residual-bits V0.sample V0.samples V0.blocks V0.row-ops V0.rows V0.put V0.apply V0.swap V0.exchange-columns V0.exchange-rows V0.exchange V0.frame V0.decoded Phases.residuals Phases.block-records Phases.row-records Phases.store-samples Phases.store-blocks Phases.phase-one Phases.directions Phases.late-predictor Phases.predict-samples Phases.predict-blocks Phases.phase-two Phases.scratch Phases.first-rows Phases.two-phase V2.header V2.top V2.aligned V2.fresh-mode V2.rescaled V2.read-scale V2.read-motion V2.repeated V2.reference V2.referred V2.base V2.refers-before V2.base-refusal V2.lengths-bit V2.colour V2.read-length V2.length-step V2.lengths-from V2.flagged-lengths V2.read-lengths V2.position V2.difference-step V2.differences-from V2.read-differences V2.tail V2.based-tail V2.read-block V2.then V2.blocks V2.read-row V2.then-rows V2.rows V2.read-frame V2.base-cell V2.block-cells V2.apply V2.frame V2.average V2.value V2.hold V2.decoded v0-map two-phase-map v2-map too-large too-small short-offsets short-samples short-map short-scratch first-of refusal stream-answer answer frame-samples frame-marks frame-scratch unless-refused samples-after map-after scratch-after
+unfolding fetched counted held read fields four signed read-signed modulo read-residual tabulate change-cells V0.fresh-row V0.operated V0.operate V0.head V0.bounded V0.predictor V0.length-of V0.length-bits V0.residual-bits V0.sample V0.samples V0.blocks V0.row-blocks V0.rows V0.rows-filler V0.frame-filler V0.put V0.apply V0.write V0.write-all V0.swap V0.exchange-columns V0.exchange-rows V0.exchange V0.frame V0.decoded Phases.residuals Phases.block-records Phases.row-records Phases.store-samples Phases.store-blocks Phases.phase-one Phases.directions Phases.late-predictor Phases.predict-samples Phases.predict-blocks Phases.phase-two Phases.scratch Phases.first-rows Phases.two-phase V2.header V2.top V2.aligned V2.fresh-mode V2.rescaled V2.read-scale V2.read-motion V2.repeated V2.reference V2.referred V2.base V2.refers-before V2.base-refusal V2.lengths-bit V2.colour V2.read-length V2.length-step V2.lengths-from V2.flagged-lengths V2.read-lengths V2.position V2.difference-step V2.differences-from V2.read-differences V2.tail V2.based-tail V2.read-block V2.then V2.blocks V2.read-row V2.then-rows V2.rows V2.read-frame V2.base-cell V2.block-cells V2.write V2.apply V2.frame V2.average V2.value V2.hold V2.decoded either-part v0-map v2-map too-large too-small short-offsets short-samples short-map short-scratch first-of refusal stream-answer answer frame-samples frame-marks frame-scratch unless-refused samples-after map-after scratch-after
 examples-hold = refl

@@ -6,7 +6,7 @@ use mathlib.Core.List.{List, [], _∷_, _++_, map}
 use mathlib.Core.Option.{Option, none, some}
 use lib.ListN.{take, replicate}
 use Rattle.rules.specs.Reader as Reader
-use Rattle.rules.specs.Frame.{tabulate}
+use Rattle.rules.specs.Frame.{tabulate, change-cells}
 use Rattle.rules.specs.V0 as V0
 use Rattle.rules.specs.Map as Map
 use Rattle.rules.specs.Answer as Answer
@@ -55,8 +55,8 @@ examples =
     ∷ are (fault 3) (106 ∷ 111 ∷ 98 ∷ 32 ∷ 51 ∷ 10 ∷ [])
     ∷ are done-line (100 ∷ 111 ∷ 110 ∷ 101 ∷ 10 ∷ [])
     ∷ are (refused-line 7) (114 ∷ 101 ∷ 102 ∷ 117 ∷ 115 ∷ 101 ∷ 100 ∷ 32 ∷ 55 ∷ 10 ∷ [])
-    -- samples-text: an asterisk after a sample that is marked 1; as many as there are of both
-    ∷ are (samples-text (12 ∷ 3 ∷ 4 ∷ []) (1 ∷ 0 ∷ 2 ∷ [])) (32 ∷ 49 ∷ 50 ∷ 42 ∷ 32 ∷ 51 ∷ 32 ∷ 52 ∷ [])
+    -- samples-text: an asterisk after a sample whose byte isn't 0; as many as there are of both
+    ∷ are (samples-text (12 ∷ 3 ∷ 4 ∷ 5 ∷ []) (1 ∷ 0 ∷ 2 ∷ 3 ∷ [])) (32 ∷ 49 ∷ 50 ∷ 42 ∷ 32 ∷ 51 ∷ 32 ∷ 52 ∷ 42 ∷ 32 ∷ 53 ∷ 42 ∷ [])
     ∷ are (samples-text (12 ∷ []) [] ++ samples-text [] (1 ∷ [])) []
     -- rows-text: two rows of two from row 9 on, of more samples and marks than they have
     ∷ are (rows-text 2 2 9 (1 ∷ 2 ∷ 3 ∷ 4 ∷ 5 ∷ []) (0 ∷ 0 ∷ 1 ∷ 0 ∷ 0 ∷ []))
@@ -80,5 +80,5 @@ examples =
     ∷ []
 
 pub examples-hold : Hold examples
-unfolding marked digits samples-text rows-text answer-text text tabulate Reader.fetched Reader.held Reader.read Reader.fields Reader.four Reader.signed Reader.modulo Reader.read-residual V0.fresh-row V0.operated V0.operate V0.head V0.bounded V0.predictor V0.length-of V0.length-bits V0.residual-bits V0.sample V0.samples V0.blocks V0.row-ops V0.rows V0.put V0.apply V0.swap V0.exchange-columns V0.exchange-rows V0.exchange V0.frame V0.decoded Map.v0-map Answer.too-large Answer.too-small Answer.short-offsets Answer.short-samples Answer.short-map Answer.short-scratch Answer.first-of Answer.refusal Answer.stream-answer Answer.answer Answer.frame-samples Answer.frame-marks Answer.unless-refused Answer.samples-after Answer.map-after
+unfolding marked digits samples-text rows-text answer-text text tabulate change-cells Reader.fetched Reader.counted Reader.held Reader.read Reader.fields Reader.four Reader.signed Reader.modulo Reader.read-residual V0.fresh-row V0.operated V0.operate V0.head V0.bounded V0.predictor V0.length-of V0.length-bits V0.residual-bits V0.sample V0.samples V0.blocks V0.row-blocks V0.rows V0.rows-filler V0.frame-filler V0.put V0.apply V0.write V0.write-all V0.swap V0.exchange-columns V0.exchange-rows V0.exchange V0.frame V0.decoded Map.v0-map Answer.too-large Answer.too-small Answer.short-offsets Answer.short-samples Answer.short-map Answer.short-scratch Answer.first-of Answer.refusal Answer.stream-answer Answer.answer Answer.frame-samples Answer.frame-marks Answer.unless-refused Answer.samples-after Answer.map-after
 examples-hold = refl

@@ -1,18 +1,18 @@
 -- Pinned examples of specs/V0.antt, by the definition's name.
-use Prim.Native.Nat.{ℕ, _+_, _*_}
+use Prim.Native.Nat.{ℕ, _+_, _-_, _*_, _%_, _^_}
 use mathlib.Core.Bool.{Bool, true, false, cond}
 use mathlib.Core.Path.{refl}
 use mathlib.Core.List.{List, [], _∷_, _++_, map}
-use lib.ListN.{getD}
+use lib.ListN.{getD, take, replicate}
 use lib.IntN.{ℤ, pos, negsuc}
 use Rattle.rules.specs.declared.v0.Predictor.{Predictor}
 use Rattle.rules.specs.declared.v0.Predictor.the-variants.{Skipped, Constant, Sample}
 use Rattle.rules.specs.declared.v0.V0Op.{V0Op}
 use Rattle.rules.specs.declared.v0.V0Row.{V0Row}
 use Rattle.rules.specs.declared.v0.V0Length.{V0Length}
-use Rattle.rules.specs.Reader.{fresh, fetched, held, read, fields, four, signed, modulo, read-residual}
-use Rattle.rules.specs.Frame.{tabulate}
-use Rattle.rules.specs.V0.{Step, fresh-row, operated, operate, head, limit, bounded, rows-up, columns-back, predictor, length-of, length-bits, residual-bits, sample, samples, order, blocks-in, blocks, row-ops, rows, put, apply, swap, exchange-columns, exchange-rows, exchange, sample-kind}
+use Rattle.rules.specs.Reader.{fresh, fetched, counted, held, read, fields, four, signed, modulo, read-residual}
+use Rattle.rules.specs.Frame.{tabulate, change-cells}
+use Rattle.rules.specs.V0.{Step, Block, Kind, fresh-row, operated, operate, head, limit, bounded, rows-up, columns-back, predictor, length-of, length-bits, residual-bits, sample, samples, order, blocks-in, blocks, row-blocks, rows, rows-filler, frame-filler, put, apply, write, write-all, swap, exchange-columns, exchange-rows, exchange, sample-kind}
 use Rattle.rules.specs.Examples.{Example}
 use Rattle.rules.proofs.Pins.Values.{is, are, Hold, of-bool, minus, of-ℤ, bits, of-bits, size, words, op, of-predictor, of-op, op-at}
 
@@ -41,6 +41,24 @@ two-blocks = 0x15 ∷ 0x69 ∷ 0x56 ∷ 0x80 ∷ 0x1B ∷ 0x1B ∷ 0x1B ∷ 0x5B
 
 abbrev up-or-constant : ℕ → Bool → ℕ → Predictor
 up-or-constant col up c = cond up (Sample (col + c)) Constant
+
+-- A block: places and whether there was filler. An operation of one of several blocks.
+unfoldable pub of-blocks : List Block → List ℕ
+of-blocks [] = []
+of-blocks (b ∷ bs) = b .place ∷ of-bool (b .filler) ∷ of-blocks bs
+
+abbrev no-block : Block
+no-block = record { place = 0; ops = []; filler = false }
+
+abbrev op-of : ℕ → ℕ → List Block → List ℕ
+op-of k i bs = op-at i (getD bs k no-block .ops)
+
+-- A block from a place on whose samples are the first of a frame and, from it, the third.
+abbrev a-block : ℕ → Bool → Block
+a-block place filler = record { place = place; ops = op 0 Constant 1 ∷ op 2 (Sample 0) 2 ∷ []; filler = filler }
+
+abbrev mark-kind : Kind ℕ
+mark-kind = record { constant = λ v. 0; plus = λ a d. a; filled = λ a. a % 2 + 2 }
 
 abbrev pub examples : List Example
 examples =
@@ -99,19 +117,27 @@ examples =
     ∷ are order (0 ∷ 2 ∷ 4 ∷ 6 ∷ 8 ∷ 10 ∷ 12 ∷ 14 ∷ 1 ∷ 3 ∷ 5 ∷ 7 ∷ 9 ∷ 11 ∷ 13 ∷ 15 ∷ [])
     -- blocks-in: of 16 columns each, the last begun
     ∷ are (map blocks-in (0 ∷ 1 ∷ 16 ∷ 17 ∷ [])) (0 ∷ 1 ∷ 1 ∷ 2 ∷ [])
-    -- blocks: two from column 16 on; a block's lengths and reader go on to the next
-    ∷ are (op-at 0 (blocks two-blocks 100 up-or-constant 2 16 (row (pos 1) (pos 1) (pos 1) (pos 1)) .ops)) (116 ∷ 65_535 ∷ 2 ∷ 16 ∷ [])
-    ∷ are (op-at 17 (blocks two-blocks 100 up-or-constant 2 16 (row (pos 1) (pos 1) (pos 1) (pos 1)) .ops)) (134 ∷ 65_534 ∷ 1 ∷ [])
+    -- blocks: two from column 16 on; a block's lengths and reader go on to the next; a block's filler is its reader's at its end
+    ∷ are (op-of 0 0 (blocks two-blocks 100 up-or-constant 2 16 (row (pos 1) (pos 1) (pos 1) (pos 1)) .blocks)) (116 ∷ 65_535 ∷ 2 ∷ 16 ∷ [])
+    ∷ are (op-of 1 1 (blocks two-blocks 100 up-or-constant 2 16 (row (pos 1) (pos 1) (pos 1) (pos 1)) .blocks)) (134 ∷ 65_534 ∷ 1 ∷ [])
+    ∷ are (of-blocks (blocks two-blocks 100 up-or-constant 2 16 (row (pos 1) (pos 1) (pos 1) (pos 1)) .blocks)) (116 ∷ 0 ∷ 132 ∷ 0 ∷ [])
+    ∷ are (of-blocks (blocks two-blocks 100 up-or-constant 3 16 (row (pos 1) (pos 1) (pos 1) (pos 1)) .blocks)) (116 ∷ 0 ∷ 132 ∷ 0 ∷ 148 ∷ 1 ∷ [])
+    ∷ are (of-blocks (blocks (take 4 two-blocks) 100 up-or-constant 3 16 (row (pos 1) (pos 1) (pos 1) (pos 1)) .blocks)) (116 ∷ 0 ∷ 132 ∷ 1 ∷ 148 ∷ 1 ∷ [])
     ∷ are (of-bits (blocks two-blocks 100 up-or-constant 2 16 (row (pos 1) (pos 1) (pos 1) (pos 1)) .bits)) (12 ∷ 0 ∷ 30 ∷ 0 ∷ [])
-    -- row-ops: row 2 of 17 columns has two blocks
-    ∷ are (op-at 0 (row-ops words (size 17 4) 2 4 .ops)) (34 ∷ 65_530 ∷ 2 ∷ 17 ∷ [])
-    ∷ are (op-at 9 (row-ops words (size 17 4) 2 4 .ops)) (37 ∷ 65_535 ∷ 2 ∷ 3 ∷ [])
-    ∷ are (op-at 31 (row-ops words (size 17 4) 2 4 .ops)) (65 ∷ 65_535 ∷ 2 ∷ 31 ∷ [])
-    ∷ are (of-bits (row-ops words (size 17 4) 2 4 .bits)) (52 ∷ 0xffff_ffff ∷ 14 ∷ 1 ∷ [])
+    -- row-blocks: row 2 of 17 columns has two blocks
+    ∷ are (op-of 0 0 (row-blocks words (size 17 4) 2 4 .blocks)) (34 ∷ 65_530 ∷ 2 ∷ 17 ∷ [])
+    ∷ are (op-of 0 9 (row-blocks words (size 17 4) 2 4 .blocks)) (37 ∷ 65_535 ∷ 2 ∷ 3 ∷ [])
+    ∷ are (op-of 1 15 (row-blocks words (size 17 4) 2 4 .blocks)) (65 ∷ 65_535 ∷ 2 ∷ 31 ∷ [])
+    ∷ are (of-bits (row-blocks words (size 17 4) 2 4 .bits)) (52 ∷ 0xffff_ffff ∷ 14 ∷ 11 ∷ [])
     -- rows: rows 1 and 2, each at its own offset; 0 where there is none
-    ∷ are (op-at 0 (rows words (9 ∷ 4 ∷ 0 ∷ []) (size 1 3) 2 1)) (1 ∷ 65_492 ∷ 2 ∷ 0 ∷ [])
-    ∷ are (op-at 16 (rows words (9 ∷ 4 ∷ 0 ∷ []) (size 1 3) 2 1)) (2 ∷ 0 ∷ 2 ∷ 1 ∷ [])
-    ∷ are (op-at 0 (rows words [] (size 1 1) 1 0)) (0 ∷ 0 ∷ 0 ∷ [])
+    ∷ are (op-of 0 0 (rows words (9 ∷ 4 ∷ 0 ∷ []) (size 1 3) 2 1)) (1 ∷ 65_492 ∷ 2 ∷ 0 ∷ [])
+    ∷ are (op-of 1 0 (rows words (9 ∷ 4 ∷ 0 ∷ []) (size 1 3) 2 1)) (2 ∷ 0 ∷ 2 ∷ 1 ∷ [])
+    ∷ are (op-of 0 0 (rows words [] (size 1 1) 1 0)) (0 ∷ 0 ∷ 0 ∷ [])
+    -- rows-filler: each row's own, from its offset, and the count so far; held at the greatest; frame-filler: all rows, from 0
+    ∷ is (rows-filler words (9 ∷ 4 ∷ 0 ∷ []) (size 1 3) 2 1 5) 6
+    ∷ is (rows-filler words (9 ∷ 4 ∷ 0 ∷ []) (size 1 3) 3 0 (2 ^ 64 - 2)) (2 ^ 64 - 1)
+    ∷ is (frame-filler words (9 ∷ 4 ∷ 0 ∷ []) (size 1 3)) 2
+    ∷ is (frame-filler words [] (size 1 0)) 0
     -- put: skipped; 128; a sample; a predictor at N counts as 0; a place at N isn't written
     ∷ are (put sample-kind 1 Skipped 5 (10 ∷ 20 ∷ 30 ∷ [])) (10 ∷ 20 ∷ 30 ∷ [])
     ∷ are (put sample-kind 1 Constant 5 (10 ∷ 20 ∷ 30 ∷ [])) (10 ∷ 133 ∷ 30 ∷ [])
@@ -120,6 +146,12 @@ examples =
     ∷ are (put sample-kind 3 Constant 5 (10 ∷ 20 ∷ 30 ∷ [])) (10 ∷ 20 ∷ 30 ∷ [])
     -- apply: the second operation reads what the first wrote
     ∷ are (apply sample-kind (op 0 Constant 1 ∷ op 1 (Sample 0) 2 ∷ []) (10 ∷ 20 ∷ [])) (129 ∷ 131 ∷ [])
+    -- write: the operations, then filler over sixteen cells from the block's place on, or not; write-all: one after another
+    ∷ are (write mark-kind (a-block 1 true) (replicate 18 1)) (0 ∷ 3 ∷ 2 ∷ 3 ∷ 3 ∷ 3 ∷ 3 ∷ 3 ∷ 3 ∷ 3 ∷ 3 ∷ 3 ∷ 3 ∷ 3 ∷ 3 ∷ 3 ∷ 3 ∷ 1 ∷ [])
+    ∷ are (write mark-kind (a-block 1 false) (1 ∷ 1 ∷ 1 ∷ 1 ∷ [])) (0 ∷ 1 ∷ 0 ∷ 1 ∷ [])
+    ∷ are (write sample-kind (a-block 0 true) (10 ∷ 20 ∷ 30 ∷ [])) (129 ∷ 20 ∷ 131 ∷ [])
+    ∷ are (write-all mark-kind (a-block 0 true ∷ a-block 3 false ∷ []) (1 ∷ 1 ∷ 1 ∷ 1 ∷ [])) (0 ∷ 3 ∷ 0 ∷ 3 ∷ [])
+    ∷ are (write-all mark-kind (a-block 3 false ∷ a-block 2 true ∷ []) (1 ∷ 1 ∷ 1 ∷ 1 ∷ [])) (0 ∷ 1 ∷ 2 ∷ 3 ∷ [])
     -- swap: within the frame; past it 0 comes in
     ∷ are (swap sample-kind 0 2 (10 ∷ 20 ∷ 30 ∷ [])) (30 ∷ 20 ∷ 10 ∷ [])
     ∷ are (swap sample-kind 0 3 (10 ∷ 20 ∷ 30 ∷ [])) (0 ∷ 20 ∷ 30 ∷ [])
@@ -129,10 +161,10 @@ examples =
     ∷ are (exchange sample-kind (size 4 3) (tabulate 12 0 (λ i. i))) (0 ∷ 4 ∷ 2 ∷ 6 ∷ 1 ∷ 5 ∷ 3 ∷ 7 ∷ 8 ∷ 9 ∷ 10 ∷ 11 ∷ [])
     ∷ are (exchange sample-kind (size 5 5) (tabulate 25 0 (λ i. i)))
     (0 ∷ 5 ∷ 2 ∷ 7 ∷ 4 ∷ 1 ∷ 6 ∷ 3 ∷ 8 ∷ 9 ∷ 10 ∷ 15 ∷ 12 ∷ 17 ∷ 14 ∷ 11 ∷ 16 ∷ 13 ∷ 18 ∷ 19 ∷ 20 ∷ 21 ∷ 22 ∷ 23 ∷ 24 ∷ [])
-    -- sample-kind: modulo 65,536
-    ∷ are (sample-kind .constant 9 ∷ sample-kind .plus 65_530 10 ∷ []) (9 ∷ 4 ∷ [])
+    -- sample-kind: modulo 65,536; filler changes none
+    ∷ are (sample-kind .constant 9 ∷ sample-kind .plus 65_530 10 ∷ sample-kind .filled 9 ∷ []) (9 ∷ 4 ∷ 9 ∷ [])
     ∷ []
 
 pub examples-hold : Hold examples
-unfolding fetched held read fields four signed modulo read-residual tabulate fresh-row operated operate head bounded predictor length-of length-bits residual-bits sample samples blocks row-ops rows put apply swap exchange-columns exchange-rows exchange
+unfolding fetched counted held read fields four signed modulo read-residual tabulate change-cells fresh-row operated operate head bounded predictor length-of length-bits residual-bits sample samples blocks row-blocks rows rows-filler frame-filler put apply of-blocks write write-all swap exchange-columns exchange-rows exchange
 examples-hold = refl

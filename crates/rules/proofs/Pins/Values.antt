@@ -36,12 +36,12 @@ abbrev pub of-ℤ : ℤ → ℕ
 of-ℤ (pos n) = n
 of-ℤ (negsuc n) = minus (suc n)
 
--- A reader's state: position, word, count, overrun.
-abbrev pub bits : ℕ → ℕ → ℕ → Bool → Bits
-bits p w c o = record { pos = p; word = w; count = c; overrun = o }
+-- A reader's state: position, word, count, missing words.
+abbrev pub bits : ℕ → ℕ → ℕ → ℕ → Bits
+bits p w c n = record { pos = p; word = w; count = c; filler = n }
 
 abbrev pub of-bits : Bits → List ℕ
-of-bits b = b .pos ∷ b .word ∷ b .count ∷ of-bool (b .overrun) ∷ []
+of-bits b = b .pos ∷ b .word ∷ b .count ∷ b .filler ∷ []
 
 abbrev pub of-got : Got → List ℕ
 of-got g = g .value ∷ of-bits (g .bits)

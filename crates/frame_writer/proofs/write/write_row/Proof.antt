@@ -64,8 +64,7 @@ finish-requires c κs =
     let l = c .before .before .before .loop in
     let e = c .unit-of .ensures in
     let v = e ∙ sym (unit-is (a .width) (a .height) (a .samples .now) (a .format)) in
-    let past : coding (a .format) (a .width) (a .height) (a .samples .now) .width ≤ l .col = omega (arith, width-is (a .width) (a .height) (a .samples .now) (a .format)) in
-    (
+    let past : coding (a .format) (a .width) (a .height) (a .samples .now) .width ≤ l .col = omega (arith, width-is (a .width) (a .height) (a .samples .now) (a .format)) in (
       rw e (format-unit (a .format)),
       l .inv .wrote .count-small,
       fourth (coding (a .format) (a .width) (a .height) (a .samples .now)) (coding-unit (a .width) (a .height) (a .samples .now) (a .format)) (a .row) (a .at) (a .out .now) (l .out) (l .p) (l .col) (l .inv) _ v (rw e (s .pre .2)) past,

@@ -1,7 +1,6 @@
 -- The stream is borrowed for reading, so what it owns is had twice: once for the parameter at exit, once inside the reader made of it and a fresh state.
 use mathlib.Core.Path.{refl}
 use Prim.Native.Nat.{ℕ, _<_, _^_}
-use mathlib.Core.Bool.{false}
 use mathlib.Core.List.{List, [], _∷_}
 use lib.Dec.{lit<}
 use lib.ListN.{length}
@@ -18,12 +17,12 @@ use contract.Monad.{Fun}
 use contract.Running.{givenOf, tables, tablesOf}
 use types.Kit.{Given, ‵, raw, _⊛_, _$_, _∵_, !, qed, by, move, use1, split, fsplit, fjoin, suffices, frame}
 use types.Part.{agg}
-use types.Run.{look, init, forget, stop, from, load, lit, false-lit, and-then, no-more, assigns, returns, enter, alloc1, alloc0, params1, pass1, pass0, free1, free0}
+use types.Run.{look, init, forget, stop, from, load, lit, and-then, no-more, assigns, returns, enter, alloc1, alloc0, params1, pass1, pass0, free1, free0}
 use sound.WpLaws.{WpFn-mono}
 use denote.RattleType.{owns}
 use denote.Laws.{Is}
-use denote.Plain.{uint-makes, uint-vals, uint-tells, bool-makes}
-use denote.Builtin.{u8, u32, u64, bool}
+use denote.Plain.{uint-makes, uint-vals, uint-tells}
+use denote.Builtin.{u8, u32, u64}
 use denote.Ref.{RefT, NamedLft}
 use denote.Signature.{plain, namedLft}
 use denote.Slice.{sliceVal, ShrSlice, slice-vals, shr-slice-tells, shr-slice-lawful, shr-slice-copy}
@@ -78,8 +77,8 @@ module _ {M : Type 1} (𝓤 : URA M) (H : Heap 𝓤) (A : Atoms 𝓤) (W : Given
       suffices ! _ (ends-at 𝓤 H A new.ended stayed (new.clauses 𝓤 H A mem run) W (((κ, tt), (q, tt), tt, (s, (n, tt)), at), tt) (T′.lowered made) made (tt, (tt, tt)) (tt, (tt, tt))) $ says ! (refl, refl) $
       frame ! $ fsplit ! $ use1 W (‵ Own ⊛ ‵ Own) (shr-slice-copy 𝓤 H A W (named 0) κ u8 .twice s (v ∷ [])) $ split ! $ move ! (0 ∷ 2 ∷ []) $ fjoin ! $ frame ! $
       -- [what src owns]: the state is made of its numbers' facts, and the struct of the two
-      nothing ! $ owned ! bool (Is bool) (bool-makes 𝓤 H A W) false _ refl $ fjoin ! $ owned ! u32 (Is u32) (uint-makes 𝓤 H A W w32) 0 _ (refl, lit< tt) $ fjoin ! $ owned ! u32 (Is u32) (uint-makes 𝓤 H A W w32) 0 _ (refl, lit< tt) $ fjoin ! $ owned ! u64 (Is u64) (uint-makes 𝓤 H A W w64) n _ (refl, gn) $ fjoin ! $
-      use1 W (‵ (R.the-row .own state (R′.lowered state ∷ []))) (own-shut 𝓤 H A W R.the-type R′.the-laws (n, (0, (0, (false, tt))))) $
+      nothing ! $ owned ! u64 (Is u64) (uint-makes 𝓤 H A W w64) 0 _ (refl, lit< tt) $ fjoin ! $ owned ! u32 (Is u32) (uint-makes 𝓤 H A W w32) 0 _ (refl, lit< tt) $ fjoin ! $ owned ! u32 (Is u32) (uint-makes 𝓤 H A W w32) 0 _ (refl, lit< tt) $ fjoin ! $ owned ! u64 (Is u64) (uint-makes 𝓤 H A W w64) n _ (refl, gn) $ fjoin ! $
+      use1 W (‵ (R.the-row .own state (R′.lowered state ∷ []))) (own-shut 𝓤 H A W R.the-type R′.the-laws (n, (0, (0, (0, tt))))) $
       nothing ! $ move ! (1 ∷ 0 ∷ []) $ fjoin ! $ move ! (1 ∷ 0 ∷ []) $ fjoin ! $ by ! (own-shut 𝓤 H A W (T.the-type α) (T′.the-laws α) (s, (state, tt)))
 
   module _ (C : Calls 𝓤 H) (Λ : Loops 𝓤 H) where
@@ -87,8 +86,8 @@ module _ {M : Type 1} (𝓤 : URA M) (H : Heap 𝓤) (A : Atoms 𝓤) (W : Given
     walk p =
         qed W (raw (onEntry 𝓤 H A new.signature (κ, tt) (q, tt) (s, (n, tt)) at) ∷ []) ∵ enter ! C Λ code.function (v ∷ vint w64 n ∷ []) _ $
         alloc1 ! (λ l₀. alloc1 ! (λ l₁. alloc1 ! (λ l₂. alloc1 ! (λ l₃. alloc0 ! $ params1 ! $ pass1 ! (init ! 4 refl (shr-slice-lawful 𝓤 H A W (named 0) κ u8 .typed s (v ∷ []) p .0)) $ pass1 ! (init ! 2 refl (tt, record { fits = gn })) $ pass0 ! $
-        assigns ! (agg ! (and-then ! (load ! (from ! (stop !)) (look ! 2 refl)) (and-then ! (lit ! tt) (and-then ! (lit ! tt) (and-then ! (false-lit !) (no-more !)))))) (from ! (stop !)) (init ! 0 refl (tt, (record { fits = gn }, (record { fits = lit< tt }, (record { fits = lit< tt }, (tt, tt)))))) $
-        assigns ! (agg ! (and-then ! (load ! (from ! (stop !)) (look ! 4 refl)) (and-then ! (load ! (from ! (stop !)) (look ! 0 refl)) (no-more !)))) (from ! (stop !)) (init ! 6 refl (tt, (shr-slice-lawful 𝓤 H A W (named 0) κ u8 .typed s (v ∷ []) p .0 .1, ((record { fits = gn }, (record { fits = lit< tt }, (record { fits = lit< tt }, (tt, tt)))), tt)))) $
+        assigns ! (agg ! (and-then ! (load ! (from ! (stop !)) (look ! 2 refl)) (and-then ! (lit ! tt) (and-then ! (lit ! tt) (and-then ! (lit ! tt) (no-more !)))))) (from ! (stop !)) (init ! 0 refl (tt, (record { fits = gn }, (record { fits = lit< tt }, (record { fits = lit< tt }, (record { fits = lit< tt }, tt)))))) $
+        assigns ! (agg ! (and-then ! (load ! (from ! (stop !)) (look ! 4 refl)) (and-then ! (load ! (from ! (stop !)) (look ! 0 refl)) (no-more !)))) (from ! (stop !)) (init ! 6 refl (tt, (shr-slice-lawful 𝓤 H A W (named 0) κ u8 .typed s (v ∷ []) p .0 .1, ((record { fits = gn }, (record { fits = lit< tt }, (record { fits = lit< tt }, (record { fits = lit< tt }, tt)))), tt)))) $
         returns ! (look ! 6 refl) $ forget ! 0 refl $ forget ! 2 refl $ forget ! 4 refl $ forget ! 6 refl $ move ! (6 ∷ 7 ∷ []) $ free1 ! $ move ! (4 ∷ 5 ∷ []) $ free1 ! $ move ! (2 ∷ 3 ∷ []) $ free1 ! $ free1 ! $ free0 ! $ by ! exits))))
 
 module _ {M : Type 1} (𝓤 : URA M) (H : Heap 𝓤) (A : Atoms 𝓤) (W : Given 𝓤 H A) (mem : Memory → SProp 𝓤) (run : Routine → Fun 𝓤) where

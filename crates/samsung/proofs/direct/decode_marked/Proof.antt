@@ -33,7 +33,7 @@ unfolding v0-map
 returns c =
     let ones = c .before .before .before .before .before .before .before .before .before .mark-old .ensures ∙ ap (λ n. replicate n 1) (c .before .before .before .before .before .before .before .before .before .before .before .before .before .before .before .pre .1) in
     let d = c .before .before .before .before .decode-frame .ensures in
-    (d .0, d .1 ∙ ap (frame v0-marks _ _ _) ones)
+    (d .0, (d .1 .0, d .1 .1 ∙ ap (frame v0-marks _ _ _) ones))
 
 pub decode-marked-spec : {M : Type 1} → statement M
 decode-marked-spec =

@@ -1,10 +1,10 @@
 -- `decode_v0_reference` meets its contract: a refusal is the rules', and else the frame's samples are what the decoder leaves.
-use mathlib.Core.Path.{_≡_, refl, sym, _∙_}
+use mathlib.Core.Path.{_≡_, refl, sym, ap, _∙_}
 use mathlib.Core.Logic.{inl, inr}
 use native.Mathlib.Omega.{arith}
 use borrow.Author.Needs.{needs}
 use lib.Seq.{length-take-le}
-use Rattle.rules.specs.Answer.{refusal, too-small, short-samples, short-offsets, short-map, short-scratch, frame-samples, stream-answer}
+use Rattle.rules.specs.Answer.{done-with, refusal, too-small, short-samples, short-offsets, short-map, short-scratch, frame-samples, stream-answer}
 use Rattle.refusals.specs.Lending.{short}
 use Rattle.refusals.proofs.RefusalLaws.{cells-most, room, long-enough}
 use Rattle.samsung.proofs.EntryLaws.{refused-yields, passed-answer, passed-samples}
@@ -43,8 +43,8 @@ decode-frame-requires c κs =
     let p = room _ _ _ _ _ _ _ (c .before .before .before .refuse .ensures) (c .before .before .if1 .left) in
     record { width = p .wide; height = p .high; offsets-enough = long-enough _ _ (p .offsets-enough); samples-lent = length-take-le _ _ (p .samples-enough); map-lent = inr refl }
 
-done-requires : tie.Need-done-requires
-done-requires c κs = search needs
+done-with-requires : tie.Need-done-with-requires
+done-with-requires c κs = search needs
 
 same-length : tie.Need-same-length
 same-length c = search needs
@@ -53,7 +53,8 @@ returns-2 : tie.Need-returns-2
 unfolding refusal too-small short-samples short-offsets short-map short-scratch short frame-samples stream-answer
 returns-2 c =
     let ok = sym (c .before .before .before .before .before .before .before .before .refuse .ensures) ∙ c .before .before .before .before .before .before .before .if1 .left in
-    record { answered = passed-answer _ _ ok _ (c .done .ensures); samples = passed-samples _ _ ok _ _ (c .before .before .before .before .decode-frame .ensures .0); map = refl; scratch = refl }
+    let d = c .before .before .before .before .decode-frame .ensures in
+    record { answered = passed-answer _ _ ok _ (c .done-with .ensures ∙ ap done-with (d .0)); samples = passed-samples _ _ ok _ _ (d .1 .0); map = refl; scratch = refl }
 
 pub decode-v0-reference-spec : {M : Type 1} → statement M
 decode-v0-reference-spec =
@@ -67,6 +68,6 @@ decode-v0-reference-spec =
     slice-aggregate-decode-frame
     slice-aggregate-decode-frame-2
     decode-frame-requires
-    done-requires
+    done-with-requires
     same-length
     returns-2)

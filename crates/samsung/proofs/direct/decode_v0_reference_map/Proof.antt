@@ -1,10 +1,10 @@
 -- `decode_v0_reference_map` meets its contract: a refusal is the rules', and else the frame's samples and marks are what the decoder leaves.
-use mathlib.Core.Path.{_≡_, refl, sym, _∙_}
+use mathlib.Core.Path.{_≡_, refl, sym, ap, _∙_}
 use mathlib.Core.Logic.{inl, inr}
 use native.Mathlib.Omega.{arith}
 use borrow.Author.Needs.{needs}
 use lib.Seq.{length-take-le}
-use Rattle.rules.specs.Answer.{refusal, too-small, short-samples, short-offsets, short-map, short-scratch, frame-samples, frame-marks, stream-answer}
+use Rattle.rules.specs.Answer.{done-with, refusal, too-small, short-samples, short-offsets, short-map, short-scratch, frame-samples, frame-marks, stream-answer}
 use Rattle.refusals.specs.Lending.{short}
 use Rattle.refusals.proofs.RefusalLaws.{cells-most, room, long-enough}
 use Rattle.samsung.proofs.EntryLaws.{refused-yields, passed-answer, passed-samples, passed-map}
@@ -47,8 +47,8 @@ decode-marked-requires c κs =
     let m = length-take-le _ _ (long-enough _ _ (p .map-enough)) in
     (record { width = p .wide; height = p .high; offsets-enough = long-enough _ _ (p .offsets-enough); samples-lent = length-take-le _ _ (p .samples-enough); map-lent = inl m }, m)
 
-done-requires : tie.Need-done-requires
-done-requires c κs = search needs
+done-with-requires : tie.Need-done-with-requires
+done-with-requires c κs = search needs
 
 same-length : tie.Need-same-length
 same-length c = search needs
@@ -61,7 +61,7 @@ unfolding refusal too-small short-samples short-offsets short-map short-scratch 
 returns-2 c =
     let ok = sym (c .before .before .before .before .before .before .before .before .before .refuse .ensures) ∙ c .before .before .before .before .before .before .before .before .if1 .left in
     let d = c .before .before .before .before .before .decode-marked .ensures in
-    record { answered = passed-answer _ _ ok _ (c .done .ensures); samples = passed-samples _ _ ok _ _ (d .0); map = passed-map _ _ ok _ _ (d .1); scratch = refl }
+    record { answered = passed-answer _ _ ok _ (c .done-with .ensures ∙ ap done-with (d .0)); samples = passed-samples _ _ ok _ _ (d .1 .0); map = passed-map _ _ ok _ _ (d .1 .1); scratch = refl }
 
 pub decode-v0-reference-map-spec : {M : Type 1} → statement M
 decode-v0-reference-map-spec =
@@ -76,7 +76,7 @@ decode-v0-reference-map-spec =
     slice-relend-prefix-decode-marked-2
     slice-aggregate-decode-marked-2
     decode-marked-requires
-    done-requires
+    done-with-requires
     same-length
     same-length-2
     returns-2)

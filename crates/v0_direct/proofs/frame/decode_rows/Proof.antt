@@ -5,15 +5,15 @@ use native.Mathlib.Omega.{arith}
 use borrow.Author.Needs.{needs}
 use Rattle.rules.specs.V0.{sample-kind}
 use Rattle.rules.specs.Map.{v0-marks}
-use Rattle.v0_direct.proofs.FrameLaws.{Going, going-begun, row-lent, going-on, gone}
+use Rattle.v0_direct.proofs.FrameLaws.{Going, going-begun, row-lent, going-on, gone, counted-all}
 use Rattle.v0_direct.proofs.frame.decode_rows.Statement.{statement}
 use Rattle.v0_direct.proofs.frame.decode_rows.Tie as tie
 
 abbrev Inv-loop : tie.InvT-loop
-Inv-loop src offsets size count out₀ map₀ row₀ out map row = Going src offsets size count out₀ out map₀ map row
+Inv-loop src offsets size count out₀ map₀ filler₀ row₀ out map filler row = Going src offsets size count out₀ out map₀ map filler row
 
 abbrev μ-loop : tie.MeasureT-loop
-μ-loop src offsets size count out₀ map₀ row₀ out map row = count - row
+μ-loop src offsets size count out₀ map₀ filler₀ row₀ out map filler row = count - row
 
 loop-holds : tie.Need-loop-holds Inv-loop μ-loop
 loop-holds c = going-begun _ _ (c .before .before .before .before .args .size) _ _ _
@@ -25,7 +25,10 @@ shared-slice-read-decode-row : tie.Need-shared-slice-read-decode-row Inv-loop μ
 shared-slice-read-decode-row c = omega arith
 
 decode-row-requires : tie.Need-decode-row-requires Inv-loop μ-loop
-decode-row-requires c κs = let a = c .before .before .before .before .before .before .before .before .before in row-lent (a .args .src .now) (a .args .offsets .now) (a .args .size) (a .args .count) (a .args .out .now) (a .args .map .now) (c .before .before .before .before .loop .out) (c .before .before .before .before .loop .map) (c .before .before .before .before .loop .row) (omega arith) (a .pre) (c .before .before .before .before .loop .inv)
+decode-row-requires c κs = let a = c .before .before .before .before .before .before .before .before .before in let l = c .before .before .before .before .loop in row-lent (a .args .src .now) (a .args .offsets .now) (a .args .size) (a .args .count) (a .args .out .now) (a .args .map .now) (l .out) (l .map) (l .filler) (l .row) (omega arith) (a .pre) (l .inv)
+
+held-sum-requires : tie.Need-held-sum-requires Inv-loop μ-loop
+held-sum-requires c κs = search needs
 
 add-row : tie.Need-add-row Inv-loop μ-loop
 add-row c = omega arith
@@ -34,7 +37,8 @@ loop-less : tie.Need-loop-less Inv-loop μ-loop
 loop-less c = omega arith
 
 loop-again : tie.Need-loop-again Inv-loop μ-loop
-loop-again c = let a = c .before .before .before .before .before .before .before .before .before .before .before .before .before .before in let d = c .before .before .before .before .decode-row .ensures in going-on (a .args .src .now) (a .args .offsets .now) (a .args .size) (a .args .count) (a .args .out .now) (a .args .map .now) (c .before .before .before .before .before .before .before .before .before .loop .out) _ (c .before .before .before .before .before .before .before .before .before .loop .map) _ (c .before .before .before .before .before .before .before .before .before .loop .row) _ (omega arith) refl (d .0) (d .1) (c .before .before .before .before .before .before .before .before .before .loop .inv)
+loop-again c = let a = c .before .before .before .before .before .before .before .before .before .before .before .before .before .before .before in let l = c .before .before .before .before .before .before .before .before .before .before .loop in let d = c .before .before .before .before .before .decode-row .ensures in
+    going-on (a .args .src .now) (a .args .offsets .now) (a .args .size) (a .args .count) (a .args .out .now) (a .args .map .now) (l .out) _ (l .map) _ (l .filler) _ _ (l .row) _ (omega arith) refl (d .0) (d .1 .0) (d .1 .1) (c .held-sum .ensures) (l .inv)
 
 same-length : tie.Need-same-length Inv-loop μ-loop
 same-length c = search needs
@@ -44,8 +48,11 @@ same-length-2 c = search needs
 
 returns : tie.Need-returns Inv-loop μ-loop
 returns c = let a = c .before .before .before .before .before .before in let l = c .before .loop in (
-  gone (a .args .src .now) (a .args .offsets .now) (a .args .size) (a .args .count) (a .args .out .now) (a .args .map .now) sample-kind (l .row) (a .args .out .now) (l .out) (omega arith) (l .inv .samples-left),
-  gone (a .args .src .now) (a .args .offsets .now) (a .args .size) (a .args .count) (a .args .out .now) (a .args .map .now) v0-marks (l .row) (a .args .map .now) (l .map) (omega arith) (l .inv .marks-left),
+  counted-all (a .args .src .now) (a .args .offsets .now) (a .args .size) (a .args .count) (a .args .out .now) (a .args .map .now) (l .filler) (l .row) (omega arith) (l .inv .filler-left),
+  (
+    gone (a .args .src .now) (a .args .offsets .now) (a .args .size) (a .args .count) (a .args .out .now) (a .args .map .now) sample-kind (l .row) (a .args .out .now) (l .out) (omega arith) (l .inv .samples-left),
+    gone (a .args .src .now) (a .args .offsets .now) (a .args .size) (a .args .count) (a .args .out .now) (a .args .map .now) v0-marks (l .row) (a .args .map .now) (l .map) (omega arith) (l .inv .marks-left),
+  ),
 )
 
 pub decode-rows-spec : {M : Type 1} → statement M
@@ -58,6 +65,7 @@ decode-rows-spec =
     mul-decode-row
     shared-slice-read-decode-row
     decode-row-requires
+    held-sum-requires
     add-row
     loop-less
     loop-again

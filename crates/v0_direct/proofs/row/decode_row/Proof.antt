@@ -4,7 +4,7 @@ use native.Mathlib.Omega.{arith}
 use borrow.Author.Needs.{needs}
 use Rattle.rules.specs.V0.{sample-kind}
 use Rattle.rules.specs.Map.{v0-marks}
-use Rattle.v0_direct.proofs.RowLaws.{Rowing, rowing-begun, row-block, rowing-on, rowed}
+use Rattle.v0_direct.proofs.RowLaws.{Rowing, rowing-begun, places-fit, row-block, rowing-on, rowed, row-read}
 use Rattle.v0_direct.proofs.row.decode_row.Statement.{statement}
 use Rattle.v0_direct.proofs.row.decode_row.Tie as tie
 
@@ -23,6 +23,15 @@ loop-holds c = rowing-begun _ (c .before .before .before .before .args .size) _ 
 decode-block-requires : tie.Need-decode-block-requires Inv-loop μ-loop
 decode-block-requires c κs = let a = c .before .before .before .before .before .before .before .before in row-block (a .args .src .now) (a .args .size) (a .args .row) (a .args .offset) (a .args .out .now) (a .args .map .now) (c .before .before .before .loop .out) (c .before .before .before .loop .map) (c .before .before .before .loop .state) (c .before .before .before .loop .col) (omega arith) (a .pre) (c .before .before .before .loop .inv)
 
+mul-end-block : tie.Need-mul-end-block Inv-loop μ-loop
+mul-end-block c = let a = c .before .before .before .before .before .before .before .before .before .before .before .before .before .before .before in omega (arith, a .pre .width, places-fit (a .args .src .now) (a .args .size) (a .args .row) (a .args .offset) (a .args .out .now) (a .args .map .now) (a .pre))
+
+add-end-block : tie.Need-add-end-block Inv-loop μ-loop
+add-end-block c = let a = c .before .before .before .before .before .before .before .before .before .before .before .before .before .before .before in omega (arith, a .pre .width, places-fit (a .args .src .now) (a .args .size) (a .args .row) (a .args .offset) (a .args .out .now) (a .args .map .now) (a .pre))
+
+end-block-requires : tie.Need-end-block-requires Inv-loop μ-loop
+end-block-requires c κs = let a = c .before .before .before .before .before .before .before .before .before .before .before .before .before .before .before in omega (arith, a .pre .width, places-fit (a .args .src .now) (a .args .size) (a .args .row) (a .args .offset) (a .args .out .now) (a .args .map .now) (a .pre))
+
 add-col : tie.Need-add-col Inv-loop μ-loop
 add-col c = omega arith
 
@@ -30,7 +39,12 @@ loop-less : tie.Need-loop-less Inv-loop μ-loop
 loop-less c = omega arith
 
 loop-again : tie.Need-loop-again Inv-loop μ-loop
-loop-again c = let a = c .before .before .before .before .before .before .before .before .before .before .before .before .before in let d = c .before .before .before .before .decode-block .ensures in rowing-on (a .args .src .now) (a .args .size) (a .args .row) (a .args .offset) (a .args .out .now) (a .args .map .now) (c .before .before .before .before .before .before .before .before .loop .out) _ (c .before .before .before .before .before .before .before .before .loop .map) _ (c .before .before .before .before .before .before .before .before .loop .state) _ (c .before .before .before .before .before .before .before .before .loop .col) (omega arith) (d .0) (d .1 .0) (d .1 .1) (c .before .before .before .before .before .before .before .before .loop .inv)
+loop-again c =
+    let a = c .before .before .before .before .before .before .before .before .before .before .before .before .before .before .before .before .before .before .args in
+    let at-loop = c .before .before .before .before .before .before .before .before .before .before .before .before .before .loop in
+    let d = c .before .before .before .before .before .before .before .before .before .decode-block .ensures in
+    rowing-on (a .src .now) (a .size) (a .row) (a .offset) (a .out .now) (a .map .now) (at-loop .out) _ (at-loop .map) _ _ (at-loop .state) _ (at-loop .col) (omega arith) (d .0)
+    (d .1 .0) (d .1 .1) (c .before .before .end-block .ensures) (at-loop .inv)
 
 same-length : tie.Need-same-length Inv-loop μ-loop
 same-length c = search needs
@@ -39,9 +53,12 @@ same-length-2 : tie.Need-same-length-2 Inv-loop μ-loop
 same-length-2 c = search needs
 
 returns : tie.Need-returns Inv-loop μ-loop
-returns c = let a = c .before .before .before .before .before .before in let l = c .before .loop in (
-  rowed (a .args .src .now) (a .args .size) (a .args .row) (a .args .offset) (a .args .out .now) (a .args .map .now) sample-kind (l .state) (l .col) (a .args .out .now) (l .out) (omega arith) (l .inv .samples-left),
-  rowed (a .args .src .now) (a .args .size) (a .args .row) (a .args .offset) (a .args .out .now) (a .args .map .now) v0-marks (l .state) (l .col) (a .args .map .now) (l .map) (omega arith) (l .inv .marks-left),
+returns c = let a = c .before .before .before .before .before .before .before in let l = c .before .before .loop in (
+  row-read (a .args .src .now) (a .args .size) (a .args .row) (a .args .offset) (a .args .out .now) (a .args .map .now) (l .state) (l .col) (omega arith) (l .inv .reader-left),
+  (
+    rowed (a .args .src .now) (a .args .size) (a .args .row) (a .args .offset) (a .args .out .now) (a .args .map .now) sample-kind (l .state) (l .col) (a .args .out .now) (l .out) (omega arith) (l .inv .samples-left),
+    rowed (a .args .src .now) (a .args .size) (a .args .row) (a .args .offset) (a .args .out .now) (a .args .map .now) v0-marks (l .state) (l .col) (a .args .map .now) (l .map) (omega arith) (l .inv .marks-left),
+  ),
 )
 
 pub decode-row-spec : {M : Type 1} → statement M
@@ -53,6 +70,9 @@ decode-row-spec =
     fresh-requires
     loop-holds
     decode-block-requires
+    mul-end-block
+    add-end-block
+    end-block-requires
     add-col
     loop-less
     loop-again

@@ -1,24 +1,23 @@
 -- The residuals are stored over the two finished rows.
 use mathlib.Core.Path.{ap, _∙_}
-use native.Mathlib.Omega.{arith}
 use borrow.Author.Needs.{needs}
 use Rattle.rules.specs.V0.{sample-kind}
-use Rattle.rules.specs.Map.{v0-marks}
 use Rattle.rules.specs.Phases.{phase-one}
-use Rattle.v0_two_phase.proofs.FrameLaws.{samples-framed, rows-first}
+use Rattle.v0_two_phase.proofs.FrameLaws.{rows-first}
 use Rattle.v0_two_phase.proofs.frame.store_rows.Statement.{statement}
 use Rattle.v0_two_phase.proofs.frame.store_rows.Tie as tie
 
 head-rows-requires : tie.Need-head-rows-requires
 head-rows-requires c κs = search needs
 
+slice-aggregate-decode-rows : tie.Need-slice-aggregate-decode-rows
+slice-aggregate-decode-rows c = search needs
+
 decode-rows-requires : tie.Need-decode-rows-requires
-decode-rows-requires c κs = (c .before .before .before .before .before .before .before .before .pre .frame, omega (arith, c .before .before .head-rows .ensures))
+decode-rows-requires c κs = search needs
 
 parse-rows-requires : tie.Need-parse-rows-requires
-parse-rows-requires c κs =
-    let p = c .before .before .before .before .before .before .before .before .before .before .before .before .before .before .before .pre in
-    (record { frame = samples-framed (p .frame) (c .before .before .before .before .before .before .decode-rows .kept .1 .1 .1 .1 .0); directions-lent = p .directions-lent }, p .frame .offsets-enough)
+parse-rows-requires c κs = search needs
 
 same-length : tie.Need-same-length
 same-length c = search needs
@@ -26,16 +25,22 @@ same-length c = search needs
 same-length-2 : tie.Need-same-length-2
 same-length-2 c = search needs
 
-same-length-3 : tie.Need-same-length-3
-same-length-3 c = search needs
-
 returns : tie.Need-returns
 returns c =
-    let z = c .before .before .before .before .before .before .before .before .before .before .before .before .before .before .before .before .before .before .before .before .args .size in
-    let first = c .before .before .before .before .before .before .before .before .before .before .before .before .before .before .head-rows .ensures in
-    let rows = c .before .before .before .before .before .before .before .before .before .before .before .decode-rows .ensures in
+    let z = c .before .before .before .before .before .before .before .before .before .before .before .before .before .before .before .before .before .before .args .size in
+    let first = c .before .before .before .before .before .before .before .before .before .before .before .before .before .head-rows .ensures in
+    let rows = c .before .before .before .before .before .before .before .before .before .before .decode-rows .ensures in
     let phase = c .before .before .before .before .parse-rows .ensures in
-    (phase .0 ∙ ap (phase-one _ _ _ _ _) (rows-first _ _ z sample-kind _ _ _ first (rows .0)), (rows-first _ _ z v0-marks _ _ _ first (rows .1), phase .1))
+    (phase .0 ∙ ap (phase-one _ _ _ _ _) (rows-first _ _ z sample-kind _ _ _ first (rows .1 .0)), phase .1)
 
 pub store-rows-spec : {M : Type 1} → statement M
-store-rows-spec = tie.close (tie.spec head-rows-requires decode-rows-requires parse-rows-requires same-length same-length-2 same-length-3 returns)
+store-rows-spec =
+    tie.close
+    (tie.spec
+    head-rows-requires
+    slice-aggregate-decode-rows
+    decode-rows-requires
+    parse-rows-requires
+    same-length
+    same-length-2
+    returns)

@@ -1,6 +1,6 @@
 -- Two invariants of one kind: the blocks left in the row come to what the row comes to, and the rows left to what the frame comes to, for samples and marks alike.
 use mathlib.Core.Logic.{⊎-elim}
-use mathlib.Core.Path.{_≡_, refl, sym, _∙_}
+use mathlib.Core.Path.{_≡_, refl, sym, ap, _∙_}
 use Prim.Native.Nat.{_+_, _-_, _*_, _/_, _≤_, _<_}
 use native.Mathlib.Omega.{arith}
 use lib.ListN.{length}
@@ -9,37 +9,38 @@ use Rattle.rules.specs.declared.reader.Bits.{Bits}
 use Rattle.rules.specs.declared.v2.V2Block.the-variants.{Next}
 use Rattle.rules.specs.declared.v2.V2Row.{V2Row}
 use Rattle.rules.specs.Frame.{cells}
+use Rattle.rules.specs.Answer.{done-with}
 use Rattle.rules.specs.V2.{top, blocks, rows}
 use Rattle.rules.proofs.V2Places.{block-inside}
 use Rattle.v2_cells.specs.Places.{Placed}
-use Rattle.v2.proofs.FrameLaws.{RowGoing, row-starts, row-ends, row-stops, row-goes, whole-row, refusal-number, FrameGoing, frame-starts, frame-ends, frame-refuses, frame-overruns, frame-goes, depth-is, markable, frame-is, samples-length}
+use Rattle.v2.proofs.FrameLaws.{RowGoing, row-starts, row-ends, row-stops, row-goes, whole-row, refusal-number, FrameGoing, frame-starts, frame-ends, frame-refuses, frame-short, frame-goes, depth-is, markable, frame-is, samples-length}
 use Rattle.v2.proofs.frame.decode_frame.Statement.{statement}
 use Rattle.v2.proofs.frame.decode_frame.Tie as tie
 
 abbrev Inv-loop : tie.InvT-loop
-Inv-loop src out₀ map₀ width height hdr answer₀ bits₀ row state₀ mode₀ col₀ out map answer bits state mode col =
-    (length out ≡ width * height) × ((length map ≡ length map₀) × ((answer ≡ answer₀)
-    × RowGoing (top hdr) src hdr width row (blocks src hdr width row (width / 16) 0 bits₀ state₀ mode₀) out₀ map₀ col bits state mode out map))
+Inv-loop src out₀ map₀ width height hdr bits₀ row state₀ mode₀ col₀ out map bits state mode col =
+    (length out ≡ width * height) × ((length map ≡ length map₀)
+    × RowGoing (top hdr) src hdr width row (blocks src hdr width row (width / 16) 0 bits₀ state₀ mode₀) out₀ map₀ col bits state mode out map)
 
 abbrev μ-loop : tie.MeasureT-loop
-μ-loop src out₀ map₀ width height hdr answer₀ bits₀ row state₀ mode₀ col₀ out map answer bits state mode col = width - col
+μ-loop src out₀ map₀ width height hdr bits₀ row state₀ mode₀ col₀ out map bits state mode col = width - col
 
 abbrev Inv-frame : tie.InvT-frame
-Inv-frame src out₀ map₀ width height hdr answer₀ bits₀ row₀ out map answer bits row =
-    (row ≤ height) × ((length out ≡ width * height) × ((length map ≡ length map₀) × ((answer ≡ record { number = 0; row = 0 })
+Inv-frame src out₀ map₀ width height hdr bits₀ answer₀ row₀ out map bits answer row =
+    (row ≤ height) × ((length out ≡ width * height) × ((length map ≡ length map₀) × ((answer ≡ done-with (bits .filler))
     × FrameGoing (top hdr) src hdr width height (rows src hdr width height 0 bits₀) out₀ map₀ row bits out map)))
 
 abbrev μ-frame : tie.MeasureT-frame
-μ-frame src out₀ map₀ width height hdr answer₀ bits₀ row₀ out map answer bits row = height - row
+μ-frame src out₀ map₀ width height hdr bits₀ answer₀ row₀ out map bits answer row = height - row
 
 read-header-requires : tie.Need-read-header-requires Inv-loop μ-loop Inv-frame μ-frame
 read-header-requires c κs = search needs
 
-done-requires : tie.Need-done-requires Inv-loop μ-loop Inv-frame μ-frame
-done-requires c κs = search needs
+done-with-requires : tie.Need-done-with-requires Inv-loop μ-loop Inv-frame μ-frame
+done-with-requires c κs = search needs
 
 frame-holds : tie.Need-frame-holds Inv-loop μ-loop Inv-frame μ-frame
-frame-holds c = (omega arith, (c .before .before .before .before .before .before .before .pre .samples-lent, (refl, (c .before .done .ensures, frame-starts _ _ _ _ _ _ _ _))))
+frame-holds c = (omega arith, (c .before .before .before .before .before .before .before .pre .samples-lent, (refl, (c .done-with .ensures, frame-starts _ _ _ _ _ _ _ _))))
 
 align-requires : tie.Need-align-requires Inv-loop μ-loop Inv-frame μ-frame
 align-requires c κs = search needs
@@ -51,7 +52,7 @@ mode-requires : tie.Need-mode-requires Inv-loop μ-loop Inv-frame μ-frame
 mode-requires c κs = search needs
 
 loop-holds : tie.Need-loop-holds Inv-loop μ-loop Inv-frame μ-frame
-loop-holds c = (c .before .before .before .before .frame .inv .1 .0, (refl, (refl, row-starts _ _ _ _ _ _ _ _ _ _ (c .before .fresh .ensures))))
+loop-holds c = (c .before .before .before .before .frame .inv .1 .0, (refl, row-starts _ _ _ _ _ _ _ _ _ _ (c .before .fresh .ensures)))
 
 add-loop : tie.Need-add-loop Inv-loop μ-loop Inv-frame μ-frame
 add-loop c = search needs
@@ -62,7 +63,7 @@ In = tie.In-loop Inv-loop μ-loop Inv-frame μ-frame
 placed : (c : In) → Placed (record { width = c .before .before .before .before .before .before .before .before .before .before .before .before .before .before .args .size .width; row = c .before .before .before .before .before .before .frame .row; col = c .before .loop .col })
 placed c =
     let q : c .before .before .before .before .before .before .frame .row < c .before .before .before .before .before .before .before .before .before .before .before .before .before .before .args .size .height = c .before .before .before .before .before .frame-test .taken in
-    record { wide = c .before .before .before .before .before .before .before .before .before .before .before .before .before .before .pre .width; high = omega (arith, c .before .before .before .before .before .before .before .before .before .before .before .before .before .before .pre .height); column = c .loop-test .taken; whole = c .before .loop .inv .1 .1 .1 .whole-blocks }
+    record { wide = c .before .before .before .before .before .before .before .before .before .before .before .before .before .before .pre .width; high = omega (arith, c .before .before .before .before .before .before .before .before .before .before .before .before .before .before .pre .height); column = c .loop-test .taken; whole = c .before .loop .inv .1 .1 .whole-blocks }
 
 room : (c : In) → c .before .before .before .before .before .before .frame .row * c .before .before .before .before .before .before .before .before .before .before .before .before .before .before .args .size .width + c .before .loop .col + 16 ≤ cells (c .before .before .before .before .before .before .before .before .before .before .before .before .before .before .args .size)
 room c = block-inside (c .before .before .before .before .before .before .before .before .before .before .before .before .before .before .args .size) (c .before .before .before .before .before .before .frame .row) (c .before .loop .col) (c .before .before .before .before .before .frame-test .taken) (c .loop-test .taken)
@@ -73,8 +74,8 @@ read-block-requires c κs =
       record {
         depth = depth-is _ _ (c .before .before .before .before .before .before .before .before .before .before .before .before .before .read-header .ensures);
         inside = record { placed = placed (c .before .before .before); room = omega (arith, g .0, room (c .before .before .before)) };
-        motion = g .1 .1 .1 .motion;
-        scale = g .1 .1 .1 .scale;
+        motion = g .1 .1 .motion;
+        scale = g .1 .1 .scale;
       },
       refl,
     )
@@ -82,11 +83,14 @@ read-block-requires c κs =
 enum-known-outcome : tie.Need-enum-known-outcome Inv-loop μ-loop Inv-frame μ-frame
 enum-known-outcome c = search needs
 
+bits-requires : tie.Need-bits-requires Inv-loop μ-loop Inv-frame μ-frame
+bits-requires c κs = search needs
+
 number-requires : tie.Need-number-requires Inv-loop μ-loop Inv-frame μ-frame
 number-requires c κs = search needs
 
-cast-t29 : tie.Need-cast-t29 Inv-loop μ-loop Inv-frame μ-frame
-cast-t29 c = omega (arith, c .before .before .before .before .before .before .before .before .before .before .before .frame-test .taken, c .before .before .before .before .before .before .before .before .before .before .before .before .before .before .before .before .before .before .before .before .pre .height)
+cast-t30 : tie.Need-cast-t30 Inv-loop μ-loop Inv-frame μ-frame
+cast-t30 c = omega (arith, c .before .before .before .before .before .before .before .before .before .before .before .before .frame-test .taken, c .before .before .before .before .before .before .before .before .before .before .before .before .before .before .before .before .before .before .before .before .before .pre .height)
 
 first-requires : tie.Need-first-requires Inv-loop μ-loop Inv-frame μ-frame
 first-requires c κs = placed (c .before .before .before .before .before .before .before .before)
@@ -98,7 +102,7 @@ mark-block-requires : tie.Need-mark-block-requires Inv-loop μ-loop Inv-frame μ
 mark-block-requires c κs =
     let l = c .before .before .before .before .before .before .before .before .before .before .before .before .before .before .before .loop in
     let y = c .before .before .before .before .before .before .before .before .before .before .read-block .ensures in
-    markable _ _ _ _ _ _ _ _ _ _ _ (sym (y .0) ∙ c .before .before .before .before .before .before .before .before .outcome .given .1) (l .inv .1 .1 .1 .motion) (placed (c .before .before .before .before .before .before .before .before .before .before .before .before .before .before)) (room (c .before .before .before .before .before .before .before .before .before .before .before .before .before .before)) (l .inv .1 .0 ∙ c .before .before .before .before .before .before .before .before .before .before .before .before .before .before .before .before .before .before .before .before .frame .inv .1 .1 .0) (c .before .before .before .before .before .before .before .before .before .before .before .before .before .before .before .before .before .before .before .before .before .before .before .before .before .before .before .before .pre .map-lent)
+    markable _ _ _ _ _ _ _ _ _ _ _ (sym (y .0) ∙ c .before .before .before .before .before .before .before .before .outcome .given .1) (l .inv .1 .1 .motion) (placed (c .before .before .before .before .before .before .before .before .before .before .before .before .before .before)) (room (c .before .before .before .before .before .before .before .before .before .before .before .before .before .before)) (l .inv .1 .0 ∙ c .before .before .before .before .before .before .before .before .before .before .before .before .before .before .before .before .before .before .before .before .frame .inv .1 .1 .0) (c .before .before .before .before .before .before .before .before .before .before .before .before .before .before .before .before .before .before .before .before .before .before .before .before .before .before .before .before .pre .map-lent)
 
 add-col : tie.Need-add-col Inv-loop μ-loop Inv-frame μ-frame
 add-col c = omega (arith, c .before .before .before .before .before .before .before .before .before .before .before .before .before .before .before .before .before .loop-test .taken, c .before .before .before .before .before .before .before .before .before .before .before .before .before .before .before .before .before .before .before .before .before .before .before .before .before .before .before .before .before .before .before .pre .width)
@@ -107,42 +111,41 @@ loop-less : tie.Need-loop-less Inv-loop μ-loop Inv-frame μ-frame
 loop-less c = search needs
 
 loop-again : tie.Need-loop-again Inv-loop μ-loop Inv-frame μ-frame
-loop-again c =
-    let l = c .before .before .before .before .before .before .before .before .before .before .before .before .before .before .before .before .before .before .loop in
+loop-again c = let l = c .before .before .before .before .before .before .before .before .before .before .before .before .before .before .before .before .before .before .loop in
     let y = c .before .before .before .before .before .before .before .before .before .before .before .before .before .read-block .ensures in (
       c .before .before .before .before .before .before .store .kept .0 ∙ l .inv .0,
       (
         c .before .before .mark-block .kept .0 ∙ l .inv .1 .0,
-        (
-          l .inv .1 .1 .0,
-          row-goes _ _ _ _ _ _ _ _ _ _ _ _ _ _ (l .inv .1 .1 .1) (c .before .before .before .before .before .before .before .before .before .before .before .before .before .before .before .before .before .loop-test .taken) _ (y .0) _ _ (c .before .before .before .before .before .before .before .before .before .before .before .outcome .given .1) _ (y .1 .0) _ _ _ _ _ (c .before .before .before .before .before .before .before .before .first .ensures) (y .1 .1) (c .before .before .before .before .before .before .store .ensures) (c .before .before .mark-block .ensures _),
-        ),
+        row-goes _ _ _ _ _ _ _ _ _ _ _ _ _ _ (l .inv .1 .1) (c .before .before .before .before .before .before .before .before .before .before .before .before .before .before .before .before .before .loop-test .taken) _ (y .0) _ _ (c .before .before .before .before .before .before .before .before .before .before .before .outcome .given .1) _ (y .1 .0) _ _ _ _ _ (c .before .before .before .before .before .before .before .before .first .ensures) (y .1 .1) (c .before .before .before .before .before .before .store .ensures) (c .before .before .mark-block .ensures _),
       ),
     )
 
-cast-t36 : tie.Need-cast-t36 Inv-loop μ-loop Inv-frame μ-frame
-cast-t36 c = search needs
+cast-t37 : tie.Need-cast-t37 Inv-loop μ-loop Inv-frame μ-frame
+cast-t37 c = search needs
+
+done-requires : tie.Need-done-requires Inv-loop μ-loop Inv-frame μ-frame
+done-requires c κs = search needs
 
 add-row : tie.Need-add-row Inv-loop μ-loop Inv-frame μ-frame
-add-row c = search needs
+add-row c = omega (arith, c .before .before .before .before .before .before .before .before .frame-test .taken, c .before .before .before .before .before .before .before .before .before .before .before .before .before .before .before .before .before .pre .height)
 
 frame-less : tie.Need-frame-less Inv-loop μ-loop Inv-frame μ-frame
 frame-less c = search needs
 
 frame-again : tie.Need-frame-again Inv-loop μ-loop Inv-frame μ-frame
 frame-again c =
-    let i = c .before .before .loop .inv in
-    let j = c .before .before .before .before .before .before .before .frame .inv in
-    let t = c .before .before .before .before .before .before .frame-test .taken in
-    let e = row-ends _ _ _ _ _ _ _ _ _ _ _ _ _ _ (i .1 .1 .1) (c .before .loop-test .left) in (
+    let i = c .before .before .before .before .loop .inv in
+    let j = c .before .before .before .before .before .before .before .before .before .frame .inv in
+    let t = c .before .before .before .before .before .before .before .before .frame-test .taken in
+    let e = row-ends _ _ _ _ _ _ _ _ _ _ _ _ _ _ (i .1 .1) (c .before .before .before .loop-test .left) in (
       omega (arith, t),
       (
         i .0,
         (
           i .1 .0 ∙ j .1 .1 .0,
           (
-            i .1 .1 .0 ∙ j .1 .1 .1 .0,
-            frame-goes _ _ _ _ _ _ _ _ _ _ _ _ (j .1 .1 .1 .1) t _ (whole-row _ _ _ _ _ _ _ _ (c .before .before .before .before .before .align .ensures) (c .before .before .before .before .fresh .ensures) (c .before .before .before .mode .ensures)) _ _ (e .1 .1) _ (e .0) (e .1 .0) (c .if1 .left),
+            c .done .ensures ∙ ap done-with (sym (c .before .if1 .left)),
+            frame-goes _ _ _ _ _ _ _ _ _ _ _ _ (j .1 .1 .1 .1) t _ (whole-row _ _ _ _ _ _ _ _ (c .before .before .before .before .before .before .before .align .ensures) (c .before .before .before .before .before .before .fresh .ensures) (c .before .before .before .before .before .mode .ensures)) _ _ (e .1 .1) _ (e .0) (e .1 .0) (c .before .if1 .left),
           ),
         ),
       ),
@@ -161,31 +164,31 @@ returns c =
     frame-is _ _ _ _ _ _ _ _ (c .before .before .before .before .before .read-header .ensures) (e .0 ∙ sym (i .1 .1 .1 .0), e .1)
 
 same-length-3 : tie.Need-same-length-3 Inv-loop μ-loop Inv-frame μ-frame
-same-length-3 c = c .before .before .before .before .before .before .before .loop .inv .0 ∙ sym (c .before .before .before .before .before .before .before .before .before .before .before .before .before .before .before .before .before .before .before .before .pre .samples-lent)
+same-length-3 c = c .before .before .before .before .before .before .before .before .loop .inv .0 ∙ sym (c .before .before .before .before .before .before .before .before .before .before .before .before .before .before .before .before .before .before .before .before .before .pre .samples-lent)
 
 same-length-4 : tie.Need-same-length-4 Inv-loop μ-loop Inv-frame μ-frame
-same-length-4 c = c .before .before .before .before .before .before .before .loop .inv .1 .0 ∙ c .before .before .before .before .before .before .before .before .before .before .before .before .frame .inv .1 .1 .0
+same-length-4 c = c .before .before .before .before .before .before .before .before .loop .inv .1 .0 ∙ c .before .before .before .before .before .before .before .before .before .before .before .before .before .frame .inv .1 .1 .0
 
 returns-2 : tie.Need-returns-2 Inv-loop μ-loop Inv-frame μ-frame
 returns-2 c =
-    let l = c .before .before .before .before .before .before .before .loop in
-    let y = c .before .before .read-block .ensures in
-    let no-next : (b : Bits) (st : V2Row) → c .before .before .read-block .result ≡ Next b st → ⊥ = (λ b st q. ⊎-elim (λ e. omega arith) (⊎-elim (λ e. omega arith) (λ e. omega arith)) (rw q at (c .before .match .keys2))) in
-    let x = row-stops _ _ _ _ _ _ _ _ _ _ _ _ _ _ (l .inv .1 .1 .1) (c .before .before .before .before .before .before .loop-test .taken) _ (y .0) no-next in
-    frame-is _ _ _ _ _ _ _ _ (c .before .before .before .before .before .before .before .before .before .before .before .before .before .before .before .before .read-header .ensures)
-    (frame-refuses _ _ _ _ _ _ _ _ _ _ _ _ (c .before .before .before .before .before .before .before .before .before .before .before .before .frame .inv .1 .1 .1 .1) (c .before .before .before .before .before .before .before .before .before .before .before .frame-test .taken) _ (whole-row _ _ _ _ _ _ _ _ (c .before .before .before .before .before .before .before .before .before .before .align .ensures) (c .before .before .before .before .before .before .before .before .before .fresh .ensures) (c .before .before .before .before .before .before .before .before .mode .ensures)) _ _ (x .1) _ (x .0 ∙ sym (c .number .ensures)) (rw (c .number .ensures) (refusal-number _ no-next)))
+    let l = c .before .before .before .before .before .before .before .before .loop in
+    let y = c .before .before .before .read-block .ensures in
+    let no-next : (b : Bits) (st : V2Row) → c .before .before .before .read-block .result ≡ Next b st → ⊥ = (λ b st q. ⊎-elim (λ e. omega arith) (⊎-elim (λ e. omega arith) (λ e. omega arith)) (rw q at (c .before .before .match .keys2))) in
+    let x = row-stops _ _ _ _ _ _ _ _ _ _ _ _ _ _ (l .inv .1 .1) (c .before .before .before .before .before .before .before .loop-test .taken) _ (y .0) no-next in
+    frame-is _ _ _ _ _ _ _ _ (c .before .before .before .before .before .before .before .before .before .before .before .before .before .before .before .before .before .read-header .ensures)
+    (frame-refuses _ _ _ _ _ _ _ _ _ _ _ _ (c .before .before .before .before .before .before .before .before .before .before .before .before .before .frame .inv .1 .1 .1 .1) (c .before .before .before .before .before .before .before .before .before .before .before .before .frame-test .taken) _ (whole-row _ _ _ _ _ _ _ _ (c .before .before .before .before .before .before .before .before .before .before .before .align .ensures) (c .before .before .before .before .before .before .before .before .before .before .fresh .ensures) (c .before .before .before .before .before .before .before .before .before .mode .ensures)) _ _ (x .1 .1) _ _ (x .0 ∙ sym (c .number .ensures)) (rw (c .number .ensures) (refusal-number _ no-next)) (x .1 .0 ∙ sym (c .before .bits2 .ensures)))
 
 same-length-5 : tie.Need-same-length-5 Inv-loop μ-loop Inv-frame μ-frame
-same-length-5 c = c .before .before .loop .inv .0 ∙ sym (c .before .before .before .before .before .before .before .before .before .before .before .before .before .before .before .pre .samples-lent)
+same-length-5 c = c .before .before .before .loop .inv .0 ∙ sym (c .before .before .before .before .before .before .before .before .before .before .before .before .before .before .before .before .pre .samples-lent)
 
 same-length-6 : tie.Need-same-length-6 Inv-loop μ-loop Inv-frame μ-frame
-same-length-6 c = c .before .before .loop .inv .1 .0 ∙ c .before .before .before .before .before .before .before .frame .inv .1 .1 .0
+same-length-6 c = c .before .before .before .loop .inv .1 .0 ∙ c .before .before .before .before .before .before .before .before .frame .inv .1 .1 .0
 
 returns-3 : tie.Need-returns-3 Inv-loop μ-loop Inv-frame μ-frame
 returns-3 c =
-    let e = row-ends _ _ _ _ _ _ _ _ _ _ _ _ _ _ (c .before .before .loop .inv .1 .1 .1) (c .before .loop-test .left) in
-    frame-is _ _ _ _ _ _ _ _ (c .before .before .before .before .before .before .before .before .before .before .before .read-header .ensures)
-    (frame-overruns _ _ _ _ _ _ _ _ _ _ _ _ (c .before .before .before .before .before .before .before .frame .inv .1 .1 .1 .1) (c .before .before .before .before .before .before .frame-test .taken) _ (whole-row _ _ _ _ _ _ _ _ (c .before .before .before .before .before .align .ensures) (c .before .before .before .before .fresh .ensures) (c .before .before .before .mode .ensures)) _ _ (e .1 .1) (e .0) (rw (e .1 .0) (c .if1 .taken)))
+    let e = row-ends _ _ _ _ _ _ _ _ _ _ _ _ _ _ (c .before .before .before .loop .inv .1 .1) (c .before .before .loop-test .left) in
+    frame-is _ _ _ _ _ _ _ _ (c .before .before .before .before .before .before .before .before .before .before .before .before .read-header .ensures)
+    (frame-short _ _ _ _ _ _ _ _ _ _ _ _ (c .before .before .before .before .before .before .before .before .frame .inv .1 .1 .1 .1) (c .before .before .before .before .before .before .before .frame-test .taken) _ (whole-row _ _ _ _ _ _ _ _ (c .before .before .before .before .before .before .align .ensures) (c .before .before .before .before .before .fresh .ensures) (c .before .before .before .before .mode .ensures)) _ _ (e .1 .1) _ (e .0) (e .1 .0) (c .if1 .taken))
 
 pub decode-frame-spec : {M : Type 1} → statement M
 decode-frame-spec =
@@ -196,7 +199,7 @@ decode-frame-spec =
     Inv-frame
     μ-frame
     read-header-requires
-    done-requires
+    done-with-requires
     frame-holds
     align-requires
     fresh-requires
@@ -205,15 +208,17 @@ decode-frame-spec =
     add-loop
     read-block-requires
     enum-known-outcome
+    bits-requires
     number-requires
-    cast-t29
+    cast-t30
     first-requires
     store-requires
     mark-block-requires
     add-col
     loop-less
     loop-again
-    cast-t36
+    cast-t37
+    done-requires
     add-row
     frame-less
     frame-again

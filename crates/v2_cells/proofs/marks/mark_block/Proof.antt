@@ -1,40 +1,46 @@
-use mathlib.Core.Path.{refl}
+-- The marks of the base, and then the block's end.
 use native.Mathlib.Omega.{arith}
-use denote.Ref.{now}
 use borrow.Author.Needs.{needs}
-use Rattle.rules.specs.Frame.{tabulate}
-use Rattle.v2_cells.proofs.Fill.{fill-length, empty-is, sets-same}
+use Rattle.maps.proofs.MapLaws.{ended-clear, ended-filled}
+use Rattle.v2_cells.proofs.BaseLaws.{rows-room}
 use Rattle.v2_cells.proofs.marks.mark_block.Statement.{statement}
 use Rattle.v2_cells.proofs.marks.mark_block.Tie as tie
 
-returns : tie.Need-returns
-unfolding tabulate
-returns c = λ h. rw (empty-is (now (c .before .before .args .map)) (c .if1 .taken))
-
-block-marks-requires : tie.Need-block-marks-requires
-block-marks-requires c κs = let a = c .before .before .before .before in let filled = c .before .before .if1 .left in (a .pre .inside filled, (a .pre .small, (refl, a .pre .unrefused)))
-
-first-requires : tie.Need-first-requires
-first-requires c κs = search needs
-
-store-marks-requires : tie.Need-store-marks-requires
-store-marks-requires c κs =
-    let a = c .before .before .before .before .before .before .before .before in
-    (omega (arith, c .before .first .ensures, a .pre .inside (c .before .before .before .before .before .before .if1 .left) .room), fill-length _ _ (c .before .before .before .block-marks .ensures (record { depth = 0; options = 0; initial = 0 })))
+mark-base-requires : tie.Need-mark-base-requires
+mark-base-requires c κs = search needs
 
 same-length : tie.Need-same-length
 same-length c = search needs
 
+returns : tie.Need-returns
+returns c =
+    let based = c .before .before .before .before in
+    λ h. ended-clear (based .before .before .before .args .end) _ _ _ (based .mark-base .ensures h) (c .if1 .taken)
+
+first-requires : tie.Need-first-requires
+first-requires c κs = search needs
+
+fill-block-requires : tie.Need-fill-block-requires
+fill-block-requires c κs =
+    let a = c .before .before .before .before .before .before .before .before .before in
+    omega (arith, c .first .ensures, a .pre .placed .column, a .pre .placed .wide, rows-room (a .args .at .row) (a .args .at .width) (a .pre .placed .high) (a .pre .placed .wide))
+
+same-length-2 : tie.Need-same-length-2
+same-length-2 c = search needs
+
 returns-2 : tie.Need-returns-2
-returns-2 c = λ h. sets-same _ _ _ _ _ _ (c .before .before .store-marks .ensures) (c .before .before .before .before .first .ensures) (c .before .before .before .before .before .before .block-marks .ensures h)
+returns-2 c =
+    let based = c .before .before .before .before .before .before .before .before .before in
+    λ h. ended-filled (based .before .before .before .args .end) _ _ _ (based .mark-base .ensures h) (c .before .before .before .before .before .if1 .left) _ _ (c .before .before .before .first .ensures) (c .before .before .fill-block .ensures)
 
 pub mark-block-spec : {M : Type 1} → statement M
 mark-block-spec =
     tie.close
     (tie.spec
-    returns
-    block-marks-requires
-    first-requires
-    store-marks-requires
+    mark-base-requires
     same-length
+    returns
+    first-requires
+    fill-block-requires
+    same-length-2
     returns-2)

@@ -1,0 +1,55 @@
+// What a map's bytes become, of V0 and V2 alike: all old at entry, filler at a block's end, and the parts of two in an average.
+ghost use mathlib.Core.Path.{_≡_};
+ghost use Prim.Native.Nat.{_+_, _^_, _<_, max};
+ghost use lib.ListN.{length, replicate};
+ghost use Rattle.rules.specs.Frame.{change-cells};
+ghost use Rattle.rules.specs.Map.{with-filler, either-part};
+
+// The bytes of a block.
+const BLOCK: usize = 16;
+
+// At entry every sample rests on an old value.
+pub fn mark_old(map: &mut [u8])
+    ensures { λ _. ⌜ now (map .exit) ≡ replicate (length (now (map .entry))) 1 ⌝ }
+{
+    let mut i: usize = 0;
+    while i < map.len() {
+        map[i] = 1;
+        i += 1;
+    }
+}
+
+// A block from a place on ends with filler: its bytes, as far as there are any, gain 2.
+pub fn fill_block(map: &mut [u8], place: usize)
+    requires { ⌜ place + 16 < 2 ^ 64 ⌝ }
+    ensures { λ _. ⌜ now (map .exit) ≡ change-cells with-filler 0 16 place (now (map .entry)) ⌝ }
+{
+    let mut i: usize = 0;
+    while i < BLOCK {
+        fill_byte(map, place + i);
+        i += 1;
+    }
+}
+
+// One of them.
+fn fill_byte(map: &mut [u8], place: usize)
+    ensures { λ _. ⌜ now (map .exit) ≡ change-cells with-filler 0 1 place (now (map .entry)) ⌝ }
+{
+    if place < map.len() {
+        map[place] = map[place] % 2 + 2;
+    }
+}
+
+// The greater of two parts.
+fn greater(a: u8, b: u8) -> u8
+    ensures { λ r. ⌜ r ≡ max a b ⌝ }
+{
+    if a < b { b } else { a }
+}
+
+// Each part of an average is one that either of its two has.
+pub fn either_part(a: u8, b: u8) -> u8
+    ensures { λ r. ⌜ r ≡ either-part a b ⌝ }
+{
+    greater(a % 2, b % 2) + 2 * greater(a / 2, b / 2)
+}

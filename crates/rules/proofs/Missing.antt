@@ -1,0 +1,355 @@
+-- What a count of missing words says: it is the number of the words fetched that don't lie wholly in the stream, held at 2^64 − 1.
+-- So it never falls, it is 0 exactly if a flag would be false, and a stream that has every word has count 0. A V0 frame's count is
+-- the sum over its rows, each of which is a run of reads from its offset; V2's is that of one run from the header on.
+use Prim.Native.Nat.{ℕ, zero, suc, _+_, _-_, _*_, _/_, _^_, _%_, _≤_, _<_, min}
+use mathlib.Core.Bool.{Bool, true, false, cond, not, _&&_, _||_}
+use mathlib.Core.Path.{_≡_, refl, sym, ap, ap₂, _∙_}
+use mathlib.Core.List.{List, [], _∷_, _++_}
+use native.Mathlib.Omega.{arith}
+use lib.IntN.{ℤ}
+use lib.ListN.{length, getD}
+use lib.Dec.{leb, eqb}
+use borrow.Author.Tests.{leb-true, leb-false, le-leb, ne-eqb}
+use Rattle.rules.specs.declared.answer.Answer.{Answer}
+use Rattle.rules.specs.declared.answer.Size.{Size}
+use Rattle.rules.specs.declared.reader.Bits.{Bits}
+use Rattle.rules.specs.declared.reader.Got.{Got}
+use Rattle.rules.specs.declared.reader.Word.{Word}
+use Rattle.rules.specs.declared.v0.Predictor.{Predictor}
+use Rattle.rules.specs.declared.v0.V0Row.{V0Row}
+use Rattle.rules.specs.declared.v0.V0Length.{V0Length}
+use Rattle.rules.specs.declared.v2.V2Hdr.{V2Hdr}
+use Rattle.rules.specs.declared.v2.V2Row.{V2Row}
+use Rattle.rules.specs.declared.v2.V2Scale.{V2Scale}
+use Rattle.rules.specs.declared.v2.V2Block.{V2Block}
+use Rattle.rules.specs.declared.v2.V2Block.the-variants.{Next, EarlyMotion, Outside, LongDifference}
+use Rattle.rules.specs.Reader.{fetched, most-filler, counted, has-filler, fresh, reset-at, held, read, fields, four, read-signed, read-residual}
+use Rattle.rules.specs.Missing.{past-end, missing-of, flag-after, fetches, Run, stay, reads, resets, rows-sum}
+use Rattle.rules.specs.V0 as V0
+use Rattle.rules.specs.V2 as V2
+use Rattle.rules.proofs.Cells.{All, nil, more}
+use Rattle.rules.proofs.V2Rows.{then-rows-cases}
+use Rattle.rules.proofs.ReaderLaws.{fetched-there, fetched-missing, read-held, read-next}
+
+-- ── One read ──
+
+missing-is : (s : List ℕ) (p : ℕ) → fetched s p .missing ≡ past-end s p
+unfolding fetched
+missing-is s p = go (leb (p + 4) (length s)) _ _
+  where
+    go : (t : Bool) (v w : ℕ) → cond {A = Word} t (record { value = v; missing = false }) (record { value = w; missing = true }) .missing ≡ not t
+    go true v w = refl
+    go false v w = refl
+
+counted-one : (n : ℕ) (t : Bool) → n ≤ most-filler → counted n t ≡ min (n + cond t 1 0) most-filler
+unfolding counted
+counted-one n true l = refl
+counted-one n false l = omega arith
+
+-- A read counts the words that it fetches.
+pub read-counts : (s : List ℕ) (b : Bits) (n : ℕ) → b .filler ≤ most-filler
+    → read s b n .bits .filler ≡ min (b .filler + missing-of s (fetches b n)) most-filler
+unfolding fetches missing-of
+read-counts s b n l = go (leb (min n 32) (held b)) refl
+  where
+    go : (t : Bool) → leb (min n 32) (held b) ≡ t → read s b n .bits .filler ≡ min (b .filler + missing-of s (cond t [] (b .pos ∷ []))) most-filler
+    go true e = rw (read-held s b n (leb-true _ _ e)) (omega arith)
+    go false e =
+        rw (read-next s b n (leb-false _ _ e), missing-is s (b .pos)) (counted-one (b .filler) (past-end s (b .pos)) l ∙ one (past-end s (b .pos)))
+      where
+        one : (t : Bool) → min (b .filler + cond t 1 0) most-filler ≡ min (b .filler + (cond t 1 0 + 0)) most-filler
+        one true = refl
+        one false = refl
+
+-- ── A run ──
+
+missing-append : (s ps qs : List ℕ) → missing-of s (ps ++ qs) ≡ missing-of s ps + missing-of s qs
+unfolding missing-of
+missing-append s [] qs = omega arith
+missing-append s (p ∷ ps) qs = omega (arith, missing-append s ps qs)
+
+-- The count is the number of the words fetched that don't lie wholly in the stream, on top of what it was, and held.
+pub run-counts : (s : List ℕ) {b c : Bits} {ps : List ℕ} → Run s b ps c → b .filler ≤ most-filler
+    → c .filler ≡ min (b .filler + missing-of s ps) most-filler
+unfolding missing-of
+run-counts s {b = b} stay l = omega arith
+run-counts s {b = b} (reads {ps = ps} n r) l =
+    let one = read-counts s b n l in
+    let rest = run-counts s r (omega (arith, one)) in
+    omega (arith, one, rest, missing-append s (fetches b n) ps)
+run-counts s (resets p r) l = run-counts s r l
+
+-- So it never falls ..
+pub never-falls : (s : List ℕ) {b c : Bits} {ps : List ℕ} → Run s b ps c → b .filler ≤ most-filler → b .filler ≤ c .filler
+never-falls s r l = omega (arith, run-counts s r l)
+
+-- .. and from 0 on it is 0 exactly if every word was there.
+pub none-missing : (s : List ℕ) {b c : Bits} {ps : List ℕ} → Run s b ps c → b .filler ≡ 0
+    → (c .filler ≡ 0 → missing-of s ps ≡ 0) × (missing-of s ps ≡ 0 → c .filler ≡ 0)
+none-missing s r z = let e = run-counts s r (omega arith) in (λ q. omega arith, λ q. omega arith)
+
+-- A count that isn't 0 is the flag of a reader that has one.
+
+counted-flag : (n : ℕ) (t : Bool) → not (eqb (counted n t) 0) ≡ not (eqb n 0) || t
+unfolding counted
+counted-flag n true = ap not (ne-eqb (min (n + 1) most-filler) 0 (λ e. omega arith)) ∙ sym (or-true (not (eqb n 0)))
+  where
+    or-true : (x : Bool) → x || true ≡ true
+    or-true true = refl
+    or-true false = refl
+counted-flag n false = sym (or-false (not (eqb n 0)))
+  where
+    or-false : (x : Bool) → x || false ≡ x
+    or-false true = refl
+    or-false false = refl
+
+flag-append : (s : List ℕ) (o : Bool) (ps qs : List ℕ) → flag-after s o (ps ++ qs) ≡ flag-after s (flag-after s o ps) qs
+unfolding flag-after
+flag-append s o [] qs = refl
+flag-append s o (p ∷ ps) qs = flag-append s (o || past-end s p) ps qs
+
+read-flags : (s : List ℕ) (b : Bits) (n : ℕ) → has-filler (read s b n .bits) ≡ flag-after s (has-filler b) (fetches b n)
+unfolding fetches flag-after
+read-flags s b n = go (leb (min n 32) (held b)) refl
+  where
+    go : (t : Bool) → leb (min n 32) (held b) ≡ t → has-filler (read s b n .bits) ≡ flag-after s (has-filler b) (cond t [] (b .pos ∷ []))
+    go true e = rw (read-held s b n (leb-true _ _ e))
+    go false e = rw (read-next s b n (leb-false _ _ e), missing-is s (b .pos)) (counted-flag (b .filler) (past-end s (b .pos)))
+
+pub flag-is : (s : List ℕ) {b c : Bits} {ps : List ℕ} → Run s b ps c → has-filler c ≡ flag-after s (has-filler b) ps
+unfolding flag-after
+flag-is s stay = refl
+flag-is s {b = b} (reads {ps = ps} n r) =
+    flag-is s r ∙ ap (λ o. flag-after s o ps) (read-flags s b n) ∙ sym (flag-append s (has-filler b) (fetches b n) ps)
+flag-is s (resets p r) = flag-is s r
+
+-- A stream that has every word that is fetched: the count stays.
+pub enough-stays : (s : List ℕ) {b c : Bits} {ps : List ℕ} → Run s b ps c → b .filler ≤ most-filler → All (λ p. p + 4 ≤ length s) ps
+    → c .filler ≡ b .filler
+unfolding missing-of
+enough-stays s {ps = ps} r l there = omega (arith, run-counts s r l, none ps there)
+  where
+    none : (qs : List ℕ) → All (λ p. p + 4 ≤ length s) qs → missing-of s qs ≡ 0
+    none [] nil = refl
+    none (p ∷ qs) (more h hs) = rw (le-leb (p + 4) (length s) h) (omega (arith, none qs hs))
+
+-- ── What the parsers do is a run ──
+
+-- Some run leads from one state to another.
+pub record Reached (s : List ℕ) (b c : Bits) : Type 0 where
+  pub words : List ℕ
+  pub run : Run s b words c
+
+reached : {s : List ℕ} {b c : Bits} {ps : List ℕ} → Run s b ps c → Reached s b c
+reached {ps = ps} r = record { words = ps; run = r }
+
+at-once : {s : List ℕ} {b : Bits} → Reached s b b
+at-once = reached stay
+
+by-read : (s : List ℕ) (b : Bits) (n : ℕ) → Reached s b (read s b n .bits)
+by-read s b n = reached (reads n stay)
+
+by-reset : (s : List ℕ) (b : Bits) (p : ℕ) → Reached s b (reset-at b p)
+by-reset s b p = reached (resets p stay)
+
+onward : {s : List ℕ} {b c d : Bits} {ps : List ℕ} → Run s b ps c → Reached s c d → Reached s b d
+onward stay q = q
+onward (reads n r) q = reached (reads n (onward r q .run))
+onward (resets p r) q = reached (resets p (onward r q .run))
+
+infixr 20 _then_
+_then_ : {s : List ℕ} {b c d : Bits} → Reached s b c → Reached s c d → Reached s b d
+p then q = onward (p .run) q
+
+either : {A : Type 0} {s : List ℕ} {b : Bits} (f : A → Bits) (t : Bool) {x y : A} → Reached s b (f x) → Reached s b (f y) → Reached s b (f (cond t x y))
+either f true p q = p
+either f false p q = q
+
+fields-reach : (s ns : List ℕ) (b : Bits) → Reached s b (fields s ns b .bits)
+unfolding fields
+fields-reach s [] b = at-once
+fields-reach s (n ∷ ns) b = by-read s b n then fields-reach s ns (read s b n .bits)
+
+four-reach : (s : List ℕ) (n : ℕ) (b : Bits) → Reached s b (four s n b .bits)
+unfolding four
+four-reach s n b = fields-reach s (n ∷ n ∷ n ∷ n ∷ []) b
+
+-- ── V0 ──
+
+operated-reach : (s : List ℕ) (op : ℕ) (l : ℤ) (b : Bits) → Reached s b (V0.operated s op l b .bits)
+unfolding V0.operated
+operated-reach s op l b = either (λ (x : V0Length). x .bits) (eqb op 3) (by-read s b 4) at-once
+
+operate-reach : (s ops : List ℕ) (ls : List ℤ) (b : Bits) → Reached s b (V0.operate s ops ls b .bits)
+unfolding V0.operate
+operate-reach s [] ls b = at-once
+operate-reach s (op ∷ ops) [] b = at-once
+operate-reach s (op ∷ ops) (l ∷ ls) b = operated-reach s op l b then operate-reach s ops ls (V0.operated s op l b .bits)
+
+head-reach : (s : List ℕ) (st : V0Row) → Reached s (st .bits) (V0.head s st .row .bits)
+unfolding V0.head
+head-reach s st =
+    let d = read s (st .bits) 1 in
+    let o = four s 2 (d .bits) in
+    by-read s (st .bits) 1 then (four-reach s 2 (d .bits) then operate-reach s (o .values) (st .lengths) (o .bits))
+
+samples-reach : (s : List ℕ) (base : ℕ) (ls : List ℤ) (predict : ℕ → Predictor) (cs : List ℕ) (b : Bits) → Reached s b (V0.samples s base ls predict cs b .bits)
+unfolding V0.samples V0.sample read-residual
+samples-reach s base ls predict [] b = at-once
+samples-reach s base ls predict (c ∷ cs) b = by-read s b _ then samples-reach s base ls predict cs _
+
+blocks-reach : (s : List ℕ) (first : ℕ) (predict : ℕ → Bool → ℕ → Predictor) (n col : ℕ) (st : V0Row) → Reached s (st .bits) (V0.blocks s first predict n col st .bits)
+unfolding V0.blocks
+blocks-reach s first predict zero col st = at-once
+blocks-reach s first predict (suc n) col st =
+    let h = V0.head s st in
+    head-reach s st then (samples-reach s (first + col) (h .row .lengths) (predict col (h .up)) V0.order (h .row .bits) then blocks-reach s first predict n (col + 16) _)
+
+-- A row's reader goes from its offset, with count 0, to the row's end.
+pub row-reach : (s : List ℕ) (z : Size) (row offset : ℕ) → Reached s (fresh offset) (V0.row-blocks s z row offset .bits)
+unfolding V0.row-blocks V0.fresh-row
+row-reach s z row offset = blocks-reach s (row * z .width) (V0.predictor z row) (V0.blocks-in (z .width)) 0 (V0.fresh-row row offset)
+
+-- So its count is the number of the words that it fetches past the stream's end.
+pub row-counts : (s : List ℕ) (z : Size) (row offset : ℕ)
+    → V0.row-blocks s z row offset .bits .filler ≡ min (missing-of s (row-reach s z row offset .words)) most-filler
+row-counts s z row offset = run-counts s (row-reach s z row offset .run) (omega arith) ∙ omega arith
+
+-- A V0 frame's count is the sum over its rows, held.
+rows-summed : (s offsets : List ℕ) (z : Size) (n row k : ℕ) → k ≤ most-filler
+    → V0.rows-filler s offsets z n row k ≡ min (k + rows-sum s offsets z n row) most-filler
+unfolding V0.rows-filler rows-sum
+rows-summed s offsets z zero row k l = omega arith
+rows-summed s offsets z (suc n) row k l =
+    let m = V0.row-blocks s z row (getD offsets row 0) .bits .filler in
+    omega (arith, rows-summed s offsets z n (suc row) (min (k + m) most-filler) (omega arith))
+
+pub frame-summed : (s offsets : List ℕ) (z : Size) → V0.frame-filler s offsets z ≡ min (rows-sum s offsets z (z .height) 0) most-filler
+unfolding V0.frame-filler
+frame-summed s offsets z = rows-summed s offsets z (z .height) 0 0 (omega arith) ∙ omega arith
+
+-- It is 0 where no row misses a word.
+pub frame-none : (s offsets : List ℕ) (z : Size) → ((row : ℕ) → row < z .height → V0.row-blocks s z row (getD offsets row 0) .bits .filler ≡ 0)
+    → V0.frame-filler s offsets z ≡ 0
+unfolding rows-sum
+frame-none s offsets z none = frame-summed s offsets z ∙ ap (λ n. min n most-filler) (all (z .height) 0 (omega arith)) ∙ omega arith
+  where
+    all : (n row : ℕ) → row + n ≤ z .height → rows-sum s offsets z n row ≡ 0
+    all zero row l = refl
+    all (suc n) row l = omega (arith, none row (omega arith), all n (suc row) (omega arith))
+
+-- ── V2 ──
+
+header-reach : (s : List ℕ) → Reached s (fresh 0) (V2.header s .bits)
+unfolding V2.header
+header-reach s = fields-reach s V2.field-widths (fresh 0)
+
+scale-reach : (s : List ℕ) (h : V2Hdr) (col : ℕ) (scale : ℤ) (b : Bits) → Reached s b (V2.read-scale s h col scale b .bits)
+unfolding V2.read-scale V2.rescaled
+scale-reach s h col scale b =
+    let code = read s b 2 in
+    either (λ (x : V2Scale). x .bits) (not (V2.option-4 h) && eqb (col % 64) 0)
+    (either (λ (x : V2Scale). x .bits) (eqb (code .value) 3) (by-read s b 2 then by-read s (code .bits) 12) (by-read s b 2)) at-once
+
+motion-reach : (s : List ℕ) (h : V2Hdr) (motion : ℕ) (b : Bits) → Reached s b (V2.read-motion s h motion b .bits)
+unfolding V2.read-motion
+motion-reach s h motion b =
+    let g = read s b 1 in
+    either (λ (x : Got). x .bits) (V2.option-2 h) (by-read s b 1)
+    (either (λ (x : Got). x .bits) (eqb (g .value) 0) (by-read s b 1 then by-read s (g .bits) 3) (by-read s b 1))
+
+length-reach : (s : List ℕ) (flag first : ℕ) (b : Bits) → Reached s b (V2.read-length s flag first b .bits)
+unfolding V2.read-length
+length-reach s flag first b =
+    either (λ (x : Got). x .bits) (eqb flag 3) (by-read s b 4)
+    (either (λ (x : Got). x .bits) (eqb flag 2) at-once (either (λ (x : Got). x .bits) (eqb flag 1) at-once at-once))
+
+lengths-reach : (s : List ℕ) (depth row : ℕ) (flags : List ℕ) (n j : ℕ) (x : V2.Moded)
+    → Reached s (x .lengths .bits) (V2.lengths-from s depth row flags n j x .lengths .bits)
+unfolding V2.lengths-from V2.length-step
+lengths-reach s depth row flags zero j x = at-once
+lengths-reach s depth row flags (suc n) j x =
+    let y = V2.length-step s depth row flags j x in
+    let one = length-reach s (getD flags j 0) (getD (getD (x .mode) (V2.colour row j) []) 0 0) (x .lengths .bits) in
+    either (λ (m : V2.Moded). m .lengths .bits) (y .lengths .long) one (one then lengths-reach s depth row flags n (suc j) y)
+
+lengths-all-reach : (s : List ℕ) (h : V2Hdr) (row : ℕ) (mode : List (List ℕ)) (b : Bits) → Reached s b (V2.read-lengths s h row mode b .lengths .bits)
+unfolding V2.read-lengths V2.flagged-lengths V2.lengths-bit
+lengths-all-reach s h row mode b =
+    let g = V2.lengths-bit s h b in
+    let f = four s 2 (g .bits) in
+    let bit = either (λ (x : Got). x .bits) (V2.option-1 h) at-once (by-read s b 1) in
+    either (λ (m : V2.Moded). m .lengths .bits) (eqb (g .value) 0)
+    (bit then (four-reach s 2 (g .bits) then lengths-reach s (h .depth) row (f .values) 4 0 (V2.no-lengths mode (f .bits)))) bit
+
+differences-reach : (s : List ℕ) (row : ℕ) (ls : List ℕ) (n k : ℕ) (x : V2.Differences) → Reached s (x .bits) (V2.differences-from s row ls n k x .bits)
+unfolding V2.differences-from V2.difference-step read-signed
+differences-reach s row ls zero k x = at-once
+differences-reach s row ls (suc n) k x = by-read s (x .bits) _ then differences-reach s row ls n (suc k) (V2.difference-step s row ls k x)
+
+tail-reach : (s : List ℕ) (h : V2Hdr) (row : ℕ) (st : V2Row) (mode : List (List ℕ)) (b : Bits) → Reached s b (V2.state-after (V2.tail s h row st mode b .outcome))
+unfolding V2.tail V2.read-differences
+tail-reach s h row st mode b =
+    let l = V2.read-lengths s h row mode b .lengths in
+    let all = lengths-all-reach s h row mode b in
+    either V2.state-after (l .long) all (all then differences-reach s row (l .four) 16 0 _)
+
+block-reach : (s : List ℕ) (h : V2Hdr) (w row col : ℕ) (b : Bits) (st : V2Row) (mode : List (List ℕ))
+    → Reached s b (V2.state-after (V2.read-block s h w row col b st mode .outcome))
+unfolding V2.read-block V2.based-tail
+block-reach s h w row col b st mode =
+    let c = V2.read-scale s h col (st .scale) b in
+    let m = V2.read-motion s h (st .motion) (c .bits) in
+    let st′ : V2Row = record { motion = m .value; scale = c .scale } in
+    let after : V2.Tail → Bits = λ x. V2.state-after (x .outcome) in
+    scale-reach s h col (st .scale) b
+    then (motion-reach s h (st .motion) (c .bits)
+    then either after (eqb (V2.base-refusal row col (m .value)) 5) at-once
+    (either after (eqb (V2.base-refusal row col (m .value)) 6) at-once (tail-reach s h row st′ mode (m .bits))))
+
+row-blocks-reach : (s : List ℕ) (h : V2Hdr) (w row n col : ℕ) (b : Bits) (st : V2Row) (mode : List (List ℕ)) → Reached s b (V2.blocks s h w row n col b st mode .bits)
+unfolding V2.blocks V2.then
+row-blocks-reach s h w row zero col b st mode = at-once
+row-blocks-reach s h w row (suc n) col b st mode =
+    let p = V2.read-block s h w row col b st mode in
+    go (p .outcome) (p .block) _ (block-reach s h w row col b st mode) (λ b′ st′. row-blocks-reach s h w row n (col + 16) b′ st′ (p .mode))
+  where
+    go : (o : V2Block) (x : V2.Block) (rest : Bits → V2Row → V2.Row) → Reached s b (V2.state-after o)
+        → ((b′ : Bits) (st′ : V2Row) → Reached s b′ (rest b′ st′ .bits)) → Reached s b (V2.then o x rest .bits)
+    go (Next b′ st′) x rest p q = p then q b′ st′
+    go (EarlyMotion b′) x rest p q = p
+    go (Outside b′) x rest p q = p
+    go (LongDifference b′) x rest p q = p
+
+v2-row-reach : (s : List ℕ) (h : V2Hdr) (w row : ℕ) (b : Bits) → Reached s b (V2.read-row s h w row b .bits)
+unfolding V2.read-row V2.aligned
+v2-row-reach s h w row b = by-reset s b _ then row-blocks-reach s h w row (w / 16) 0 (V2.aligned b) V2.fresh-row (V2.fresh-mode row)
+
+-- A state that the reader comes to, whose count an answer has.
+pub record Answers (s : List ℕ) (b : Bits) (a : Answer) : Type 0 where
+  pub end : Bits
+  pub reach : Reached s b end
+  pub filler-is : a .filler ≡ end .filler
+
+rows-answer : (s : List ℕ) (h : V2Hdr) (w n row : ℕ) (b : Bits) → Answers s b (V2.rows s h w n row b .answer)
+unfolding V2.rows
+rows-answer s h w zero row b = record { end = b; reach = at-once; filler-is = refl }
+rows-answer s h w (suc n) row b =
+    let q = V2.read-row s h w row b in
+    let one = v2-row-reach s h w row b in
+    let here : (k : ℕ) → Answers s b (record { number = k; row = row; filler = q .bits .filler }) = λ k. record { end = q .bits; reach = one; filler-is = refl } in
+    let rest = rows-answer s h w n (suc row) (q .bits) in
+    then-rows-cases (λ x. Answers s b (x .answer)) row q (V2.rows s h w n (suc row) (q .bits)) (λ e. here (q .number)) (λ e m. here 8)
+    (λ e m. record { end = rest .end; reach = one then rest .reach; filler-is = rest .filler-is })
+
+-- The count of a V2 answer is that of one reader, from the header on.
+pub v2-answer : (s : List ℕ) (z : Size) → Answers s (fresh 0) (V2.read-frame s z .answer)
+unfolding V2.read-frame
+v2-answer s z =
+    let x = V2.header s in
+    let a = rows-answer s (x .hdr) (z .width) (z .height) 0 (x .bits) in
+    record { end = a .end; reach = header-reach s then a .reach; filler-is = a .filler-is }
+
+-- So it is the number of the words that this reader fetches past the stream's end.
+pub v2-counts : (s : List ℕ) (z : Size) → V2.read-frame s z .answer .filler ≡ min (missing-of s (v2-answer s z .reach .words)) most-filler
+v2-counts s z = let a = v2-answer s z in a .filler-is ∙ run-counts s (a .reach .run) (omega arith) ∙ omega arith
