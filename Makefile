@@ -1,4 +1,4 @@
-.PHONY: run test refuse mutate compare compare-long bench memcheck fuzz frames picture soak fmt
+.PHONY: run test archive install dist refuse mutate compare compare-long bench memcheck fuzz frames picture soak fmt
 
 archive = target/staticlib/librazvolk.a
 cargo_run = cd rust && cargo run --release --offline --locked
@@ -12,6 +12,23 @@ run:
 # The gate.
 test:
 	bash .ci/run
+
+# The archive for C and Rust: proves what it is made of, and compiles it.
+archive: $(archive)
+
+$(archive): crates.txt $(shell find crates -type f)
+	rt staticlib razvolk
+
+# Header, archive and pkg-config file below PREFIX.
+PREFIX = /usr/local
+install: $(archive)
+	install -D -m 644 include/razvolk.h $(DESTDIR)$(PREFIX)/include/razvolk.h
+	install -D -m 644 $(archive) $(DESTDIR)$(PREFIX)/lib/librazvolk.a
+	install -D -m 644 dist/razvolk.pc $(DESTDIR)$(PREFIX)/lib/pkgconfig/razvolk.pc
+
+# A release, target/dist/razvolk-VERSION.tar.gz, which needs no Rattle toolchain.
+dist: $(archive)
+	dist/make
 
 # Every wrong edit that the proofs must refuse, also those of edits/, which cost too much for the gate (edits/README.md).
 refuse:
@@ -29,13 +46,13 @@ mutate:
 	RT_JOBS=1 nice -n 19 python3 tests/mutate.py --crate $(CRATE) --file '$(FILE)' --count $(COUNT) --seed $(SEED)
 
 # The long comparison with the Rust, ten to twenty minutes.
-compare:
+compare: $(archive)
 	$(cargo_run) -p compare -- long
 
 # As many calls as docs/TESTING.md tells: ten million of V0, a hundred thousand frames in bands, as many streams of V2, pairs of
 # lists, two hundred thousand frames written. SEED picks others.
 SEED = 1
-compare-long:
+compare-long: $(archive)
 	$(cargo_run) -p compare -- v0 1_000_000 $(SEED)
 	$(cargo_run) -p compare -- bands 100_000 $(SEED)
 	$(cargo_run) -p compare -- lists 20_000 $(SEED)
@@ -43,11 +60,8 @@ compare-long:
 	$(cargo_run) -p compare -- write 200_000 $(SEED)
 
 # Razvolk and the Rust timed in turn on the same frames, three to four minutes.
-bench:
+bench: $(archive)
 	$(cargo_run) -p bench
-
-$(archive): crates.txt $(shell find crates -type f)
-	rt staticlib razvolk
 
 $(made)/%: %.c include/razvolk.h $(archive)
 	mkdir -p $(dir $@)
@@ -84,12 +98,12 @@ frames:
 	$(cargo_run) --quiet -p streams --example frames -- target/made/frames
 
 # The picture in the README: a frame with upward blocks from row 0 on, decoded over another.
-picture: frames
+picture: frames $(archive)
 	$(cargo_run) --quiet -p razvolk-tool -- --over target/made/frames/sitting.srw target/made/frames/christening.srw \
 		--force --png ../docs/marked.png
 
 # Some thousand frames in one process, through one decoder: memory must stay flat.
-soak:
+soak: $(archive)
 	$(cargo_run) --quiet -p razvolk --example soak -- 5000
 
 fmt:

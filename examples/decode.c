@@ -1,7 +1,7 @@
 /* Decodes a V0 frame of 2 by 2 over an old buffer, and prints its rows, with a star at each sample that rests on what the
  * buffer held before.
  *
- *     cc -Iinclude examples/decode.c target/staticlib/librazvolk.a -o decode && ./decode */
+ *     cc examples/decode.c $(pkg-config --cflags --libs razvolk) -o decode && ./decode */
 #include "razvolk.h"
 
 #include <stdio.h>
@@ -17,7 +17,7 @@ int main(void) {
 
     razvolk_answer answer = razvolk_decode_v0_reference_map(stream, sizeof stream, offsets, HEIGHT, WIDTH, HEIGHT, samples,
                                                             WIDTH * HEIGHT, map, WIDTH * HEIGHT);
-    if (answer.number != 0) {
+    if (answer.number != RAZVOLK_DONE) {
         printf("refused %u\n", (unsigned)answer.number);
         return 1;
     }

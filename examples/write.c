@@ -1,6 +1,6 @@
 /* Writes a frame of 3 by 2 as V0, prints its rows as they are coded, and decodes it again.
  *
- *     cc -Iinclude examples/write.c target/staticlib/librazvolk.a -o write && ./write */
+ *     cc examples/write.c $(pkg-config --cflags --libs razvolk) -o write && ./write */
 #include "razvolk.h"
 
 #include <stdio.h>
@@ -17,7 +17,7 @@ int main(void) {
 
     razvolk_written written =
         razvolk_write_v0(samples, WIDTH * HEIGHT, WIDTH, HEIGHT, stream, sizeof stream, offsets, HEIGHT);
-    if (written.answer.number != 0) {
+    if (written.answer.number != RAZVOLK_DONE) {
         printf("refused %u\n", (unsigned)written.answer.number);
         return 1;
     }
@@ -31,6 +31,6 @@ int main(void) {
     }
     razvolk_answer answer = razvolk_decode_v0_reference(stream, (size_t)written.length, offsets, HEIGHT, WIDTH, HEIGHT, again,
                                                         WIDTH * HEIGHT);
-    puts(answer.number == 0 && memcmp(again, samples, sizeof samples) == 0 ? "decoded, it is the frame again" : "WRONG");
+    puts(answer.number == RAZVOLK_DONE && memcmp(again, samples, sizeof samples) == 0 ? "decoded, it is the frame again" : "WRONG");
     return 0;
 }

@@ -1,8 +1,11 @@
-/* Razvolk: Samsung raw decoders and a writer in Rattle, for C and C++ on x86-64 Linux. Link target/staticlib/librazvolk.a.
+/* Razvolk: Samsung raw decoders and a writer in Rattle, for C and C++ on x86-64 Linux. Link librazvolk.a.
  *
  * Every function is proved to return on every input. A slice is a pointer and a length in elements: the pointer must be good
- * for that many elements, and not null, also where the length is 0 and nothing is read. Slices that are written must overlap
- * no other slice of the call. */
+ * for that many elements, and may be NULL where the length is 0. Slices that are written must overlap no other slice of the
+ * call.
+ *
+ * There is no state at all: nothing is kept from call to call, allocated or locked. Any number of threads may call at once, as
+ * long as what one writes is not another's. */
 #ifndef RAZVOLK_H
 #define RAZVOLK_H
 
@@ -13,6 +16,11 @@
 #ifdef __cplusplus
 extern "C" {
 #endif
+
+#define RAZVOLK_VERSION "0.1.0"
+#define RAZVOLK_VERSION_MAJOR 0
+#define RAZVOLK_VERSION_MINOR 1
+#define RAZVOLK_VERSION_PATCH 0
 
 /* What a decoder or a writer answers. N below is width times height; scratch needs RAZVOLK_SCRATCH bytes.
  *
@@ -37,6 +45,27 @@ typedef struct {
     uint32_t number;
     uint32_t row;
 } razvolk_answer;
+
+/* The numbers by name. */
+#define RAZVOLK_DONE            0u
+#define RAZVOLK_TOO_LARGE       1u
+#define RAZVOLK_TOO_SMALL       2u
+#define RAZVOLK_SHORT_SAMPLES   3u
+#define RAZVOLK_SHORT_MAP       4u
+#define RAZVOLK_EARLY_MOTION    5u
+#define RAZVOLK_OUTSIDE         6u
+#define RAZVOLK_LONG_DIFFERENCE 7u
+#define RAZVOLK_OVERRUN         8u
+#define RAZVOLK_TOO_BRIGHT      9u
+#define RAZVOLK_SHORT_OUTPUT    10u
+#define RAZVOLK_BAD_CUT         11u
+#define RAZVOLK_BAD_STEPS       12u
+
+/* The limits that they speak of. */
+#define RAZVOLK_MOST_SIDE 16384u       /* 1 */
+#define RAZVOLK_V2_LEAST_WIDTH 646u    /* 2 */
+#define RAZVOLK_V2_LEAST_HEIGHT 436u   /* 2 */
+#define RAZVOLK_V0_MOST_SAMPLE 16383u  /* 9 */
 
 /* The bytes of scratch that a two-phase frame within the limits needs: one for each block of 16 columns of rows 2 on. */
 #define RAZVOLK_SCRATCH(width, height) ((height) > 2 ? ((size_t)(width) + 15) / 16 * ((size_t)(height) - 2) : (size_t)0)

@@ -1,10 +1,13 @@
-//! Finds the archive that Rattle proved and compiled, or has it made, and links it.
+//! Finds the archive that Rattle proved and compiled, and links it. Nothing is proved here, which takes minutes in which cargo
+//! shows nothing, and nothing is written but below OUT_DIR.
 //!
-//! `RAZVOLK_ARCHIVE` names an archive to take instead of the repository's `target/staticlib/librazvolk.a`; a relative path
-//! is taken from the repository's top.
+//! The archive is the first that there is of these:
+//!
+//! - the one that `RAZVOLK_ARCHIVE` names; a relative path is taken from the workspace's folder;
+//! - `lib/librazvolk.a` in the crate, as a release has it;
+//! - `target/staticlib/librazvolk.a` in the repository, which `rt staticlib razvolk` makes there.
 
 use std::path::{Path, PathBuf};
-use std::process::Command;
 use std::time::SystemTime;
 use std::{env, fs, io};
 
@@ -19,60 +22,63 @@ fn link() -> Result<(), String> {
     if var("CARGO_CFG_TARGET_ARCH") != "x86_64" || var("CARGO_CFG_TARGET_OS") != "linux" {
         return Err("the archive holds code for x86-64 Linux, and this build is for another machine".into());
     }
-    let root = Path::new(&var("CARGO_MANIFEST_DIR")).join("..");
-    let archive = match env::var_os("RAZVOLK_ARCHIVE") {
-        Some(given) => root.join(given),
-        None => proved(&root)?,
-    };
+    let out = PathBuf::from(var("OUT_DIR"));
+    let archive = archive(&out)?;
     println!("cargo::rerun-if-changed={}", archive.display());
     // A copy under the name that the linker asks for, whatever the archive is called.
-    let out = PathBuf::from(var("OUT_DIR"));
     fs::copy(&archive, out.join("librazvolk.a")).map_err(|e| format!("no archive at {}: {e}", archive.display()))?;
     println!("cargo::rustc-link-search=native={}", out.display());
     println!("cargo::rustc-link-lib=static=razvolk");
     Ok(())
 }
 
-/// The repository's archive, made anew where it is missing or older than what it is made from.
-fn proved(root: &Path) -> Result<PathBuf, String> {
+fn archive(out: &Path) -> Result<PathBuf, String> {
+    if let Some(given) = env::var_os("RAZVOLK_ARCHIVE").map(PathBuf::from) {
+        if given.is_absolute() {
+            return Ok(given);
+        }
+        let workspace = out.ancestors().find(|folder| folder.join("Cargo.toml").exists());
+        let told = format!("RAZVOLK_ARCHIVE is {}, and no workspace is above the build's folder", given.display());
+        return workspace.map(|folder| folder.join(given)).ok_or(told);
+    }
+    let own = PathBuf::from(var("CARGO_MANIFEST_DIR"));
+    let released = own.join("lib/librazvolk.a");
+    if released.exists() { Ok(released) } else { made(&own.join("..")) }
+}
+
+/// The repository's archive, and a warning where it is older than its sources.
+fn made(root: &Path) -> Result<PathBuf, String> {
     let archive = root.join("target/staticlib/librazvolk.a");
-    let sources = [root.join("crates.txt"), root.join("crates")];
-    for source in &sources {
+    let mut sources = vec![root.join("crates.txt")];
+    sources_below(&root.join("crates"), &mut sources).map_err(|e| format!("{}/crates: {e}", root.display()))?;
+    for source in [&archive].into_iter().chain(&sources) {
         println!("cargo::rerun-if-changed={}", source.display());
     }
-    let newest = sources.iter().filter_map(|s| newest(s).ok()).max();
-    if fs::metadata(&archive).and_then(|m| m.modified()).ok() <= newest {
-        make(root)?;
+    let make = "`rt staticlib razvolk`, in the repository's folder, proves and makes it";
+    let Some(at) = written(&archive) else {
+        return Err(format!("no archive at {}: {make}; RAZVOLK_ARCHIVE names one made elsewhere", archive.display()));
+    };
+    if let Some(newer) = sources.iter().find(|source| written(source) > Some(at)) {
+        println!("cargo::warning=the archive is older than {}: {make} anew", newer.display());
     }
     Ok(archive)
 }
 
-fn make(root: &Path) -> Result<(), String> {
-    match Command::new("rt").args(["staticlib", "razvolk"]).current_dir(root).output() {
-        Ok(run) if run.status.success() => Ok(()),
-        Ok(run) => {
-            let said = String::from_utf8_lossy(&run.stdout) + String::from_utf8_lossy(&run.stderr);
-            let last: Vec<&str> = said.lines().rev().take(5).collect();
-            let last: Vec<&str> = last.into_iter().rev().collect();
-            Err(format!("`rt staticlib razvolk` failed ({}): {}", run.status, last.join(" | ")))
+/// The files that the archive is compiled from: those of Rattle in the crates' `src`.
+fn sources_below(folder: &Path, sources: &mut Vec<PathBuf>) -> io::Result<()> {
+    for entry in fs::read_dir(folder)? {
+        let path = entry?.path();
+        if path.is_dir() {
+            sources_below(&path, sources)?;
+        } else if path.extension().is_some_and(|extension| extension == "rt") {
+            sources.push(path);
         }
-        Err(e) if e.kind() == io::ErrorKind::NotFound => Err("the archive is missing or older than its sources, and the \
-            Rattle toolchain, which makes it by `rt staticlib razvolk`, is not installed; RAZVOLK_ARCHIVE names an archive \
-            made elsewhere"
-            .into()),
-        Err(e) => Err(format!("`rt staticlib razvolk` did not start: {e}")),
     }
+    Ok(())
 }
 
-/// When the file, or the youngest file below the folder, was written.
-fn newest(path: &Path) -> io::Result<SystemTime> {
-    let mut latest = fs::metadata(path)?.modified()?;
-    if path.is_dir() {
-        for entry in fs::read_dir(path)? {
-            latest = latest.max(newest(&entry?.path())?);
-        }
-    }
-    Ok(latest)
+fn written(file: &Path) -> Option<SystemTime> {
+    fs::metadata(file).and_then(|metadata| metadata.modified()).ok()
 }
 
 fn var(name: &str) -> String {

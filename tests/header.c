@@ -184,6 +184,52 @@ static void write_v0(void) {
     expect(RAZVOLK_V0_MOST(3, 2) == 72 && RAZVOLK_V0_MOST(16384, 16384) == 555745280, "RAZVOLK_V0_MOST");
 }
 
+/* NULL with length 0, wherever a slice may have no elements. */
+static void null(void) {
+    static const uint32_t one[1] = {0};
+    uint16_t sample[1] = {7};
+    razvolk_bits state = {0, 0, 0, false};
+    razvolk_answer answer = razvolk_decode_v0_reference(NULL, 0, NULL, 0, 5, 0, NULL, 0);
+    expect(answer.number == RAZVOLK_DONE, "decode_v0_reference of NULL");
+    answer = razvolk_decode_v0_reference_map(NULL, 0, NULL, 0, 0, 0, NULL, 0, NULL, 0);
+    expect(answer.number == RAZVOLK_DONE, "decode_v0_reference_map of NULL");
+    answer = razvolk_decode_v0(NULL, 0, one, 1, 1, 1, sample, 1, NULL, 0);
+    expect(answer.number == RAZVOLK_DONE && sample[0] == 7, "decode_v0 of NULL");
+    answer = razvolk_decode_v0_map(NULL, 0, one, 1, 0, 1, NULL, 0, NULL, 0, NULL, 0);
+    expect(answer.number == RAZVOLK_DONE, "decode_v0_map of NULL");
+    answer = razvolk_decode_v0_bands(NULL, 0, NULL, 0, 0, 0, NULL, 0, NULL, 0, 1, 16, NULL, 0);
+    expect(answer.number == RAZVOLK_DONE, "decode_v0_bands of NULL");
+    answer = razvolk_decode_v2(NULL, 0, 646, 436, NULL, 0);
+    expect(answer.number == RAZVOLK_SHORT_SAMPLES, "decode_v2 of NULL");
+    answer = razvolk_decode_v2_map(NULL, 0, 645, 436, NULL, 0, NULL, 0);
+    expect(answer.number == RAZVOLK_TOO_SMALL, "decode_v2_map of NULL");
+    answer = razvolk_to_planes(NULL, 0, 0, 9, NULL, 0);
+    expect(answer.number == RAZVOLK_DONE, "to_planes of NULL");
+    answer = razvolk_from_planes(NULL, 0, 3, 1, NULL, 0);
+    expect(answer.number == RAZVOLK_SHORT_SAMPLES, "from_planes of NULL");
+    razvolk_written written = razvolk_write_v0(NULL, 0, 9, 0, NULL, 0, NULL, 0);
+    expect(written.answer.number == RAZVOLK_DONE && written.length == 0, "write_v0 of NULL");
+    razvolk_got got = razvolk_get(NULL, 0, state, 8);
+    expect(got.value == 255 && got.bits.overrun, "get of NULL");
+}
+
+static void named(void) {
+    char version[32];
+    snprintf(version, sizeof version, "%d.%d.%d", RAZVOLK_VERSION_MAJOR, RAZVOLK_VERSION_MINOR, RAZVOLK_VERSION_PATCH);
+    expect(strcmp(version, RAZVOLK_VERSION) == 0, "the version is its three numbers");
+    razvolk_answer answer = razvolk_decode_v2(NULL, 0, RAZVOLK_MOST_SIDE + 1, 0, NULL, 0);
+    expect(answer.number == RAZVOLK_TOO_LARGE, "RAZVOLK_MOST_SIDE");
+    answer = razvolk_decode_v2(NULL, 0, RAZVOLK_MOST_SIDE, RAZVOLK_V2_LEAST_HEIGHT - 1, NULL, 0);
+    expect(answer.number == RAZVOLK_TOO_SMALL, "RAZVOLK_V2_LEAST_HEIGHT");
+    answer = razvolk_decode_v2(NULL, 0, RAZVOLK_V2_LEAST_WIDTH, RAZVOLK_V2_LEAST_HEIGHT, NULL, 0);
+    expect(answer.number == RAZVOLK_SHORT_SAMPLES, "RAZVOLK_V2_LEAST_WIDTH");
+    for (unsigned more = 0; more < 2; more++) {
+        uint16_t sample = (uint16_t)(RAZVOLK_V0_MOST_SAMPLE + more);
+        razvolk_written written = razvolk_write_v0(&sample, 1, 1, 1, NULL, 0, NULL, 0);
+        expect(written.answer.number == (more == 0 ? RAZVOLK_SHORT_OUTPUT : RAZVOLK_TOO_BRIGHT), "RAZVOLK_V0_MOST_SAMPLE");
+    }
+}
+
 int main(void) {
     reader();
     v0_reference();
@@ -192,6 +238,8 @@ int main(void) {
     v2();
     planes();
     write_v0();
+    null();
+    named();
     puts(failed ? "header: FAILED" : "header: ok");
     return failed;
 }

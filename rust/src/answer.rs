@@ -12,8 +12,7 @@ pub(crate) struct Answer {
 
 impl Answer {
     pub(crate) fn result(self) -> Result<(), Refusal> {
-        let Answer { number, row } = self;
-        if number == 0 { Ok(()) } else { Err(Refusal { number, row }) }
+        Refusal::of(self.number, self.row).map_or(Ok(()), Err)
     }
 }
 
@@ -32,39 +31,126 @@ impl Written {
     }
 }
 
-/// Why a frame was refused.
-///
-/// N is width times height; scratch needs [`crate::scratch_len`] bytes.
-///
-/// | Number | Given when | Left behind |
-/// |---|---|---|
-/// | 1 | width or height is above 16,384 | every buffer as it was |
-/// | 2 | V2: width is below 646 or height below 436 | every buffer as it was |
-/// | 3 | fewer than N samples are lent, or in V0 fewer offsets than rows | every buffer as it was |
-/// | 4 | the map is shorter than N bytes, or the scratch is too short | every buffer as it was |
-/// | 5 | V2: a block of row 0 or 1 predicts from the rows above | the blocks before it are written |
-/// | 6 | V2: a block predicts from outside the frame | the blocks before it are written |
-/// | 7 | V2: a difference is longer than the depth allows | the blocks before it are written |
-/// | 8 | V2: the stream ended | that row and those before it are written |
-/// | 9 | a sample to be written is above 16,383 | every buffer as it was |
-/// | 10 | the stream or the offsets to be written do not fit their buffer | every buffer as it was |
-/// | 11 | in bands: the band count or the block width is none that the frame can be cut by | every buffer as it was |
-/// | 12 | in bands: the list is too short or too long, or a step is no block's number or is not ready | every buffer as it was |
-///
-/// A decoder tests 1 to 4 in this order, in bands then 11 and 12, a writer 1, 3, 9 and 10. After 5 to 8 the map describes the samples as they are left; the row in which the stream
-/// ended has ones in place of the missing bits.
-///
-/// ```
-/// let refused = razvolk::decode_v2(&[], 646, 436, &mut vec![0; 646 * 436]).unwrap_err();
-/// assert_eq!((refused.number, refused.row), (5, 0));
-/// assert_eq!(refused.to_string(), "row 0 predicts from rows that do not exist");
-/// ```
-#[derive(Clone, Copy, Debug, PartialEq, Eq, Hash)]
-pub struct Refusal {
-    /// Which refusal it is.
-    pub number: u32,
-    /// The row at fault of refusals 5 to 8, else 0.
-    pub row: u32,
+/// Makes [`Refusal`] of one list: each line has the number, the name, the row where there is one, and the text.
+macro_rules! refusals {
+    ($(#[$doc:meta])* $($number:literal $name:ident $({ $row:ident })? $text:literal;)*) => {
+        $(#[$doc])*
+        #[derive(Clone, Copy, Debug, PartialEq, Eq, Hash)]
+        #[non_exhaustive]
+        pub enum Refusal {
+            $(
+                #[doc = concat!("Number ", $number, ".")]
+                $name $({
+                    /// The row at fault.
+                    $row: u32,
+                })?,
+            )*
+            /// A number that this list does not have, from an archive that is newer than the crate.
+            Other {
+                /// The number.
+                number: u32,
+                /// The row that was told with it.
+                row: u32,
+            },
+        }
+
+        impl Refusal {
+            /// The refusal that a number and a row tell, as C has them; none of number 0, which is done.
+            ///
+            /// ```
+            /// use razvolk::Refusal;
+            /// assert_eq!(Refusal::of(8, 435), Some(Refusal::Overrun { row: 435 }));
+            /// assert_eq!(Refusal::of(0, 0), None);
+            /// ```
+            pub const fn of(number: u32, row: u32) -> Option<Refusal> {
+                Some(match number {
+                    0 => return None,
+                    $($number => Refusal::$name $({ $row: row })?,)*
+                    _ => Refusal::Other { number, row },
+                })
+            }
+
+            /// The number, as C and the rules have it.
+            ///
+            /// ```
+            /// assert_eq!(razvolk::Refusal::TooSmall.number(), 2);
+            /// ```
+            pub const fn number(self) -> u32 {
+                match self {
+                    $(Refusal::$name { .. } => $number,)*
+                    Refusal::Other { number, .. } => number,
+                }
+            }
+
+            /// The row at fault, or 0 where the refusal has none.
+            ///
+            /// ```
+            /// use razvolk::Refusal;
+            /// assert_eq!((Refusal::Overrun { row: 435 }.row(), Refusal::TooSmall.row()), (435, 0));
+            /// ```
+            pub const fn row(self) -> u32 {
+                match self {
+                    $($(Refusal::$name { $row } => $row,)?)*
+                    Refusal::Other { row, .. } => row,
+                    _ => 0,
+                }
+            }
+        }
+
+        impl fmt::Display for Refusal {
+            fn fmt(&self, f: &mut fmt::Formatter<'_>) -> fmt::Result {
+                match *self {
+                    $(Refusal::$name $({ $row })? => write!(f, $text),)*
+                    Refusal::Other { number, row } => write!(f, "refusal {number} in row {row}"),
+                }
+            }
+        }
+    };
+}
+
+refusals! {
+    /// Why a frame was refused. More kinds come with more numbers, so a `match` needs an arm for the others.
+    ///
+    /// N is width times height; scratch needs [`crate::scratch_len`] bytes.
+    ///
+    /// | Number | Given when | Left behind |
+    /// |---|---|---|
+    /// | 1 | width or height is above 16,384 | every buffer as it was |
+    /// | 2 | V2: width is below 646 or height below 436 | every buffer as it was |
+    /// | 3 | fewer than N samples are lent, or in V0 fewer offsets than rows | every buffer as it was |
+    /// | 4 | the map is shorter than N bytes, or the scratch is too short | every buffer as it was |
+    /// | 5 | V2: a block of row 0 or 1 predicts from the rows above | the blocks before it are written |
+    /// | 6 | V2: a block predicts from outside the frame | the blocks before it are written |
+    /// | 7 | V2: a difference is longer than the depth allows | the blocks before it are written |
+    /// | 8 | V2: the stream ended | that row and those before it are written |
+    /// | 9 | a sample to be written is above 16,383 | every buffer as it was |
+    /// | 10 | the stream or the offsets to be written do not fit their buffer | every buffer as it was |
+    /// | 11 | in bands: the band count or the block width is none that the frame can be cut by | every buffer as it was |
+    /// | 12 | in bands: the list is too short or too long, or a step is no block's number or is not ready | every buffer as it was |
+    ///
+    /// A decoder tests 1 to 4 in this order, in bands then 11 and 12, a writer 1, 3, 9 and 10. After 5 to 8 the map describes
+    /// the samples as they are left; the row in which the stream ended has ones in place of the missing bits.
+    ///
+    /// ```
+    /// use razvolk::Refusal;
+    ///
+    /// let refused = razvolk::decode_v2(&[], 646, 436, &mut vec![0; 646 * 436]).unwrap_err();
+    /// assert_eq!(refused, Refusal::EarlyMotion { row: 0 });
+    /// assert_eq!((refused.number(), refused.row()), (5, 0));
+    /// assert_eq!(refused.to_string(), "row 0 predicts from rows that do not exist");
+    /// ```
+    1 TooLarge "width or height is above 16,384";
+    2 TooSmall "the frame is smaller than 646 by 436";
+    3 ShortSamples "the sample buffer or the offset table is too short";
+    4 ShortMap "the map or the scratch is too short";
+    5 EarlyMotion { row } "row {row} predicts from rows that do not exist";
+    6 Outside { row } "row {row} predicts from outside the frame";
+    7 LongDifference { row } "row {row} has a difference longer than the depth allows";
+    8 Overrun { row } "the stream ends in row {row}";
+    9 TooBright "a sample is above 16,383";
+    10 ShortOutput "the buffer for the stream or the offsets is too short";
+    11 BadCut "the frame can't be cut into so many bands, or into blocks of that width";
+    12 BadSteps "the steps don't do each block of the frame once, each when it is ready";
 }
 
 impl Refusal {
@@ -72,32 +158,11 @@ impl Refusal {
     ///
     /// ```
     /// use razvolk::Refusal;
-    /// assert!(!Refusal { number: 4, row: 0 }.has_begun());
-    /// assert!(Refusal { number: 5, row: 1 }.has_begun());
+    /// assert!(!Refusal::ShortMap.has_begun());
+    /// assert!(Refusal::EarlyMotion { row: 1 }.has_begun());
     /// ```
     pub const fn has_begun(self) -> bool {
-        matches!(self.number, 5..=8)
-    }
-}
-
-impl fmt::Display for Refusal {
-    fn fmt(&self, f: &mut fmt::Formatter<'_>) -> fmt::Result {
-        let Refusal { number, row } = self;
-        match number {
-            1 => write!(f, "width or height is above 16,384"),
-            2 => write!(f, "the frame is smaller than 646 by 436"),
-            3 => write!(f, "the sample buffer or the offset table is too short"),
-            4 => write!(f, "the map or the scratch is too short"),
-            5 => write!(f, "row {row} predicts from rows that do not exist"),
-            6 => write!(f, "row {row} predicts from outside the frame"),
-            7 => write!(f, "row {row} has a difference longer than the depth allows"),
-            8 => write!(f, "the stream ends in row {row}"),
-            9 => write!(f, "a sample is above 16,383"),
-            10 => write!(f, "the buffer for the stream or the offsets is too short"),
-            11 => write!(f, "the frame can't be cut into so many bands, or into blocks of that width"),
-            12 => write!(f, "the steps don't do each block of the frame once, each when it is ready"),
-            _ => write!(f, "refusal {number} in row {row}"),
-        }
+        matches!(self.number(), 5..=8)
     }
 }
 
@@ -108,22 +173,27 @@ mod tests {
     use super::*;
 
     #[test]
-    fn each_refusal_has_a_message_of_its_own() {
-        let texts: Vec<String> = (1..=13).map(|number| Refusal { number, row: 7 }.to_string()).collect();
-        for (i, text) in texts.iter().enumerate() {
-            assert_eq!(text.contains("row 7"), matches!(i + 1, 5..=8 | 13), "{text}");
-            assert!(!texts[..i].contains(text), "{text}");
+    fn each_refusal_has_its_number_and_a_message_of_its_own() {
+        let mut texts: Vec<String> = Vec::new();
+        for number in 1..=99 {
+            let refusal = Refusal::of(number, 7).expect("not done");
+            let text = refusal.to_string();
+            assert_eq!(refusal.number(), number);
+            assert_eq!(text.contains("row 7"), refusal.row() == 7, "{text}");
+            assert!(!texts.contains(&text), "{text}");
+            texts.push(text);
         }
-        let error: Box<dyn error::Error> = Box::new(Refusal { number: 8, row: 435 });
+        assert_eq!(Refusal::of(99, 7), Some(Refusal::Other { number: 99, row: 7 }));
+        let error: Box<dyn error::Error> = Box::new(Refusal::Overrun { row: 435 });
         assert_eq!(error.to_string(), "the stream ends in row 435");
     }
 
     #[test]
     fn number_0_is_done() {
         assert_eq!(Answer { number: 0, row: 0 }.result(), Ok(()));
-        assert_eq!(Answer { number: 5, row: 1 }.result(), Err(Refusal { number: 5, row: 1 }));
+        assert_eq!(Answer { number: 5, row: 1 }.result(), Err(Refusal::EarlyMotion { row: 1 }));
         let written = |number| Written { answer: Answer { number, row: 0 }, length: 24 };
         assert_eq!(written(0).result(), Ok(24));
-        assert_eq!(written(10).result(), Err(Refusal { number: 10, row: 0 }));
+        assert_eq!(written(10).result(), Err(Refusal::ShortOutput));
     }
 }

@@ -1,13 +1,13 @@
-//! A decoder for a worker: map and scratch are kept from frame to frame.
+//! A decoder for a worker: the map is kept from frame to frame.
 
-use crate::{Marks, Refusal, scratch_len};
+use crate::{Marks, Refusal};
 use std::fmt;
 
 /// The largest width and height; more is refusal 1.
 pub const MAX_SIDE: usize = 16_384;
 
-/// A decoder that keeps its map and its scratch from frame to frame, so that a worker allocates once. The samples are the
-/// caller's: nothing clears them or paints over them, and each frame finds them as the one before left them.
+/// A decoder that keeps its map from frame to frame, so that a worker allocates once. The samples are the caller's: nothing
+/// clears them or paints over them, and each frame finds them as the one before left them.
 ///
 /// ```
 /// use razvolk::Decoder;
@@ -27,11 +27,10 @@ pub const MAX_SIDE: usize = 16_384;
 /// ```
 ///
 /// Memory is asked for only where a frame is larger than every one before and its samples are lent: a size that is refused
-/// costs nothing. The map is a byte a sample, the scratch at most as much.
+/// costs nothing. The map is a byte a sample.
 #[derive(Default)]
 pub struct Decoder {
     map: Vec<u8>,
-    scratch: Vec<u8>,
     /// Width and samples of the frame that the map tells of.
     frame: Option<(usize, usize)>,
 }
@@ -44,7 +43,7 @@ impl Decoder {
     /// assert!(decoder.marks().is_none(), "nothing is decoded yet");
     /// ```
     pub const fn new() -> Decoder {
-        Decoder { map: Vec::new(), scratch: Vec::new(), frame: None }
+        Decoder { map: Vec::new(), frame: None }
     }
 
     /// A decoder with memory for every frame up to this width and height, so that none is asked for later. Sides above
@@ -56,12 +55,12 @@ impl Decoder {
     /// # assert!(decoder.decode_v0(&[], &[0], 16, 1, &mut samples).is_ok());
     /// ```
     pub fn with_capacity(width: usize, height: usize) -> Decoder {
-        let (width, height) = (width.min(MAX_SIDE), height.min(MAX_SIDE));
-        Decoder { map: vec![0; width * height], scratch: vec![0; scratch_len(width, height)], frame: None }
+        Decoder { map: vec![0; width.min(MAX_SIDE) * height.min(MAX_SIDE)], frame: None }
     }
 
-    /// Decodes a V0 frame in two phases ([`crate::decode_v0_map`]) into the first `width * height` samples of `out`, and
-    /// tells what they rest on.
+    /// Decodes a V0 frame into the first `width * height` samples of `out`, and tells what they rest on. It takes the direct
+    /// decoder ([`crate::decode_v0_reference_map`]), which is the faster one where there is a map; the decoder in two phases
+    /// gives the same.
     ///
     /// # Errors
     ///
@@ -72,6 +71,9 @@ impl Decoder {
     /// // An empty stream: missing bits are ones, the block is upward, and row 0 has no row above it.
     /// let marks = decoder.decode_v0(&[], &[0], 3, 1, &mut [7, 8, 9])?;
     /// assert_eq!(marks.bytes(), [1, 1, 1]);
+    ///
+    /// let refused = decoder.decode_v0(&[], &[], 3, 1, &mut [7, 8, 9]).unwrap_err();
+    /// assert_eq!(refused, razvolk::Refusal::ShortSamples, "a row has no offset");
     /// # Ok::<(), razvolk::Refusal>(())
     /// ```
     pub fn decode_v0(
@@ -82,33 +84,7 @@ impl Decoder {
         height: usize,
         out: &mut [u16],
     ) -> Result<Marks<'_>, Refusal> {
-        self.make_room(width, height, out.len(), true);
-        let (map, scratch) = (&mut self.map, &mut self.scratch);
-        let answer = crate::decode_v0_map(src, row_offsets, width, height, out, map, scratch);
-        self.answered(answer, width, height)
-    }
-
-    /// Decodes a V0 frame directly ([`crate::decode_v0_reference_map`]): what [`Decoder::decode_v0`] gives, without
-    /// scratch.
-    ///
-    /// # Errors
-    ///
-    /// Refusals 1 and 3, in this order; `out` is unchanged then.
-    ///
-    /// ```
-    /// let mut decoder = razvolk::Decoder::new();
-    /// let refused = decoder.decode_v0_reference(&[], &[], 3, 1, &mut [7, 8, 9]).unwrap_err();
-    /// assert_eq!(refused.number, 3, "a row has no offset");
-    /// ```
-    pub fn decode_v0_reference(
-        &mut self,
-        src: &[u8],
-        row_offsets: &[u32],
-        width: usize,
-        height: usize,
-        out: &mut [u16],
-    ) -> Result<Marks<'_>, Refusal> {
-        self.make_room(width, height, out.len(), false);
+        self.make_room(width, height, out.len());
         let answer = crate::decode_v0_reference_map(src, row_offsets, width, height, out, &mut self.map);
         self.answered(answer, width, height)
     }
@@ -126,7 +102,7 @@ impl Decoder {
     /// let mut samples = vec![7; 646 * 436];
     /// // A header, and no more: the first row is made of ones in place of the missing bits.
     /// let refused = decoder.decode_v2(&[0; 16], 646, 436, &mut samples).unwrap_err();
-    /// assert_eq!((refused.number, refused.row), (8, 0));
+    /// assert_eq!(refused, razvolk::Refusal::Overrun { row: 0 });
     /// let marks = decoder.marks().expect("the stream was begun");
     /// assert_eq!(marks.count(), 646 * 436 - 640);
     /// ```
@@ -137,7 +113,7 @@ impl Decoder {
         height: usize,
         out: &mut [u16],
     ) -> Result<Marks<'_>, Refusal> {
-        self.make_room(width, height, out.len(), false);
+        self.make_room(width, height, out.len());
         let answer = crate::decode_v2_map(src, width, height, out, &mut self.map);
         self.answered(answer, width, height)
     }
@@ -157,14 +133,11 @@ impl Decoder {
         self.frame.map(|(width, n)| Marks::new(&self.map[..n], width))
     }
 
-    /// Makes map and scratch long enough. A size that will be refused by 1 to 3 gets nothing: those are tested before 4.
-    fn make_room(&mut self, width: usize, height: usize, lent: usize, scratch: bool) {
-        if width > MAX_SIDE || height > MAX_SIDE || width * height > lent {
-            return;
-        }
-        grow(&mut self.map, width * height);
-        if scratch {
-            grow(&mut self.scratch, scratch_len(width, height));
+    /// Makes the map long enough. A size that will be refused by 1 to 3 gets nothing: those are tested before 4.
+    fn make_room(&mut self, width: usize, height: usize, lent: usize) {
+        let fits = width <= MAX_SIDE && height <= MAX_SIDE && width * height <= lent;
+        if fits && self.map.len() < width * height {
+            self.map.resize(width * height, 0);
         }
     }
 
@@ -175,16 +148,9 @@ impl Decoder {
     }
 }
 
-fn grow(bytes: &mut Vec<u8>, len: usize) {
-    if bytes.len() < len {
-        bytes.resize(len, 0);
-    }
-}
-
 impl fmt::Debug for Decoder {
     fn fmt(&self, f: &mut fmt::Formatter<'_>) -> fmt::Result {
-        let (map, scratch) = (self.map.len(), self.scratch.len());
-        f.debug_struct("Decoder").field("map", &map).field("scratch", &scratch).finish_non_exhaustive()
+        f.debug_struct("Decoder").field("map", &self.map.len()).finish_non_exhaustive()
     }
 }
 
@@ -192,43 +158,42 @@ impl fmt::Debug for Decoder {
 mod tests {
     use super::*;
 
-    /// How many bytes are held.
-    fn held(decoder: &Decoder) -> (usize, usize) {
-        (decoder.map.len(), decoder.scratch.len())
-    }
-
     #[test]
     fn a_size_that_is_refused_costs_no_memory() {
         let mut decoder = Decoder::new();
         let mut out = [7; 9];
-        for (width, height, number) in [(usize::MAX, usize::MAX, 1), (16_385, 0, 1), (16_384, 16_384, 3), (10, 1, 3)] {
-            let refused = [
-                decoder.decode_v0(&[], &[0; 16_384], width, height, &mut out).unwrap_err(),
-                decoder.decode_v0_reference(&[], &[0; 16_384], width, height, &mut out).unwrap_err(),
-            ];
-            assert_eq!(refused, [Refusal { number, row: 0 }; 2], "{width} by {height}");
+        for (width, height, refusal) in [
+            (usize::MAX, usize::MAX, Refusal::TooLarge),
+            (16_385, 0, Refusal::TooLarge),
+            (16_384, 16_384, Refusal::ShortSamples),
+            (10, 1, Refusal::ShortSamples),
+        ] {
+            assert_eq!(decoder.decode_v0(&[], &[0; 16_384], width, height, &mut out), Err(refusal));
             assert!(decoder.marks().is_none());
         }
-        for (width, height, number) in [(16_385, 436, 1), (645, 436, 2), (16_384, 16_384, 3)] {
-            assert_eq!(decoder.decode_v2(&[], width, height, &mut out), Err(Refusal { number, row: 0 }));
+        for (width, height, refusal) in
+            [(16_385, 436, Refusal::TooLarge), (645, 436, Refusal::TooSmall), (16_384, 16_384, Refusal::ShortSamples)]
+        {
+            assert_eq!(decoder.decode_v2(&[], width, height, &mut out), Err(refusal));
             assert!(decoder.marks().is_none());
         }
-        assert_eq!(held(&decoder), (0, 0));
-        assert_eq!(out, [7; 9]);
+        assert_eq!((decoder.map.len(), out), (0, [7; 9]));
     }
 
     #[test]
     fn memory_is_kept_and_a_smaller_frame_is_told_of_alone() {
         let mut decoder = Decoder::with_capacity(40, 5);
-        let room = held(&decoder);
-        assert_eq!(room, (200, 9));
+        let room = decoder.map.len();
+        assert_eq!(room, 200);
         let mut out = [7; 300];
-        assert_eq!(decoder.decode_v0(&[], &[0; 5], 40, 5, &mut out).map(|marks| marks.bytes().len()), Ok(200));
-        assert_eq!(decoder.decode_v0_reference(&[], &[0; 5], 3, 2, &mut out).map(|marks| marks.bytes().len()), Ok(6));
-        assert_eq!(decoder.decode_v0(&[], &[0; 5], 0, 5, &mut out).map(|marks| marks.bytes().len()), Ok(0));
-        assert_eq!(held(&decoder), room, "nothing was asked for");
-        assert_eq!(decoder.decode_v0(&[], &[0; 5], 60, 5, &mut out).map(|marks| marks.bytes().len()), Ok(300));
-        assert_eq!(held(&decoder), (300, 12));
+        let mut marked = |width, height, out: &mut [u16]| {
+            let marks = decoder.decode_v0(&[], &[0; 5], width, height, out).map(|marks| marks.bytes().len());
+            (marks, decoder.map.len())
+        };
+        assert_eq!(marked(40, 5, &mut out), (Ok(200), room));
+        assert_eq!(marked(3, 2, &mut out), (Ok(6), room));
+        assert_eq!(marked(0, 5, &mut out), (Ok(0), room), "nothing was asked for");
+        assert_eq!(marked(60, 5, &mut out), (Ok(300), 300));
     }
 
     #[test]
@@ -241,7 +206,7 @@ mod tests {
 
     #[test]
     fn capacity_stops_at_the_largest_side() {
-        assert_eq!(held(&Decoder::with_capacity(usize::MAX, 0)), (0, 0));
-        assert_eq!(held(&Decoder::with_capacity(1, usize::MAX)), (16_384, 16_382));
+        assert_eq!(Decoder::with_capacity(usize::MAX, 0).map.len(), 0);
+        assert_eq!(Decoder::with_capacity(1, usize::MAX).map.len(), 16_384);
     }
 }

@@ -1,7 +1,7 @@
 //! Samsung raw decoders, V0 and V2, proved in Rattle, that tell of every sample whether it rests on the stream or on what the
 //! buffer held before.
 //!
-//! A worker that decodes frame after frame into one buffer takes a [`Decoder`], which keeps map and scratch:
+//! A worker that decodes frame after frame into one buffer takes a [`Decoder`], which keeps the map:
 //!
 //! ```
 //! // A frame of 2 by 2. The first block of row 0 predicts from a row that does not exist: its samples are skipped.
@@ -17,8 +17,11 @@
 //! # Ok::<(), razvolk::Refusal>(())
 //! ```
 //!
-//! The functions lend every buffer by hand; they are what `include/razvolk.h` declares, made safe. [`write_v0`] writes samples
-//! as V0, for storage; [`write_v0_to_vecs`] asks for the memory, too. [`Ph1Bits`] is the bit reader. Who comes from `samsung.rs` finds each call in `docs/MIGRATION.md`.
+//! The functions lend every buffer by hand; they are what `include/razvolk.h` declares, made safe. Names are those of
+//! `samsung.rs`, which they replace: `decode_v0_reference` is the direct V0 decoder, the one that the others are held to, and
+//! not a slow one; `decode_v0` is the one in two phases, and [`decode_v0_bands`] its second phase in a scheduler's sequence.
+//! All give the same samples. [`write_v0`] writes samples as V0, for storage; [`write_v0_to_vecs`] asks for the memory, too.
+//! [`Ph1Bits`] is the bit reader. Who comes from `samsung.rs` finds each call in `docs/MIGRATION.md`.
 #![warn(missing_docs)]
 #![deny(unsafe_code)]
 

@@ -42,20 +42,20 @@ mod tests {
 
     #[test]
     fn refusals_change_nothing() {
-        let refused = |width, height, read, written, number| {
+        let refused = |width, height, read, written, refusal| {
             let from = vec![7; read];
             for call in [to_planes, from_planes] {
                 let mut to = vec![9; written];
-                assert_eq!(call(&from, width, height, &mut to), Err(Refusal { number, row: 0 }));
+                assert_eq!(call(&from, width, height, &mut to), Err(refusal));
                 assert!(to.iter().all(|&s| s == 9));
             }
         };
-        refused(16_385, 0, 0, 0, 1);
-        refused(0, 16_385, 0, 0, 1);
-        refused(16_385, 1, 4, 4, 1);
-        refused(3, 2, 5, 6, 3);
-        refused(3, 2, 6, 5, 3);
-        refused(usize::MAX, usize::MAX, 0, 0, 1);
+        refused(16_385, 0, 0, 0, Refusal::TooLarge);
+        refused(0, 16_385, 0, 0, Refusal::TooLarge);
+        refused(16_385, 1, 4, 4, Refusal::TooLarge);
+        refused(3, 2, 5, 6, Refusal::ShortSamples);
+        refused(3, 2, 6, 5, Refusal::ShortSamples);
+        refused(usize::MAX, usize::MAX, 0, 0, Refusal::TooLarge);
     }
 
     #[test]

@@ -136,7 +136,7 @@ mod tests {
         if size.1 < 3 {
             assert_eq!(scratch, [9; 4], "no row has directions");
         }
-        (answer.err().map_or(0, |refusal| refusal.number), out, map)
+        (answer.err().map_or(0, Refusal::number), out, map)
     }
 
     type Entry = fn(&[u8], &[u32], usize, usize, &mut [u16], &mut [u8], &mut [u8]) -> Result<(), Refusal>;
@@ -177,13 +177,13 @@ mod tests {
     fn a_short_map_or_scratch_is_refused() {
         let mut out = [7; 4];
         let short = decode_v0_reference_map(&[], &[0; 4], 1, 4, &mut out, &mut [9; 3]);
-        assert_eq!(short, Err(Refusal { number: 4, row: 0 }));
+        assert_eq!(short, Err(Refusal::ShortMap));
         let short = decode_v0(&[], &[0; 4], 1, 4, &mut out, &mut [9; 1]);
-        assert_eq!(short, Err(Refusal { number: 4, row: 0 }));
+        assert_eq!(short, Err(Refusal::ShortMap));
         let short = decode_v0_map(&[], &[0; 4], 1, 4, &mut out, &mut [9; 3], &mut [9; 2]);
-        assert_eq!(short, Err(Refusal { number: 4, row: 0 }));
+        assert_eq!(short, Err(Refusal::ShortMap));
         let short = decode_v0_map(&[], &[0; 4], 1, 4, &mut out, &mut [9; 4], &mut [9; 1]);
-        assert_eq!(short, Err(Refusal { number: 4, row: 0 }));
+        assert_eq!(short, Err(Refusal::ShortMap));
         assert_eq!(out, [7; 4]);
     }
 

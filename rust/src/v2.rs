@@ -55,10 +55,10 @@ mod tests {
     #[test]
     fn frames_of_the_document() {
         let (refusal, out, map) = decoded(&[], 646, 436);
-        assert_eq!(refusal, Refusal { number: 5, row: 0 });
+        assert_eq!(refusal, Refusal::EarlyMotion { row: 0 });
         assert!(out.iter().all(|&s| s == 7) && map.iter().all(|&m| m == 1));
         let (refusal, out, map) = decoded(&[0; 16], 646, 436);
-        assert_eq!(refusal, Refusal { number: 8, row: 0 });
+        assert_eq!(refusal, Refusal::Overrun { row: 0 });
         assert!(out[..640].iter().all(|&s| s == 1) && out[640..].iter().all(|&s| s == 7));
         assert!(map[..640].iter().all(|&m| m == 0) && map[640..].iter().all(|&m| m == 1));
     }
@@ -67,12 +67,12 @@ mod tests {
     fn sizes_of_the_document() {
         for (width, height, number) in [(645, 436, 2), (646, 435, 2), (16_385, 0, 1), (0, 16_385, 1), (647, 436, 3)] {
             let (refusal, out, map) = decoded(&[0; 16], width, height);
-            assert_eq!(refusal, Refusal { number, row: 0 }, "{width} by {height}");
+            assert_eq!(Some(refusal), Refusal::of(number, 0), "{width} by {height}");
             assert!(out.iter().all(|&s| s == 7) && map.iter().all(|&m| m == 9));
         }
         let mut out = vec![7; 646 * 436];
         let refused = decode_v2_map(&[0; 16], 646, 436, &mut out, &mut vec![9; 646 * 436 - 1]);
-        assert_eq!(refused, Err(Refusal { number: 4, row: 0 }));
+        assert_eq!(refused, Err(Refusal::ShortMap));
         assert!(out.iter().all(|&s| s == 7));
     }
 }

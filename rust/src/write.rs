@@ -58,7 +58,7 @@ pub fn write_v0(
 /// assert_eq!(back, samples);
 ///
 /// let refused = razvolk::write_v0_to_vecs(&[16_384], 1, 1).unwrap_err();
-/// assert_eq!((refused.number, refused.to_string().as_str()), (9, "a sample is above 16,383"));
+/// assert_eq!(refused, razvolk::Refusal::TooBright);
 /// # Ok::<(), razvolk::Refusal>(())
 /// ```
 pub fn write_v0_to_vecs(samples: &[u16], width: usize, height: usize) -> Result<(Vec<u8>, Vec<u32>), Refusal> {
@@ -123,7 +123,7 @@ mod tests {
         for (samples, (width, height), bytes, rows, number) in cases {
             let (mut stream, mut offsets) = (vec![9; bytes], vec![9; rows]);
             let answer = write_v0(samples, width, height, &mut stream, &mut offsets);
-            assert_eq!(answer, Err(Refusal { number, row: 0 }), "{width} by {height}");
+            assert_eq!(answer.err(), Refusal::of(number, 0), "{width} by {height}");
             assert_eq!((stream, offsets), (vec![9; bytes], vec![9; rows]));
         }
         let more = [0, 0, 0, 0, 16_384];
@@ -148,7 +148,8 @@ mod tests {
             let mut exact = vec![0; stream.len()];
             assert_eq!(write_v0(&samples, width, height, &mut exact, &mut vec![0; height]), Ok(stream.len()));
         }
-        let refused = |samples: &[u16], width, height| write_v0_to_vecs(samples, width, height).map_err(|e| e.number);
+        let refused =
+            |samples: &[u16], width, height| write_v0_to_vecs(samples, width, height).map_err(Refusal::number);
         assert_eq!(refused(&[], usize::MAX, usize::MAX), Err(1));
         assert_eq!(refused(&[], 16_384, 16_384), Err(3));
         assert_eq!(refused(&[0, 16_384], 1, 2), Err(9));

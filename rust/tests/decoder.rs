@@ -1,4 +1,5 @@
-//! A decoder that is kept from frame to frame gives what the functions give with buffers of their own.
+//! A decoder that is kept from frame to frame gives what the functions give with buffers of their own; of V0 it takes one
+//! decoder, and both are held to it.
 
 use razvolk::{Decoder, Marks, Refusal, scratch_len};
 use streams::images::{christening, sitting};
@@ -43,19 +44,17 @@ fn a_kept_decoder_gives_what_the_functions_give() {
     let mut refused = [0; 9];
     for (i, frame) in frames().iter().cycle().take(100).enumerate() {
         let &Frame { version, width, height, ref stream, ref offsets } = frame;
-        let direct = i % 3 == 0;
-        let result = match (version, direct) {
-            (Version::V2, _) => decoder.decode_v2(stream, width, height, &mut samples),
-            (_, true) => decoder.decode_v0_reference(stream, offsets, width, height, &mut samples),
-            _ => decoder.decode_v0(stream, offsets, width, height, &mut samples),
+        let result = match version {
+            Version::V2 => decoder.decode_v2(stream, width, height, &mut samples),
+            Version::V0 => decoder.decode_v0(stream, offsets, width, height, &mut samples),
         };
         let told = result.map(|marks| marks.bytes().to_vec());
-        let (answer, marks) = by_functions(frame, &mut expected, direct);
+        let (answer, marks) = by_functions(frame, &mut expected, i % 3 == 0);
         assert_eq!(told.as_ref().map(|_| ()).map_err(|refusal| *refusal), answer, "frame {i}");
         assert_eq!(decoder.marks().map(|marks| marks.bytes().to_vec()), marks, "frame {i}");
         assert!(told.is_err() || told.ok() == marks, "frame {i}");
         assert!(samples == expected, "frame {i}");
-        refused[answer.err().map_or(0, |refusal| refusal.number as usize)] += 1;
+        refused[answer.err().map_or(0, Refusal::number) as usize] += 1;
         let counted = decoder.marks().map_or(0, Marks::count);
         assert_eq!(decoder.marks().map_or(0, |marks| marks.rows().map(|(_, count)| count).sum()), counted);
     }

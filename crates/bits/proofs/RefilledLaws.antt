@@ -7,8 +7,12 @@ use Rattle.rules.specs.Reader.{fetched, counted, held, first-bits}
 use Rattle.rules.proofs.ReaderLaws.{held-small, read-held, read-next, read-capped}
 use Rattle.rules.specs.declared.reader.Bits.{Bits}
 use Rattle.rules.specs.declared.reader.Word.{Word}
-use Rattle.bits.specs.Refilled.{Enough, Whole}
+use Rattle.bits.specs.Refilled.{joined-with, Enough, Whole}
 use Rattle.bits.specs.declared.Refilled.{Refilled}
+
+pub joined-is : (b : Bits) (h v n p : ℕ) → p ≡ (b .pos + 4) % 2 ^ 64
+    → record { words = b .word * 2 ^ 32 + v; bits = record { pos = p; word = v; count = h + 32; filler = n } } ≡ joined-with b h v n
+joined-is b h v n p e = rw e
 
 module _ (s : List ℕ) (b : Bits) (k h : ℕ) (few : k ≤ 32) (is : h ≡ held b) where
   pub enough-held : k ≤ h → Enough s b k (record { words = b .word; bits = record { pos = b .pos; word = b .word; count = h; filler = b .filler } })
@@ -21,16 +25,17 @@ module _ (s : List ℕ) (b : Bits) (k h : ℕ) (few : k ≤ 32) (is : h ≡ held
         whole = λ e. absurd (omega (arith, is));
       }
 
-  pub enough-next : (w : Word) (p : ℕ) (o : ℕ) → h < k → w ≡ fetched s (b .pos) → w .value < 2 ^ 32 → p ≡ (b .pos + 4) % 2 ^ 64 → o ≡ counted (b .filler) (w .missing)
-      → Enough s b k (record { words = b .word * 2 ^ 32 + w .value; bits = record { pos = p; word = w .value; count = h + 32; filler = o } })
-  enough-next w p o l ew lw ep eo =
+  pub enough-next : (w : Word) (n : ℕ) (r : Refilled) → h < k → w ≡ fetched s (b .pos) → w .value < 2 ^ 32 → n ≡ counted (b .filler) (w .missing)
+      → r ≡ joined-with b h (w .value) n → Enough s b k r
+  enough-next w n r l ew lw en er =
       let m : min k 32 ≡ k = omega arith in
-      record {
+      rw er
+      (record {
         enough = omega (arith, held-small b);
         few = omega arith;
-        reads = read-next s b k (omega arith) ∙ rw (m, eo, ep, ew, is);
+        reads = read-next s b k (omega arith) ∙ rw (m, en, ew, is);
         whole = λ e. rw ew at lw;
-      }
+      })
 
 pub read-cut : (s : List ℕ) (b : Bits) (n k : ℕ) (r : Refilled) (v : ℕ) → k ≡ min n 32 → Enough s b k r → v ≡ first-bits (r .words) (r .bits .count) k
     → Whole s b n (record { value = v; bits = record { pos = r .bits .pos; word = r .bits .word; count = (r .bits .count - k) % 32; filler = r .bits .filler } })

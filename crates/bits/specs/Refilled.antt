@@ -1,5 +1,5 @@
 -- What `refill` leaves for the one cut of `get_whole`, and what that gives.
-use Prim.Native.Nat.{ℕ, _+_, _-_, _^_, _≤_, _<_, min}
+use Prim.Native.Nat.{ℕ, _+_, _-_, _*_, _%_, _^_, _≤_, _<_, min}
 use mathlib.Core.List.{List}
 use mathlib.Core.Path.{_≡_}
 use Rattle.rules.specs.Reader.{fetched, held, first-bits, read}
@@ -15,6 +15,11 @@ cut r k =
       value = first-bits (r .words) (b .count) k;
       bits = record { pos = b .pos; word = b .word; count = b .count - k; filler = b .filler };
     }
+
+-- The h bits held of b and a word v after them, and the state after it, n words having been missing.
+abbrev pub joined-with : Bits → ℕ → ℕ → ℕ → Refilled
+joined-with b h v n =
+    record { words = b .word * 2 ^ 32 + v; bits = record { pos = (b .pos + 4) % 2 ^ 64; word = v; count = h + 32; filler = n } }
 
 -- A state that holds enough for a read of k bits, and not a whole word more.
 pub record Enough (s : List ℕ) (b : Bits) (k : ℕ) (r : Refilled) : Type 0 where

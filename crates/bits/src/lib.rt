@@ -1,9 +1,10 @@
 // The reader's core: bits of a stream of words, the state by value. Any state, any stream, any count of bits and any 64-bit
 // position is answered, by document 01's "Reader record".
+ghost use mathlib.Core.Bool.{true};
 ghost use mathlib.Core.Path.{_≡_};
 ghost use Prim.Native.Nat.{_+_, _*_, _/_, _%_, _^_, _≤_, _<_, min};
 ghost use Rattle.rules.specs.Reader.{fetched, counted, held, reset-at, read, signed, read-signed, modulo, read-residual};
-ghost use Rattle.bits.specs.Refilled.{Enough, Whole};
+ghost use Rattle.bits.specs.Refilled.{joined-with, Enough, Whole};
 
 pub mod four;
 
@@ -54,14 +55,12 @@ fn capped(n: u32) -> u32
     }
 }
 
-// A count of missing words after a word.
-fn count_missing(filler: u64, missing: bool) -> u64
-    ensures { λ r. ⌜ r ≡ counted filler missing ⌝ }
+// A count of missing words after one more.
+fn count_missing(filler: u64) -> u64
+    ensures { λ r. ⌜ r ≡ counted filler true ⌝ }
 {
-    if missing {
-        if filler < Bits::MOST_FILLER {
-            return filler + 1;
-        }
+    if filler < Bits::MOST_FILLER {
+        return filler + 1;
     }
     filler
 }
@@ -83,7 +82,24 @@ struct Refilled {
     bits: Bits,
 }
 
-// Fetches a word if fewer than k bits are held.
+// The bits held and those of a word that follows them, and the state after it with a count of missing words.
+fn joined(bits: Bits, have: u32, next: Word, filler: u64) -> Refilled
+    requires { ⌜ have < 32 ⌝ }
+    ensures { λ r. ⌜ r ≡ joined-with bits have (next .value) filler ⌝ }
+{
+    Refilled {
+        words: bits.word as u64 * 4_294_967_296 + next.value as u64,
+        bits: Bits {
+            pos: std::num::wrapping_add_u64(bits.pos, Bits::WORD_BYTES),
+            word: next.value,
+            count: have + Bits::WORD_BITS,
+            filler,
+        },
+    }
+}
+
+// Fetches a word if fewer than k bits are held. A missing word has a way out of its own, so that where words are there nothing is
+// spent on the count.
 fn refill(src: &[u8], bits: Bits, k: u32) -> Refilled
     requires { ⌜ k ≤ 32 ⌝ }
     ensures { λ r. ⌜ Enough (now (src .entry)) bits k r ⌝ }
@@ -101,15 +117,10 @@ fn refill(src: &[u8], bits: Bits, k: u32) -> Refilled
         };
     }
     let next = fetch(src, bits.pos);
-    Refilled {
-        words: bits.word as u64 * 4_294_967_296 + next.value as u64,
-        bits: Bits {
-            pos: std::num::wrapping_add_u64(bits.pos, Bits::WORD_BYTES),
-            word: next.value,
-            count: have + Bits::WORD_BITS,
-            filler: count_missing(bits.filler, next.missing),
-        },
+    if next.missing {
+        return joined(bits, have, next, count_missing(bits.filler));
     }
+    joined(bits, have, next, bits.filler)
 }
 
 // Reads n bits, at most 32, and says that a word it fetched has 32 bits: so the value can be cut into shorter fields. Both ways

@@ -1,8 +1,9 @@
 -- Filler over a block's bytes one by one, a block's end, the parts of two, and a map that is all old.
 use mathlib.Core.Path.{_≡_, refl, sym, ap, ap₂, _∙_}
 use mathlib.Core.List.{List, [], _∷_, _++_}
-use Prim.Native.Nat.{ℕ, zero, suc, _+_, _-_, _*_, _/_, _%_, _≤_, _<_, max}
+use Prim.Native.Nat.{ℕ, zero, suc, _+_, _-_, _≤_, _<_}
 use native.Mathlib.Omega.{arith}
+use lib.Bits.{bitOr}
 use lib.ListN.{length, getD, set, replicate}
 use lib.Seq.{set-out}
 use borrow.Author.Tests.{ne-eqb}
@@ -66,9 +67,9 @@ module _ (b : Bits) (place : ℕ) (f g : List ℕ) (e : g ≡ f) where
 
 -- ── The parts of two ──
 
-pub parts-are : (a b x y : ℕ) → x ≡ max (a % 2) (b % 2) → y ≡ max (a / 2) (b / 2) → x + 2 * y ≡ either-part a b
+pub parts-are : (a b : ℕ) → bitOr a b ≡ either-part a b
 unfolding either-part
-parts-are a b x y p q = rw (p, q)
+parts-are a b = refl
 
 -- ── All old ──
 

@@ -1,6 +1,6 @@
 // What a map's bytes become, of V0 and V2 alike: all old at entry, filler at a block's end, and the parts of two in an average.
 ghost use mathlib.Core.Path.{_≡_};
-ghost use Prim.Native.Nat.{_+_, _^_, _<_, max};
+ghost use Prim.Native.Nat.{_+_, _^_, _<_};
 ghost use lib.ListN.{length, replicate};
 ghost use Rattle.rules.specs.Frame.{change-cells};
 ghost use Rattle.rules.specs.Map.{with-filler, either-part};
@@ -40,16 +40,9 @@ fn fill_byte(map: &mut [u8], place: usize)
     }
 }
 
-// The greater of two parts.
-fn greater(a: u8, b: u8) -> u8
-    ensures { λ r. ⌜ r ≡ max a b ⌝ }
-{
-    if a < b { b } else { a }
-}
-
 // Each part of an average is one that either of its two has.
 pub fn either_part(a: u8, b: u8) -> u8
     ensures { λ r. ⌜ r ≡ either-part a b ⌝ }
 {
-    greater(a % 2, b % 2) + 2 * greater(a / 2, b / 2)
+    a | b
 }

@@ -1,6 +1,7 @@
 -- What follows from the rules: laws of the reader; what every kind of cell keeps; V0, its origins and its two phases; V2; answers;
 -- the claim that no earlier frame reaches a sample marked 0; and that what a cut upload shows is final.
 pub mod Cells
+pub mod Parts
 pub mod Examples
 pub mod Pins
 pub mod ReaderLaws

@@ -24,8 +24,9 @@ use Rattle.rules.specs.Reader.{most-filler, has-filler}
 use Rattle.rules.specs.Frame.{cells, tabulate, change-cells}
 use Rattle.rules.specs.V0 as V0
 use Rattle.rules.specs.V2 as V2
-use Rattle.rules.specs.Map.{all-old, old-part, either-part, v0-marks, v2-marks, v0-map, v2-map}
+use Rattle.rules.specs.Map.{all-old, old-part, v0-marks, v2-marks, v0-map, v2-map}
 use Rattle.rules.proofs.Cells.{All, nil, more, all-append, all-get, all-set, Each, none, both}
+use Rattle.rules.proofs.Parts.{either-below}
 use Rattle.rules.proofs.Tests.{clash}
 use Rattle.rules.proofs.Longer.{Longer, Sure}
 use Rattle.rules.proofs.V0Blocks.{block, after}
@@ -173,13 +174,10 @@ module _ (s : List ℕ) (h : V2Hdr) (w : ℕ) where
       (λ r m e. all-append V2Clear (v2-row-clear row b m) (v2-rows-clear k (suc row) (q .bits) e))
 
 base-low : {f : List ℕ} → All Low f → (b : V2.Base) → V2.base-cell v2-marks f b < 2
-unfolding V2.base-cell either-part
+unfolding V2.base-cell
 base-low h (V2.given v) = lit< tt
 base-low h (V2.copied p) = all-get Low h p 0 (lit< tt)
-base-low {f} h (V2.averaged p q) = either-low (getD f p 0) (getD f q 0) (all-get Low h p 0 (lit< tt)) (all-get Low h q 0 (lit< tt))
-  where
-    either-low : (a b : ℕ) → a < 2 → b < 2 → max (a % 2) (b % 2) + 2 * max (a / 2) (b / 2) < 2
-    either-low a b l m = omega arith
+base-low {f} h (V2.averaged p q) = either-below 1 (getD f p 0) (getD f q 0) (all-get Low h p 0 (lit< tt)) (all-get Low h q 0 (lit< tt))
 
 sets-low : (c i p : ℕ) (v : ℕ → ℕ) → ((j : ℕ) → v j < 2) → {f : List ℕ} → All Low f → All Low (sets f p (tabulate c i v))
 unfolding tabulate

@@ -14,23 +14,15 @@ use lib.IntN.{pos}
 use Rattle.rules.specs.declared.answer.Size.{Size}
 use Rattle.rules.specs.Frame.{cells, tabulate, change-cells}
 use Rattle.rules.specs.V2.{Kind, Base, given, copied, averaged, Block, base-cell, block-cells, write, apply, average, sample, sample-kind, header, top, rows, read-frame, frame, decoded}
-use Rattle.rules.specs.Map.{with-filler, either-part, v2-marks, v2-map}
+use Rattle.rules.specs.Map.{with-filler, v2-marks, v2-map}
 use Rattle.rules.proofs.Cells.{All, nil, more, all-map, change-other, change-at}
 use Rattle.rules.proofs.Kept.{Final, Kept, kept-entry, kept-set, kept-filled, kept-apart}
+use Rattle.rules.proofs.Parts.{either-none, none-either}
 use Rattle.rules.proofs.Longer.{Longer, longer-append}
 use Rattle.rules.proofs.V2Cells.{write-length, apply-length}
 use Rattle.rules.proofs.V2Longer.{Split, same, apart, Parted, alike, filled, frame-parted, Run, stop, step, run-from, rows-run}
 
 -- ── The same block in both runs ──
-
--- An average that rests on bytes of the stream only is of two that do.
-either-none : (a b : ℕ) → either-part a b ≡ 0 → (a ≡ 0) × (b ≡ 0)
-unfolding either-part
-either-none a b e = (omega arith, omega arith)
-
-none-either : (a b : ℕ) → a ≡ 0 → b ≡ 0 → either-part a b ≡ 0
-unfolding either-part
-none-either a b p q = omega arith
 
 module _ (t : ℕ) where
   base-final : {n : ℕ} {m a m′ a′ : List ℕ} → Kept n m a m′ a′ → (b : Base)

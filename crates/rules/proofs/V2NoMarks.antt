@@ -24,6 +24,7 @@ use Rattle.rules.specs.Map.{old-part, either-part, v2-marks, v2-map, all
 use Rattle.rules.specs.Answer.{v2, Ask, Lent, stream-answer, answer, frame-marks, marks}
 use Rattle.rules.specs.Ranges.{reference-5}
 use Rattle.rules.proofs.Cells.{Each, none, both, each-get}
+use Rattle.rules.proofs.Parts.{either-first}
 use Rattle.rules.proofs.V0NoMarks.{all-joined}
 use Rattle.rules.proofs.V2Cells.{Joined, frame-joined, write-plain}
 use Rattle.rules.proofs.Refusals.{passed, answer-passed, v2-size-least}
@@ -61,11 +62,10 @@ abbrev pub Old : ℕ → ℕ → Type 0
 Old a b = old-part a ≡ b
 
 old-joined : Joined Old v2-marks old-kind
-unfolding either-part
 old-joined = record { constant = λ v. refl; average = averages; adjust = λ scale d a b e. e; filled = λ a b e. omega arith }
   where
-    averages : (a b a′ b′ : ℕ) → Old a b → Old a′ b′ → (max (a % 2) (a′ % 2) + 2 * max (a / 2) (a′ / 2)) % 2 ≡ max b b′
-    averages a b a′ b′ e e′ = omega arith
+    averages : (a b a′ b′ : ℕ) → Old a b → Old a′ b′ → Old (either-part a a′) (max b b′)
+    averages a b a′ b′ e e′ = either-first a a′ ∙ ap₂ max e e′
 
 -- A map of first parts alone is what every map's first parts are.
 pub v2-first-parts : (s : List ℕ) (z : Size) → Each Old (v2-map s z) (frame old-kind s z (all-old z))

@@ -118,7 +118,7 @@ impl Entry {
 fn answer(result: Result<(), razvolk::Refusal>) -> Answer {
     match result {
         Ok(()) => Answer::DONE,
-        Err(refusal) => Answer { number: refusal.number, row: refusal.row },
+        Err(refusal) => Answer { number: refusal.number(), row: refusal.row() },
     }
 }
 

@@ -15,7 +15,7 @@ pub const RAZVOLK: [Way; 2] = [
 ];
 
 fn number(answer: Result<(), razvolk::Refusal>) -> u32 {
-    answer.err().map_or(0, |refusal| refusal.number)
+    answer.err().map_or(0, |refusal| refusal.number())
 }
 
 /// Tells the places of a frame in the order of its planes, each with its number there.

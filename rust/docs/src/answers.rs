@@ -56,10 +56,26 @@ pub fn names(markdown: &str) -> Vec<String> {
         .collect()
 }
 
-/// The numbers that have a text of their own where Rust displays a refusal: arms as `1 => write!(..`.
-pub fn displayed(rust: &str) -> Vec<u32> {
-    let arms = rust.lines().filter_map(|line| line.trim().split_once(" => write!"));
-    arms.filter_map(|(number, _)| number.parse().ok()).collect()
+/// The same of a header's constants, whose lines are as `#define RAZVOLK_TOO_LARGE 1u`.
+pub fn defines(header: &str) -> Vec<String> {
+    let lines = header.lines().filter_map(|line| line.strip_prefix("#define RAZVOLK_"));
+    let pairs = lines.filter_map(|line| line.split_once(char::is_whitespace));
+    let numbers = pairs.filter_map(|(name, number)| Some((name, number.trim().strip_suffix('u')?)));
+    numbers.filter(|(name, _)| *name != "DONE").map(|(name, number)| format!("{number} {name}")).collect()
+}
+
+/// The same of the list of refusals in Rust, whose lines are as `1 TooLarge "text";` and `8 Overrun { row } "text";`.
+pub fn refusals(rust: &str) -> Vec<String> {
+    let lines = rust.lines().map(|line| line.split_whitespace());
+    let pairs = lines.filter_map(|mut words| Some((words.next()?.parse::<u32>().ok()?, words.next()?)));
+    let named = pairs.filter(|(_, name)| name.starts_with(|c: char| c.is_uppercase()));
+    named.map(|(number, name)| format!("{number} {}", in_capitals(name))).collect()
+}
+
+/// `TooLarge` as `TOO_LARGE`.
+fn in_capitals(name: &str) -> String {
+    let parted = name.chars().map(|c| if c.is_uppercase() { format!("_{c}") } else { c.to_uppercase().to_string() });
+    parted.collect::<String>().trim_start_matches('_').into()
 }
 
 #[cfg(test)]
@@ -117,6 +133,11 @@ mod tests {
             "impl Answer {\n    // Too large.\n    pub const TOO_LARGE: u32 = 1;\n    pub const MOST: usize = 9;\n}";
         assert_eq!(constants(rattle), ["1 TOO_LARGE"]);
         assert_eq!(names(RULES), ["1 TOO_LARGE", "2 SHORT"]);
-        assert_eq!(displayed("match number {\n    1 => write!(f, \"x\"),\n    _ => write!(f, \"y\"),\n}"), [1]);
+        let rust =
+            "refusals! {\n    /// | 3 | x |\n    1 TooLarge \"x\";\n    2 Short { row } \"{row} y\";\n}\n0 => None,";
+        assert_eq!(refusals(rust), names(RULES));
+        let header = "#define RAZVOLK_DONE      0u\n#define RAZVOLK_TOO_LARGE 1u\n#define RAZVOLK_SHORT     2u\n#define \
+            RAZVOLK_MOST_SIDE 9u /* 1 */\n#define RAZVOLK_STEPS(a, b) ((a) * 2u)\n";
+        assert_eq!(defines(header), names(RULES));
     }
 }

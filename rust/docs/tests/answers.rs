@@ -1,7 +1,7 @@
 //! The answers are listed in docs/RULES.md; whatever else lists them says the same. A new number is added there, as a constant
 //! of `Answer` in crates/rules, and wherever this test then fails.
 
-use docs::answers::{Listed, constants, displayed, names, of_c, of_tables};
+use docs::answers::{Listed, constants, defines, names, of_c, of_tables, refusals};
 use docs::{hold, text};
 
 /// The list, done first.
@@ -24,6 +24,11 @@ fn the_header_lists_the_same() {
 }
 
 #[test]
+fn the_header_names_each_refusal() {
+    hold(&names(&text("docs/RULES.md")), "include/razvolk.h", &defines(&text("include/razvolk.h")));
+}
+
+#[test]
 fn the_rust_crate_and_the_migration_page_list_the_same_refusals() {
     for place in ["rust/src/answer.rs", "docs/MIGRATION.md"] {
         hold(&rules()[1..], place, &of_tables(&text(place)));
@@ -31,7 +36,7 @@ fn the_rust_crate_and_the_migration_page_list_the_same_refusals() {
 }
 
 #[test]
-fn the_rust_crate_has_a_text_for_each_refusal() {
-    let refusals: Vec<u32> = rules()[1..].iter().map(|one| one.number).collect();
-    hold(&refusals, "rust/src/answer.rs", &displayed(&text("rust/src/answer.rs")));
+fn the_rust_crate_names_each_refusal_and_has_a_text_for_it() {
+    let place = "rust/src/answer.rs";
+    hold(&names(&text("docs/RULES.md")), place, &refusals(&text(place)));
 }

@@ -19,8 +19,10 @@ pub fn heading(name: &str, frame: &Frame) -> String {
 pub fn answer(answer: Result<(), Refusal>) -> String {
     match answer {
         Ok(()) => "done".into(),
-        Err(refusal) if refusal.has_begun() => format!("refused {}, row {}: {refusal}", refusal.number, refusal.row),
-        Err(refusal) => format!("refused {}: {refusal}", refusal.number),
+        Err(refusal) if refusal.has_begun() => {
+            format!("refused {}, row {}: {refusal}", refusal.number(), refusal.row())
+        }
+        Err(refusal) => format!("refused {}: {refusal}", refusal.number()),
     }
 }
 

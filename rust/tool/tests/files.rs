@@ -160,7 +160,7 @@ fn files_that_would_do_harm() {
         let file = v2(width, height);
         let frame = frame(&file).expect("a frame");
         let mut worker = Worker::of(&[&frame]).expect("no samples");
-        assert_eq!(worker.decode(&frame), Err(Refusal { number: 1, row: 0 }));
+        assert_eq!(worker.decode(&frame), Err(Refusal::TooLarge));
         assert!(worker.frame().is_none());
     }
     // A size within the decoder's limits may still be too much for a look.
@@ -203,7 +203,7 @@ fn files_without_a_frame() {
 #[test]
 fn answers_in_words() {
     assert_eq!(report::answer(Ok(())), "done");
-    assert_eq!(report::answer(Err(Refusal { number: 8, row: 9 })), "refused 8, row 9: the stream ends in row 9");
-    assert_eq!(report::answer(Err(Refusal { number: 1, row: 0 })), "refused 1: width or height is above 16,384");
+    assert_eq!(report::answer(Err(Refusal::Overrun { row: 9 })), "refused 8, row 9: the stream ends in row 9");
+    assert_eq!(report::answer(Err(Refusal::TooLarge)), "refused 1: width or height is above 16,384");
     assert_eq!(report::marks(None, 5), "nothing was decoded\n");
 }

@@ -25,6 +25,10 @@ short-input = input 1 0 3 1 2 1 (1 ∷ 2 ∷ 3 ∷ 4 ∷ 5 ∷ [])
 abbrev two-rows : List ℕ
 two-rows = input 1 0 2 0 2 0 (1 ∷ 0 ∷ 0 ∷ 0 ∷ 2 ∷ 0 ∷ 0 ∷ 0 ∷ 7 ∷ 8 ∷ 9 ∷ [])
 
+-- 2 by 1, offset 0, no stream: one row of two samples that keep their 0.
+abbrev wide-input : List ℕ
+wide-input = input 1 0 2 0 1 0 (replicate 4 0)
+
 abbrev number-of : Option ℕ → ℕ
 number-of none = 0
 number-of (some n) = n
@@ -45,7 +49,7 @@ examples =
     ∷ are (job-size short-input .width ∷ job-size short-input .height ∷ stream-start short-input ∷ []) (259 ∷ 258 ∷ 1041 ∷ [])
     -- job-ask: each offset by its 4 bytes, then the stream; job-lent: the buffers of the program
     ∷ are (job-ask two-rows .offsets ++ job-ask two-rows .stream) (1 ∷ 2 ∷ 7 ∷ 8 ∷ 9 ∷ [])
-    ∷ are (job-ask two-rows .size .width ∷ job-ask two-rows .size .height ∷ []) (2 ∷ 2 ∷ [])
+    ∷ are (job-ask wide-input .size .width ∷ job-ask wide-input .size .height ∷ job-ask wide-input .offsets) (2 ∷ 1 ∷ 0 ∷ [])
     ∷ are (job-lent .samples ∷ number-of (job-lent .map) ∷ job-lent .scratch ∷ []) (8_192 ∷ 8_192 ∷ 0 ∷ [])
     -- line; digits: up to so many; decimal: up to 5
     ∷ are (line (65 ∷ [])) (65 ∷ 10 ∷ [])
@@ -64,6 +68,7 @@ examples =
     -- answer-text: refused by 1 (width 16,385, no rows); done, over samples that are 0 (a row that looks up, one sample)
     ∷ are (answer-text (input 1 0 1 64 0 0 [])) (refused-line 1)
     ∷ are (answer-text (input 1 0 1 0 1 0 (0 ∷ 0 ∷ 0 ∷ 0 ∷ 0 ∷ 0 ∷ 0 ∷ 128 ∷ []))) (done-line ++ (48 ∷ 58 ∷ 32 ∷ 48 ∷ 42 ∷ 10 ∷ []))
+    ∷ are (answer-text wide-input) (done-line ++ (48 ∷ 58 ∷ 32 ∷ 48 ∷ 42 ∷ 32 ∷ 48 ∷ 42 ∷ 10 ∷ []))
     -- text: 3 for longer input, before 1 and 2; 32,768 bytes are not
     ∷ are (text (replicate 32_769 0)) (fault 3)
     ∷ are (text (replicate 32_768 0)) (fault 1)

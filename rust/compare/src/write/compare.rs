@@ -17,7 +17,7 @@ pub type Write<'a> = &'a dyn Fn(&Ask, &mut [u8], &mut [u32]) -> Written;
 pub fn razvolk(ask: &Ask, stream: &mut [u8], offsets: &mut [u32]) -> Written {
     match razvolk::write_v0(ask.samples, ask.width, ask.height, stream, offsets) {
         Ok(length) => Written { answer: Answer::DONE, length },
-        Err(refusal) => Written { answer: Answer { number: refusal.number, row: refusal.row }, length: 0 },
+        Err(refusal) => Written { answer: Answer { number: refusal.number(), row: refusal.row() }, length: 0 },
     }
 }
 
