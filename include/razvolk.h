@@ -60,6 +60,8 @@ typedef struct {
 #define RAZVOLK_SHORT_OUTPUT    10u
 #define RAZVOLK_BAD_CUT         11u
 #define RAZVOLK_BAD_STEPS       12u
+#define RAZVOLK_BAD_WIDTH       15u
+#define RAZVOLK_MARKED          16u
 
 /* The limits that they speak of. */
 #define RAZVOLK_MOST_SIDE 16384u       /* 1 */
@@ -162,6 +164,22 @@ typedef struct {
  * 1, 3, 9, 10  nothing is written, neither stream nor offsets, and `length` is 0. 3 is of the samples alone */
 razvolk_written razvolk_write_v0(const uint16_t *samples, size_t samples_len, size_t width, size_t height, uint8_t *stream,
                                  size_t stream_len, uint32_t *offsets, size_t offsets_len);
+
+/* The most bytes of stream that a V2 frame within the limits can take: 16 of header, and of each row 265 bits a block of 16
+ * columns, in whole lines of 16 bytes. A buffer of so many bytes is always long enough. */
+#define RAZVOLK_V2_MOST(width, height) (16 + (((size_t)(width) + 15) / 16 * 265 + 127) / 128 * 16 * (size_t)(height))
+
+/* V0 into V2: decodes a V0 frame as razvolk_decode_v0_reference_map does, and writes it as V2, from byte 0 of the stream on.
+ * razvolk_decode_v2 gives the samples back, over any buffer, and razvolk_decode_v2_map no map byte other than 0, whatever lies
+ * past the stream. 2 is V2's; width must be a multiple of 16.
+ * 0                  the first N samples and map bytes are the frame's, and the first `length` bytes of stream its V2; those past
+ *                    them are as before
+ * 1, 2, 3, 4, 15     nothing is written, and `length` is 0
+ * 16, 9, 10          samples and map as of 0; the stream is as before, and `length` is 0. 16 if one of the first N map bytes
+ *                    is not 0, then 9, then 10 */
+razvolk_written razvolk_v0_to_v2(const uint8_t *src, size_t src_len, const uint32_t *offsets, size_t offsets_len, size_t width,
+                                 size_t height, uint16_t *samples, size_t samples_len, uint8_t *map, size_t map_len,
+                                 uint8_t *stream, size_t stream_len);
 
 /* A bit reader's state. The stream is words of 4 bytes, lowest byte first, and a word's highest bit is read first. A reader
  * that starts at a byte position is { position, 0, 0, false }. */

@@ -127,8 +127,11 @@ refusals! {
     /// | 10 | the stream or the offsets to be written do not fit their buffer | every buffer as it was |
     /// | 11 | in bands: the band count or the block width is none that the frame can be cut by | every buffer as it was |
     /// | 12 | in bands: the list is too short or too long, or a step is no block's number or is not ready | every buffer as it was |
+    /// | 15 | V0 into V2: the width is not a multiple of 16 | every buffer as it was |
+    /// | 16 | V0 into V2: a sample of the decoded frame is marked | the frame is decoded, the stream as it was |
     ///
-    /// A decoder tests 1 to 4 in this order, in bands then 11 and 12, a writer 1, 3, 9 and 10. After 5 to 8 the map describes
+    /// A decoder tests 1 to 4 in this order, in bands then 11 and 12, a writer 1, 3, 9 and 10; V0 into V2 1 to 4 and 15, and when
+    /// the frame is decoded 16, 9 and 10. After 5 to 8 the map describes
     /// the samples as they are left; the row in which the stream ended has ones in place of the missing bits.
     ///
     /// ```
@@ -151,6 +154,8 @@ refusals! {
     10 ShortOutput "the buffer for the stream or the offsets is too short";
     11 BadCut "the frame can't be cut into so many bands, or into blocks of that width";
     12 BadSteps "the steps don't do each block of the frame once, each when it is ready";
+    15 BadWidth "the width is no multiple of 16";
+    16 Marked "a sample of the decoded frame is marked";
 }
 
 impl Refusal {

@@ -66,6 +66,9 @@ exports! {
     fn razvolk_from_planes(planes: &[u16], width: usize, height: usize, samples: &mut [u16]) -> Answer;
     fn razvolk_write_v0(
         samples: &[u16], width: usize, height: usize, stream: &mut [u8], offsets: &mut [u32]) -> Written;
+    fn razvolk_v0_to_v2(
+        src: &[u8], offsets: &[u32], width: usize, height: usize, samples: &mut [u16], map: &mut [u8],
+        stream: &mut [u8]) -> Written;
     fn razvolk_get(src: &[u8], state: Bits, n: u32) -> Got;
     fn razvolk_reset_at(state: Bits, pos: u64) -> Bits;
 }

@@ -21,6 +21,7 @@
 //! `samsung.rs`, which they replace: `decode_v0_reference` is the direct V0 decoder, the one that the others are held to, and
 //! not a slow one; `decode_v0` is the one in two phases, and [`decode_v0_bands`] its second phase in a scheduler's sequence.
 //! All give the same samples. [`write_v0`] writes samples as V0, for storage; [`write_v0_to_vecs`] asks for the memory, too.
+//! [`v0_to_v2`] turns a V0 frame into V2.
 //! [`Ph1Bits`] is the bit reader. Who comes from `samsung.rs` finds each call in `docs/MIGRATION.md`.
 #![warn(missing_docs)]
 #![deny(unsafe_code)]
@@ -28,6 +29,7 @@
 mod answer;
 mod bands;
 pub mod bits;
+mod convert;
 mod decoder;
 #[allow(unsafe_code)]
 mod ffi;
@@ -40,6 +42,7 @@ mod write;
 
 pub use answer::Refusal;
 pub use bands::{Bands, decode_v0_bands};
+pub use convert::{most_v2_bytes, v0_to_v2};
 pub use decoder::{Decoder, MAX_SIDE};
 pub use marks::Marks;
 pub use ph1bits::Ph1Bits;

@@ -47,7 +47,7 @@ fn write_decoded(
     ensures { λ _. ⌜ now (stream .exit) ≡ late-stream width height (now (samples .entry)) (now (map .entry)) (now (stream .entry)) ⌝ }
 {
     if is_marked(map) {
-        return Written::refused(16);
+        return Written::refused(Answer::MARKED);
     }
     if is_too_bright(samples) {
         return Written::refused(Answer::TOO_BRIGHT);
@@ -90,7 +90,7 @@ pub fn v0_to_v2(
         return Written::refused(refusal);
     }
     if width % 16 != 0 {
-        return Written::refused(15);
+        return Written::refused(Answer::BAD_WIDTH);
     }
     decode_v0_reference_map(src, offsets, width, height, samples, map);
     let n = width * height;
