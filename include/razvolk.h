@@ -38,9 +38,12 @@ extern "C" {
  *  10  the stream or the offsets to be written do not fit their buffer    every buffer as it was
  *  11  in bands: the band count or the block width is none that the frame can be cut by             every buffer as it was
  *  12  in bands: the list is too short or too long, or a step is no block's number or is not ready  every buffer as it was
+ *  15  V0 into V2: the width is not a multiple of 16                      every buffer as it was
+ *  16  V0 into V2: a sample of the decoded frame is marked                the frame is decoded, the stream as it was
  *
  * 1 to 4 are tested in this order, then in bands 11 and 12; then the stream decides. 9 and 10 are a writer's, which tests 1, 3, 9
- * and 10. `row` is the row at fault of 5 to 8, else 0. Samples and map bytes from N on never change. */
+ * and 10; V0 into V2 tests 1 to 4 and 15, and when the frame is decoded 16, 9 and 10. `row` is the row at fault of 5 to 8, else
+ * 0. Samples and map bytes from N on never change. */
 typedef struct {
     uint32_t number;
     uint32_t row;

@@ -112,7 +112,7 @@ module _ (source offsets : List ℕ) (w h : ℕ) (samples map stream : List ℕ)
       first-of (too-large size) small (ltb (length samples) (cells size) || short (Length (length offsets)) h)
       (short (Length (length map)) (cells size) || short Nothing (scratch-bytes size))
 
-  early-is : (small : Bool) (k : ℕ) → small ≡ too-small v2 size → k ≡ first small → early c ≡ cond (eqb k 0) (cond (eqb (w % 16) 0) 0 15) k
+  pub early-is : (small : Bool) (k : ℕ) → small ≡ too-small v2 size → k ≡ first small → early c ≡ cond (eqb k 0) (cond (eqb (w % 16) 0) 0 15) k
   unfolding early short-samples short-offsets short-map short
   early-is small k s e = rw (e, s, or-false (ltb (length map) (cells size)))
 
@@ -147,7 +147,7 @@ module _ (source offsets : List ℕ) (w h : ℕ) (samples map stream : List ℕ)
           go false false t3 t4 q = q
 
       -- So what it leaves is the frame, and its marks, and all buffers are as long as they were.
-      frame-long : length (V0.decoded source offsets size (take (cells size) samples)) ≡ cells size
+      pub frame-long : length (V0.decoded source offsets size (take (cells size) samples)) ≡ cells size
       frame-long = decoded-length source offsets size (take (cells size) samples) ∙ length-take-le (cells size) samples (lent .samples-enough)
 
       pub frame-is : frame-of c ≡ V0.decoded source offsets size (take (cells size) samples)

@@ -2,3 +2,4 @@
 pub mod MovedLaws
 pub mod WriterLaws
 pub mod ConvertLaws
+pub mod Converted

@@ -2,3 +2,4 @@
 pub mod AtWork
 pub mod Isolation
 pub mod RoundTrip
+pub mod Converted

@@ -90,7 +90,7 @@ passed c e =
 -- ── The round trip ──
 
 -- Bytes over a buffer of bytes are a stream.
-over-stream : (xs buffer : List ℕ) → All (λ b. b < 256) xs → All (λ b. b < 256) buffer → length xs ≤ length buffer → length buffer < 2 ^ 64
+pub over-stream : (xs buffer : List ℕ) → All (λ b. b < 256) xs → All (λ b. b < 256) buffer → length xs ≤ length buffer → length buffer < 2 ^ 64
     → Stream (xs ++ drop (length xs) buffer)
 over-stream xs buffer p q l h =
     record {
