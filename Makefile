@@ -6,6 +6,7 @@ made = rust/target/made
 
 # The main job: proves and builds the program, and decodes the example with it.
 run:
+	@echo 'Proving what is not proved yet: some five minutes the first time, and a line for each crate.'
 	rt check samrows
 	target/bin/samrows < crates/samrows/stdin
 
@@ -94,13 +95,13 @@ fuzz: $(made)/tests/hostile frames
 	$(made)/tests/hostile pages $(FOR)s $(SEED)
 
 # Frames in a camera's container, to look at and to damage.
-frames:
-	$(cargo_run) --quiet -p streams --example frames -- target/made/frames
+frames: $(archive)
+	$(cargo_run) --quiet -p razvolk-tool --example frames -- target/made/frames
 
-# The picture in the README: a frame with upward blocks from row 0 on, decoded over another.
-picture: frames $(archive)
+# The picture in the README: a frame with upward blocks from row 0 on, decoded over another. Samples of it are old: status 3.
+picture: frames
 	$(cargo_run) --quiet -p razvolk-tool -- --over target/made/frames/sitting.srw target/made/frames/christening.srw \
-		--force --png ../docs/marked.png
+		--force --png ../docs/marked.png || [ $$? -eq 3 ]
 
 # Some thousand frames in one process, through one decoder: memory must stay flat.
 soak: $(archive)

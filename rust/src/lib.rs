@@ -21,8 +21,8 @@
 //! `samsung.rs`, which they replace: `decode_v0_reference` is the direct V0 decoder, the one that the others are held to, and
 //! not a slow one; `decode_v0` is the one in two phases, and [`decode_v0_bands`] its second phase in a scheduler's sequence.
 //! All give the same samples. [`write_v0`] writes samples as V0, for storage; [`write_v0_to_vecs`] asks for the memory, too.
-//! [`v0_to_v2`] turns a V0 frame into V2.
-//! [`Ph1Bits`] is the bit reader. Who comes from `samsung.rs` finds each call in `docs/MIGRATION.md`.
+//! [`v0_to_v2`] turns a V0 frame into V2. [`srw`] reads and writes a camera's file, and [`Ph1Bits`] is the bit reader. Who comes
+//! from `samsung.rs` finds each call in `docs/MIGRATION.md`.
 #![warn(missing_docs)]
 #![deny(unsafe_code)]
 
@@ -36,6 +36,7 @@ mod ffi;
 mod marks;
 mod ph1bits;
 mod planes;
+pub mod srw;
 mod v0;
 mod v2;
 mod write;

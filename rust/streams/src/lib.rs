@@ -6,7 +6,6 @@
 pub mod bits;
 pub mod images;
 pub mod random;
-pub mod srw;
 pub mod v0;
 pub mod v2;
 

@@ -1,16 +1,171 @@
-//! Bytes in the form that PNG wants them: deflated with the fixed codes, where runs of one byte are all that is found.
+//! Bytes in the form that PNG wants them: a zlib stream, repeated bytes found by a hash of four, each block with codes of its
+//! own (RFC 1950 and 1951).
+
+use std::cmp::Reverse;
+use std::collections::BinaryHeap;
+
+/// How far back a repetition may lie, and the longest that can be told.
+const WINDOW: usize = 1 << 15;
+const LONGEST: usize = 258;
+/// How many earlier places with the same hash are tried.
+const TRIES: usize = 32;
+/// How many symbols a block has.
+const BLOCK: usize = 1 << 15;
+/// The numbers of symbols for bytes, end and lengths, and for distances.
+const LITERALS: usize = 286;
+const DISTANCES: usize = 30;
+
+/// A byte, or so many bytes that stand so far back.
+#[derive(Clone, Copy)]
+enum Token {
+    Byte(u8),
+    Again { len: usize, back: usize },
+}
+
+use Token::{Again, Byte};
+
+/// A code's symbol, and the extra bits that follow it: their value and how many.
+type Symbol = (usize, u32, u32);
+
+/// Of a length of 3 to 258.
+fn length_symbol(len: usize) -> Symbol {
+    match len - 3 {
+        rest @ 0..=7 => (257 + rest, 0, 0),
+        255 => (285, 0, 0),
+        rest => {
+            let extra = rest.ilog2() - 2;
+            (257 + 4 * extra as usize + (rest >> extra), rest as u32 & ((1 << extra) - 1), extra)
+        }
+    }
+}
+
+/// Of a distance of 1 to 32,768.
+fn distance_symbol(back: usize) -> Symbol {
+    match back - 1 {
+        rest @ 0..=3 => (rest, 0, 0),
+        rest => {
+            let extra = rest.ilog2() - 1;
+            (2 * extra as usize + (rest >> extra), rest as u32 & ((1 << extra) - 1), extra)
+        }
+    }
+}
+
+/// Places of a text by the hash of the four bytes that start there: the last of each hash, and the one before each place.
+struct Places {
+    last: Vec<u32>,
+    before: Vec<u32>,
+}
+
+impl Places {
+    /// Room for what of a text so long is within the window.
+    fn of(len: usize) -> Places {
+        let size = len.next_power_of_two().clamp(16, WINDOW);
+        Places { last: vec![0; size], before: vec![0; size] }
+    }
+
+    fn hash(&self, bytes: &[u8], at: usize) -> Option<usize> {
+        let four = u32::from_le_bytes(*bytes.get(at..)?.first_chunk()?);
+        Some((four.wrapping_mul(0x9e37_79b1) >> 17) as usize % self.last.len())
+    }
+
+    /// Places are told as one more than they are: 0 is none.
+    fn add(&mut self, bytes: &[u8], at: usize) {
+        if let Some(hash) = self.hash(bytes, at) {
+            let size = self.before.len();
+            self.before[at % size] = self.last[hash];
+            self.last[hash] = at as u32 + 1;
+        }
+    }
+
+    /// The longest repetition that was found for a place, if it pays: in noise, whose bytes take few bits, a short one that
+    /// lies far back takes more than its bytes would.
+    fn longest(&self, bytes: &[u8], at: usize) -> Option<(usize, usize)> {
+        let here = &bytes[at..bytes.len().min(at + LONGEST)];
+        let mut place = self.last[self.hash(bytes, at)?] as usize;
+        let mut found = (3, 0);
+        for _ in 0..TRIES {
+            let Some(from) = place.checked_sub(1).filter(|from| at - from < WINDOW) else { break };
+            // Only what is longer counts, so its last byte is looked at first.
+            if here.len() > found.0 && bytes[from + found.0] == here[found.0] {
+                let len = here.iter().zip(&bytes[from..]).take_while(|(a, b)| a == b).count();
+                let pays = len > found.0 && len >= 4 + (at - from).ilog2() as usize / 2;
+                found = if pays { (len, at - from) } else { found };
+            }
+            place = self.before[from % self.before.len()] as usize;
+        }
+        (found.1 > 0).then_some(found)
+    }
+}
+
+/// The bytes as tokens. A repetition waits for one that starts a byte later and is longer.
+fn tokens(bytes: &[u8]) -> Vec<Token> {
+    let mut places = Places::of(bytes.len());
+    let (mut tokens, mut at) = (Vec::new(), 0);
+    while at < bytes.len() {
+        let found = places.longest(bytes, at);
+        places.add(bytes, at);
+        let later = found.filter(|(len, _)| *len < 32).and_then(|_| places.longest(bytes, at + 1));
+        let token = match found {
+            Some((len, back)) if later.is_none_or(|(later, _)| later <= len) => Again { len, back },
+            _ => Byte(bytes[at]),
+        };
+        let len = if let Again { len, .. } = token { len } else { 1 };
+        (at + 1..at + len).for_each(|at| places.add(bytes, at));
+        tokens.push(token);
+        at += len;
+    }
+    tokens
+}
+
+/// Lengths of a code for symbols that occur so often, none above `most`: Huffman's, with the counts made more alike until it
+/// fits.
+fn lengths(counts: &[u32], most: u32) -> Vec<u32> {
+    let mut counts = counts.to_vec();
+    loop {
+        let lengths = huffman(&counts);
+        if lengths.iter().all(|&length| length <= most) {
+            return lengths;
+        }
+        counts.iter_mut().filter(|count| **count > 0).for_each(|count| *count = *count / 2 + 1);
+    }
+}
+
+fn huffman(counts: &[u32]) -> Vec<u32> {
+    // Nodes by weight; the parent of each, told when two are joined.
+    let used = counts.iter().enumerate().filter(|(_, count)| **count > 0);
+    let mut heap: BinaryHeap<_> = used.map(|(symbol, &count)| Reverse((count, symbol))).collect();
+    let mut lengths = vec![0; counts.len()];
+    if let (1, Some(Reverse((_, only)))) = (heap.len(), heap.peek()) {
+        lengths[*only] = 1;
+        return lengths;
+    }
+    let mut parents = vec![usize::MAX; counts.len()];
+    while let (Some(Reverse((a, first))), Some(Reverse((b, second)))) = (heap.pop(), heap.pop()) {
+        let joined = parents.len();
+        (parents[first], parents[second]) = (joined, joined);
+        parents.push(usize::MAX);
+        heap.push(Reverse((a + b, joined)));
+    }
+    for (symbol, length) in lengths.iter_mut().enumerate().filter(|(symbol, _)| counts[*symbol] > 0) {
+        let mut node = symbol;
+        while parents[node] != usize::MAX {
+            (node, *length) = (parents[node], *length + 1);
+        }
+    }
+    lengths
+}
 
 /// Writes bits, the lowest first.
 #[derive(Default)]
 struct Writer {
     bytes: Vec<u8>,
-    held: u32,
+    held: u64,
     count: u32,
 }
 
 impl Writer {
     fn put(&mut self, value: u32, n: u32) {
-        self.held |= value << self.count;
+        self.held |= u64::from(value) << self.count;
         self.count += n;
         while self.count >= 8 {
             self.bytes.push(self.held as u8);
@@ -19,55 +174,109 @@ impl Writer {
         }
     }
 
-    /// A code of `n` bits, whose highest comes first.
-    fn code(&mut self, code: u32, n: u32) {
-        self.put(code.reverse_bits() >> (32 - n), n);
-    }
-
-    /// A byte, the end (256), or a length (257 to 285).
-    fn symbol(&mut self, symbol: u32) {
-        match symbol {
-            0..=143 => self.code(0x30 + symbol, 8),
-            144..=255 => self.code(0x190 + symbol - 144, 9),
-            256..=279 => self.code(symbol - 256, 7),
-            _ => self.code(0xc0 + symbol - 280, 8),
-        }
-    }
-
-    /// The byte before, 3 to 258 times more.
-    fn again(&mut self, times: u32) {
-        let rest = times - 3;
-        match rest {
-            0..=7 => self.symbol(257 + rest),
-            255 => self.symbol(285),
-            _ => {
-                let extra = rest.ilog2() - 2;
-                self.symbol(257 + 4 * extra + (rest >> extra));
-                self.put(rest & ((1 << extra) - 1), extra);
-            }
-        }
-        self.code(0, 5);
+    fn symbol(&mut self, code: &Code, (symbol, value, extra): Symbol) {
+        let (bits, length) = code.0[symbol];
+        self.put(bits, length);
+        self.put(value, extra);
     }
 }
 
-/// A zlib stream of one block.
-pub fn zlib(bytes: &[u8]) -> Vec<u8> {
-    let mut writer = Writer { bytes: vec![0x78, 0x01], ..Writer::default() };
-    // The last block, with the fixed codes.
-    writer.put(0b011, 3);
-    for run in bytes.chunk_by(|a, b| a == b) {
-        writer.symbol(u32::from(run[0]));
-        let mut left = run.len() - 1;
-        while left >= 3 {
-            let times = left.min(258);
-            writer.again(times as u32);
+/// For each symbol its bits, as they are written, and how many.
+struct Code(Vec<(u32, u32)>);
+
+impl Code {
+    /// Symbols of one length have codes one after another, shorter ones before longer ones; the highest bit comes first.
+    fn of(lengths: &[u32]) -> Code {
+        let mut code = vec![(0, 0); lengths.len()];
+        let mut next = 0u32;
+        for length in 1..=15 {
+            next <<= 1;
+            for (symbol, _) in lengths.iter().enumerate().filter(|(_, told)| **told == length) {
+                code[symbol] = (next.reverse_bits() >> (32 - length), length);
+                next += 1;
+            }
+        }
+        Code(code)
+    }
+}
+
+/// The lengths of both codes as the head of a block tells them: a length, or 16 to 18 for one that is told again.
+fn told(lengths: &[u32]) -> Vec<Symbol> {
+    let mut symbols = Vec::new();
+    for run in lengths.chunk_by(|a, b| a == b) {
+        let (length, mut left) = (run[0], run.len());
+        if length > 0 {
+            symbols.push((length as usize, 0, 0));
+            left -= 1;
+        }
+        while left > 0 {
+            let symbol = match (length, left) {
+                (0, 11..) => (18, left.min(138), 11, 7),
+                (0, 3..) => (17, left, 3, 3),
+                (1.., 3..) => (16, left.min(6), 3, 2),
+                _ => (length as usize, 1, 1, 0),
+            };
+            let (symbol, times, least, extra) = symbol;
+            symbols.push((symbol, (times - least) as u32, extra));
             left -= times;
         }
-        for _ in 0..left {
-            writer.symbol(u32::from(run[0]));
+    }
+    symbols
+}
+
+/// The order in which the lengths of the code for lengths are told.
+const ORDER: [usize; 19] = [16, 17, 18, 0, 8, 7, 9, 6, 10, 5, 11, 4, 12, 3, 13, 2, 14, 1, 15];
+
+fn block(writer: &mut Writer, tokens: &[Token], last: bool) {
+    let (mut literals, mut distances) = ([0; LITERALS], [0; DISTANCES]);
+    literals[256] = 1;
+    for token in tokens {
+        match *token {
+            Byte(byte) => literals[usize::from(byte)] += 1,
+            Again { len, back } => {
+                literals[length_symbol(len).0] += 1;
+                distances[distance_symbol(back).0] += 1;
+            }
         }
     }
-    writer.symbol(256);
+    // A code without a symbol is one that some readers refuse.
+    distances[0] += u32::from(distances.iter().all(|&count| count == 0));
+    let lengths_of = [lengths(&literals, 15), lengths(&distances, 15)];
+    let told = told(&lengths_of.concat());
+    let mut counts = [0; 19];
+    told.iter().for_each(|(symbol, ..)| counts[*symbol] += 1);
+    let of_lengths = lengths(&counts, 7);
+    writer.put(u32::from(last) | 0b100, 3);
+    writer.put(LITERALS as u32 - 257, 5);
+    writer.put(DISTANCES as u32 - 1, 5);
+    writer.put(19 - 4, 4);
+    ORDER.iter().for_each(|&symbol| writer.put(of_lengths[symbol], 3));
+    let code = Code::of(&of_lengths);
+    told.into_iter().for_each(|symbol| writer.symbol(&code, symbol));
+    let [literals, distances] = lengths_of.map(|lengths| Code::of(&lengths));
+    for token in tokens {
+        match *token {
+            Byte(byte) => writer.symbol(&literals, (usize::from(byte), 0, 0)),
+            Again { len, back } => {
+                writer.symbol(&literals, length_symbol(len));
+                writer.symbol(&distances, distance_symbol(back));
+            }
+        }
+    }
+    writer.symbol(&literals, (256, 0, 0));
+}
+
+/// A zlib stream.
+pub fn zlib(bytes: &[u8]) -> Vec<u8> {
+    let mut writer = Writer { bytes: vec![0x78, 0x9c], ..Writer::default() };
+    let tokens = tokens(bytes);
+    let mut blocks = tokens.chunks(BLOCK).peekable();
+    if blocks.peek().is_none() {
+        block(&mut writer, &[], true);
+    }
+    while let Some(tokens) = blocks.next() {
+        block(&mut writer, tokens, blocks.peek().is_none());
+    }
     writer.put(0, 7);
     writer.bytes.extend(adler(bytes).to_be_bytes());
     writer.bytes
@@ -87,42 +296,79 @@ fn adler(bytes: &[u8]) -> u32 {
     b << 16 | a
 }
 
-/// What `zlib` was given, read back by the format's rules; the stream may be followed by anything.
+/// What `zlib` was given, read back by the format's rules, one bit at a time; the stream may be followed by anything.
 #[cfg(test)]
 pub fn inflated(stream: &[u8]) -> Vec<u8> {
-    let mut at = 16;
-    let mut bit = || {
-        at += 1;
-        u32::from(stream[(at - 1) / 8] >> ((at - 1) % 8) & 1)
-    };
-    assert_eq!([bit(), bit(), bit()], [1, 1, 0], "the last block, with the fixed codes");
-    let mut bytes = Vec::new();
-    loop {
-        let mut next = |code: u32, n: u32| (0..n).fold(code, |code, _| code << 1 | bit());
-        let symbol = match next(0, 7) {
-            code @ 0..=23 => code + 256,
-            code @ 24..=95 => next(code, 1) - 0x30,
-            code @ 96..=99 => next(code, 1) - 0xc0 + 280,
-            code => next(code, 2) - 0x190 + 144,
-        };
-        let rest = match symbol {
-            0..=255 => {
-                bytes.push(symbol as u8);
-                continue;
+    struct Reader<'a>(&'a [u8], usize);
+    impl Reader<'_> {
+        fn bits(&mut self, n: usize) -> usize {
+            let bit = |at: usize| usize::from(self.0[at / 8] >> (at % 8) & 1);
+            let value = (0..n).map(|i| bit(self.1 + i) << i).sum();
+            self.1 += n;
+            value
+        }
+
+        fn symbol(&mut self, lengths: &[usize]) -> usize {
+            let (mut code, mut first) = (0, 0);
+            for length in 1..=15 {
+                code = code << 1 | self.bits(1);
+                let mut of_length = (0..lengths.len()).filter(|&symbol| lengths[symbol] == length);
+                let count = of_length.clone().count();
+                if code < first + count {
+                    return of_length.nth(code - first).expect("a symbol");
+                }
+                first = (first + count) << 1;
             }
-            256 => break,
-            257..=264 => symbol - 257,
-            265..=284 => {
-                let extra = (symbol - 261) / 4;
-                ((4 + (symbol - 261) % 4) << extra) + (0..extra).fold(0, |rest, i| rest | bit() << i)
-            }
-            _ => 255,
-        };
-        assert_eq!((0..5).map(|_| bit()).sum::<u32>(), 0, "one byte back");
-        let last = *bytes.last().expect("a byte before");
-        bytes.extend(vec![last; rest as usize + 3]);
+            panic!("no such code");
+        }
     }
-    let sum = &stream[at.div_ceil(8)..][..4];
+    let mut reader = Reader(stream, 16);
+    let mut bytes: Vec<u8> = Vec::new();
+    loop {
+        let last = reader.bits(1) == 1;
+        assert_eq!(reader.bits(2), 2, "codes of its own");
+        let (literals, distances, told) = (257 + reader.bits(5), 1 + reader.bits(5), 4 + reader.bits(4));
+        let mut of_lengths = [0; 19];
+        ORDER.iter().take(told).for_each(|&symbol| of_lengths[symbol] = reader.bits(3));
+        let mut lengths = Vec::new();
+        while lengths.len() < literals + distances {
+            let (length, times) = match reader.symbol(&of_lengths) {
+                16 => (*lengths.last().expect("a length"), 3 + reader.bits(2)),
+                17 => (0, 3 + reader.bits(3)),
+                18 => (0, 11 + reader.bits(7)),
+                length => (length, 1),
+            };
+            lengths.extend(vec![length; times]);
+        }
+        assert_eq!(lengths.len(), literals + distances);
+        let (literals, distances) = lengths.split_at(literals);
+        loop {
+            let symbol = reader.symbol(literals);
+            let len = match symbol {
+                0..=255 => {
+                    bytes.push(symbol as u8);
+                    continue;
+                }
+                256 => break,
+                257..=264 => symbol - 254,
+                265..=284 => {
+                    let extra = (symbol - 261) / 4;
+                    ((4 + (symbol - 261) % 4) << extra) + reader.bits(extra) + 3
+                }
+                _ => 258,
+            };
+            let symbol = reader.symbol(distances);
+            let back = match symbol {
+                0..=3 => symbol + 1,
+                _ => ((2 + symbol % 2) << (symbol / 2 - 1)) + reader.bits(symbol / 2 - 1) + 1,
+            };
+            (0..len).for_each(|_| bytes.push(bytes[bytes.len() - back]));
+        }
+        if last {
+            break;
+        }
+    }
+    let sum = &stream[reader.1.div_ceil(8)..][..4];
     assert_eq!(sum, adler(&bytes).to_be_bytes());
     bytes
 }
@@ -130,10 +376,29 @@ pub fn inflated(stream: &[u8]) -> Vec<u8> {
 #[cfg(test)]
 mod tests {
     use super::*;
+    use streams::random::Random;
 
     #[test]
     fn sum_of_a_text() {
         assert_eq!(adler(b"Wikipedia"), 0x11e6_0398);
+    }
+
+    #[test]
+    fn lengths_and_distances_have_the_format_s_symbols() {
+        assert_eq!([3, 10, 11, 12, 13, 257, 258].map(|len| length_symbol(len).0), [257, 264, 265, 265, 266, 284, 285]);
+        assert_eq!([1, 4, 5, 7, 24_577, 32_768].map(|back| distance_symbol(back).0), [0, 3, 4, 5, 29, 29]);
+    }
+
+    #[test]
+    fn codes_are_complete_and_not_too_long() {
+        // Counts as Fibonacci has them make the longest codes.
+        let counts: Vec<u32> = (0..30).scan((1, 1), |s, _| Some(std::mem::replace(s, (s.1, s.0 + s.1)).0)).collect();
+        for most in [7, 15] {
+            let lengths = lengths(&counts, most);
+            assert_eq!(lengths.iter().map(|length| 1 << (15 - length)).sum::<u32>(), 1 << 15);
+            assert!(lengths.iter().all(|&length| length <= most));
+        }
+        assert_eq!(huffman(&[0, 7, 0]), [0, 1, 0]);
     }
 
     #[test]
@@ -145,5 +410,29 @@ mod tests {
         assert_eq!(inflated(&zlib(&bytes)), bytes);
         assert!(zlib(&bytes).len() < bytes.len() / 40);
         assert_eq!(inflated(&zlib(&[])), []);
+    }
+
+    #[test]
+    fn texts_of_every_kind_come_back() {
+        let mut random = Random::new(1);
+        for i in 0..60 {
+            let (most, kinds) = (2 << random.index(16), 1 + random.index(256));
+            let len = random.index(most);
+            let mut bytes: Vec<u8> = (0..len).map(|_| random.index(kinds) as u8).collect();
+            // Parts that stand elsewhere once more, far back too.
+            for _ in 0..random.index(9) * usize::from(len > 9) {
+                let (from, to) = (random.index(len), random.index(len));
+                let part = bytes[from..].iter().take(random.index(400)).copied().collect::<Vec<u8>>();
+                part.iter().zip(&mut bytes[to..]).for_each(|(byte, place)| *place = *byte);
+            }
+            assert!(inflated(&zlib(&bytes)) == bytes, "text {i} of {len}");
+        }
+    }
+
+    #[test]
+    fn noise_takes_little_more_than_the_bits_it_has() {
+        let mut random = Random::new(2);
+        let bytes: Vec<u8> = (0..100_000).map(|_| random.index(8) as u8).collect();
+        assert!(zlib(&bytes).len() < 40_000, "{}", zlib(&bytes).len());
     }
 }

@@ -1,8 +1,9 @@
 //! What a frame is written as.
 
 use crate::planes::side_by_side;
-use crate::{pgm, png, v0};
+use crate::{pgm, png, v0, v2};
 use razvolk::Marks;
+use razvolk::srw::Frame;
 
 /// The forms of an output.
 #[derive(Clone, Copy, Debug, PartialEq, Eq)]
@@ -15,33 +16,69 @@ pub enum Form {
     Planes,
     /// The samples as V0, to be decoded again.
     V0,
+    /// A V0 frame as V2, to be decoded again.
+    V2,
+}
+
+impl Form {
+    /// Whether it stores the frame, to be decoded again: a refused one would pass for a whole one.
+    pub fn is_stored(self) -> bool {
+        matches!(self, Form::V0 | Form::V2)
+    }
+
+    /// How the name of such an output ends in a folder, after the name of its frame.
+    pub fn ending(self) -> &'static str {
+        match self {
+            Form::Pgm => ".pgm",
+            Form::Png => ".png",
+            Form::Planes => "-planes.png",
+            Form::V0 => "-v0.srw",
+            Form::V2 => "-v2.srw",
+        }
+    }
+}
+
+/// How a picture is made.
+#[derive(Clone, Copy, Debug, Default, PartialEq, Eq)]
+pub struct Picture {
+    /// The sample that is white; else one that 199 of 200 samples don't exceed.
+    pub white: Option<u16>,
+    /// Grey in proportion to the sample; else by a gamma curve.
+    pub linear: bool,
+    /// One pixel for each square of four samples.
+    pub half: bool,
 }
 
 /// A decoded frame.
 #[derive(Clone, Copy)]
 pub struct Decoded<'a> {
+    /// The frame as it is coded.
+    pub coded: &'a Frame<'a>,
     pub samples: &'a [u16],
     pub marks: Marks<'a>,
     pub width: usize,
     pub height: usize,
+    /// The bits of a sample, where they are known.
+    pub depth: Option<u32>,
+    /// The camera's.
+    pub model: Option<&'a str>,
 }
 
-/// A decoded frame in a form, or why it has none. In a PNG `white` is the sample that is white, else the largest.
-pub fn file(form: Form, frame: Decoded, white: Option<u16>) -> Result<Vec<u8>, String> {
-    let Decoded { samples, marks, width, height } = frame;
-    let picture = || samples.iter().max().ok_or("a frame of no samples makes no picture");
+/// A decoded frame in a form, or why it has none.
+pub fn file(form: Form, frame: Decoded, picture: Picture) -> Result<Vec<u8>, String> {
+    let Decoded { samples, marks, width, .. } = frame;
+    if !form.is_stored() && samples.is_empty() {
+        return Err("a frame of no samples makes no picture".into());
+    }
     Ok(match form {
-        Form::Pgm => picture().map(|_| pgm::file(samples, width))?,
-        Form::Png => picture().map(|&largest| png::file(samples, marks.bytes(), width, white.unwrap_or(largest)))?,
+        Form::Pgm => pgm::file(samples, width, frame.depth),
+        Form::Png => png::file(samples, marks.bytes(), width, picture),
         Form::Planes => {
-            let largest = picture()?;
             let marks: Vec<u16> = marks.bytes().iter().map(|&mark| mark.into()).collect();
             let marks: Vec<u8> = side_by_side(&marks, width).iter().map(|&mark| mark as u8).collect();
-            png::file(&side_by_side(samples, width), &marks, 2 * width, white.unwrap_or(*largest))
+            png::file(&side_by_side(samples, width), &marks, 2 * width, picture)
         }
-        Form::V0 => {
-            let refused = |refusal| format!("can't be written as V0: {refusal}");
-            v0::file(samples, width, height).map_err(refused)?
-        }
+        Form::V0 => v0::file(frame).map_err(|refusal| format!("can't be written as V0: {refusal}"))?,
+        Form::V2 => v2::file(frame)?,
     })
 }

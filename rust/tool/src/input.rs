@@ -1,8 +1,9 @@
 //! The files that are read, and which files they are, so that none of them is written over.
 
 use std::fmt::Display;
-use std::fs::{File, Metadata};
+use std::fs::{self, File, Metadata};
 use std::io::{self, Read};
+use std::os::fd::AsFd;
 use std::os::unix::fs::MetadataExt;
 use std::path::{Path, PathBuf};
 
@@ -20,6 +21,12 @@ impl Identity {
     pub fn of(metadata: &Metadata) -> Identity {
         Identity { device: metadata.dev(), inode: metadata.ino() }
     }
+
+    /// Of a file that is to be read; none where it can't be told, and then it can't be read.
+    pub fn of_input(path: &Path) -> Option<Identity> {
+        let metadata = if is_stdin(path) { stdin().and_then(|file| file.metadata()) } else { fs::metadata(path) };
+        metadata.as_ref().ok().map(Identity::of)
+    }
 }
 
 /// A file that was read.
@@ -30,8 +37,12 @@ pub struct Input {
 }
 
 impl Input {
-    pub fn read(path: &Path) -> Result<Input, String> {
+    /// Reads the file, if it is still the one that was looked at before outputs were allowed.
+    pub fn read(path: &Path, known: Option<Identity>) -> Result<Input, String> {
         let (bytes, identity) = whole(path).map_err(|e| fault(path, e))?;
+        if known.is_some_and(|known| known != identity) {
+            return Err(fault(path, "another file has taken its place"));
+        }
         if bytes.len() as u64 > LONGEST {
             return Err(fault(path, format_args!("longer than {LONGEST} bytes")));
         }
@@ -39,7 +50,7 @@ impl Input {
     }
 
     pub fn name(&self) -> String {
-        self.path.display().to_string()
+        shown(&self.path)
     }
 
     /// What is wrong with the file, under its name.
@@ -48,16 +59,64 @@ impl Input {
     }
 }
 
+fn is_stdin(path: &Path) -> bool {
+    path.as_os_str() == "-"
+}
+
+/// Standard input as a file, of which it can be told which one it is.
+fn stdin() -> io::Result<File> {
+    io::stdin().as_fd().try_clone_to_owned().map(File::from)
+}
+
 /// The file's bytes, up to one more than may be read. The identity is that of the file that was opened.
 fn whole(path: &Path) -> io::Result<(Vec<u8>, Identity)> {
-    let file = File::open(path)?;
+    let file = if is_stdin(path) { stdin()? } else { File::open(path)? };
     let identity = Identity::of(&file.metadata()?);
     let mut bytes = Vec::new();
     file.take(LONGEST + 1).read_to_end(&mut bytes)?;
     Ok((bytes, identity))
 }
 
+/// The files that are named, and for a folder the `.srw` files in it, in the order of their names.
+pub fn files(named: &[PathBuf]) -> Result<Vec<PathBuf>, String> {
+    let mut files = Vec::new();
+    for path in named {
+        if !path.is_dir() || is_stdin(path) {
+            files.push(path.clone());
+            continue;
+        }
+        let entries = fs::read_dir(path).and_then(|entries| entries.map(|entry| Ok(entry?.path())).collect());
+        let mut within: Vec<PathBuf> = entries.map_err(|e: io::Error| fault(path, e))?;
+        within.retain(|file| file.extension().is_some_and(|end| end.eq_ignore_ascii_case("srw")) && !file.is_dir());
+        if within.is_empty() {
+            return Err(fault(path, "no .srw file is in this folder"));
+        }
+        within.sort();
+        files.extend(within);
+    }
+    Ok(files)
+}
+
+/// A file's name as it is printed: what would steer a terminal is escaped.
+pub fn shown(path: &Path) -> String {
+    let steers = |c: char| {
+        c.is_control() || matches!(c, '\u{200e}'..='\u{200f}' | '\u{202a}'..='\u{202e}' | '\u{2066}'..='\u{2069}')
+    };
+    let name = path.to_string_lossy();
+    name.chars().map(|c| if steers(c) { c.escape_default().to_string() } else { c.to_string() }).collect()
+}
+
 /// What is wrong with a file, under its name.
 pub fn fault(path: &Path, what: impl Display) -> String {
-    format!("{}: {what}", path.display())
+    format!("{}: {what}", shown(path))
+}
+
+#[cfg(test)]
+mod tests {
+    use super::*;
+
+    #[test]
+    fn what_would_steer_a_terminal_is_escaped() {
+        assert_eq!(shown(Path::new("a b\u{1b}[31m\n\u{202e}ö.srw")), "a b\\u{1b}[31m\\n\\u{202e}ö.srw");
+    }
 }

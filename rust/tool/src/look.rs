@@ -1,43 +1,49 @@
 //! A look at a frame: all that the tool does between reading its files and writing others.
 
-use crate::form::{self, Decoded, Form};
+use crate::form::{self, Decoded, Form, Picture};
 use crate::report;
-use crate::srw::{self, Fault, Frame};
-use crate::worker::{self, Worker};
+use crate::worker::Worker;
+use razvolk::srw::{self, Fault, Frame};
 use razvolk::{MAX_SIDE, Refusal};
 
-/// A frame that was decoded, and what is told of it.
-pub struct Look {
-    pub text: String,
+/// What came of a frame.
+pub struct Look<'a> {
     pub answer: Result<(), Refusal>,
-    worker: Worker,
-    width: usize,
-    height: usize,
+    /// What the decoder answered to the frame that was decoded first, if there was one.
+    pub over: Option<Result<(), Refusal>>,
+    /// Samples and marks, if the stream was begun.
+    pub decoded: Option<Decoded<'a>>,
+    missing: usize,
 }
 
-impl Look {
-    /// Decodes a frame, each under its name; where there is one to decode `over`, that one first, into the same buffer.
-    pub fn at(name: &str, frame: &Frame, over: Option<(&str, &Frame)>) -> Result<Look, String> {
-        let frames: Vec<&Frame> = over.iter().map(|(_, over)| *over).chain([frame]).collect();
-        let mut worker = Worker::of(&frames).map_err(|(width, height)| {
-            let most = worker::MOST_SAMPLES;
-            format!("a frame of {width} by {height} is too large to look at: the limit is {most} samples")
-        })?;
-        let mut text = String::new();
-        if let Some((name, over)) = over {
-            let answer = worker.decode(over);
-            text += &format!("over {}\n{}\n", report::heading(name, over), report::answer(answer));
-        }
+impl<'a> Look<'a> {
+    /// Decodes a frame into the worker's buffer; where there is one to decode `over`, that one first.
+    pub fn at(worker: &'a mut Worker, frame: &'a Frame<'a>, over: Option<&Frame>) -> Result<Look<'a>, String> {
+        [over, Some(frame)].into_iter().flatten().try_for_each(|frame| worker.make_room(frame))?;
+        let over = over.map(|over| worker.decode(over));
         let answer = worker.decode(frame);
-        text += &format!("{}\n{}\n", report::heading(name, frame), report::answer(answer));
-        text += &report::marks(worker.frame().map(|(_, marks)| marks), frame.width);
-        Ok(Look { text, answer, worker, width: frame.width, height: frame.height })
+        let depth = frame.v2_header().map(|header| header.depth).or(frame.bits);
+        let &Frame { width, height, model, missing, .. } = frame;
+        let decoded = worker.frame();
+        let decoded =
+            decoded.map(|(samples, marks)| Decoded { coded: frame, samples, marks, width, height, depth, model });
+        Ok(Look { answer, over, decoded, missing })
     }
 
-    /// The frame's samples and marks, if its stream was begun.
-    pub fn decoded(&self) -> Option<Decoded<'_>> {
-        let &Look { width, height, .. } = self;
-        self.worker.frame().map(|(samples, marks)| Decoded { samples, marks, width, height })
+    /// The exit status of a frame by itself: 1 refused, 3 something old or missing, 0 clean.
+    pub fn status(&self) -> u8 {
+        let clean = self.missing == 0 && self.decoded.is_none_or(|decoded| decoded.marks.is_clean());
+        match self.answer {
+            Err(_) => 1,
+            Ok(()) if clean => 0,
+            Ok(()) => 3,
+        }
+    }
+
+    /// What is told of it.
+    pub fn text(&self, name: &str, frame: &Frame) -> String {
+        let marks = report::marks(self.decoded.map(|decoded| decoded.marks), frame.missing);
+        format!("{}\n{}\n{marks}", report::heading(name, frame), report::answer(self.answer))
     }
 }
 
@@ -49,23 +55,26 @@ pub fn seen(file: &[u8]) -> Result<String, Fault> {
     if sides && frame.width * frame.height > 10_000 {
         return Ok(report::heading("file", &frame));
     }
-    let look = Look::at("file", &frame, None).expect("few samples");
-    if let Some(decoded) = look.decoded() {
-        for form in [Form::Pgm, Form::Png, Form::Planes] {
-            assert_eq!(form::file(form, decoded, None).is_err(), decoded.samples.is_empty());
+    let mut worker = Worker::default();
+    let look = Look::at(&mut worker, &frame, None).expect("few samples");
+    if let Some(decoded) = look.decoded {
+        for (form, half) in [(Form::Pgm, false), (Form::Png, false), (Form::Png, true), (Form::Planes, false)] {
+            let file = form::file(form, decoded, Picture { half, ..Picture::default() });
+            assert_eq!(file.is_err(), decoded.samples.is_empty());
         }
         stored(decoded);
     }
-    Ok(look.text)
+    Ok(look.text("file", &frame))
 }
 
 /// Written as V0, a frame is read again: its samples are the same, and all rest on the stream.
 fn stored(decoded: Decoded) {
-    let file = form::file(Form::V0, decoded, None);
+    let file = form::file(Form::V0, decoded, Picture::default());
     assert_eq!(file.is_err(), decoded.samples.iter().any(|&sample| sample > 16_383));
     let Ok(file) = file else { return };
     let frame = srw::frame(&file).expect("a frame");
-    let look = Look::at("stored", &frame, None).expect("few samples");
-    let again = look.decoded().expect("done");
-    assert!(look.answer.is_ok() && again.samples == decoded.samples && again.marks.is_clean());
+    let mut worker = Worker::default();
+    let look = Look::at(&mut worker, &frame, None).expect("few samples");
+    let again = look.decoded.expect("done");
+    assert!(look.status() == 0 && again.samples == decoded.samples);
 }

@@ -1,30 +1,48 @@
 //! What is asked for on the command line.
 
-use crate::form::Form;
-use std::ffi::OsString;
+use crate::form::{Form, Picture};
+use std::ffi::{OsStr, OsString};
+use std::os::unix::ffi::OsStrExt;
 use std::path::{Path, PathBuf};
 
 pub const HELP: &str = "\
-razvolk: decodes a Samsung raw frame, shows which of its samples rest on what the buffer held before, and writes V0
+razvolk: decodes Samsung raw frames, shows which samples rest on what the buffer held before, and writes V0
 
-usage: razvolk [OPTIONS] FILE.srw
-       razvolk [OPTIONS] --v0 WIDTHxHEIGHT --offsets FILE STREAM
-       razvolk [OPTIONS] --v2 WIDTHxHEIGHT STREAM
+usage: razvolk [OPTIONS] FILE.srw|FOLDER|- ...
+       razvolk [OPTIONS] --v0 WIDTHxHEIGHT --offsets FILE STREAM|-
+       razvolk [OPTIONS] --v2 WIDTHxHEIGHT STREAM|-
 
   FILE.srw         a camera's file: TIFF, compression 32770 with tag 40976 (V0), or 32773 (V2)
+  FOLDER           the .srw files in it
+  -                standard input
   STREAM           a bare stream, of the size that --v0 or --v2 tells
   --offsets FILE   the byte offset of each row in a bare V0 stream: decimal numbers, parted by spaces, commas or lines
-  --over FILE.srw  decode this frame first, into the same buffer, as a worker would; else the buffer holds zeros
-  --pgm FILE       write the samples, 16 bits each
-  --png FILE       write a picture in which samples that rest on old values are tinted red
-  --planes FILE    write such a picture of the four colour planes, side by side: even rows and even columns, even and odd, odd
-                   and even, odd and odd
-  --write-v0 FILE  write the samples as V0, none above 16,383, in a file that this tool reads again
-  --force          replace files of these names; a file that is read is never written over
-  --white NUMBER   the sample that is white in the picture (the largest, if none is told)
-  --help, --version
+  --over FILE.srw  decode this frame first, into the same buffer, as a worker would; else what is written starts from zeros
+  --jobs N         decode with N workers, one buffer each; else one for each processor
+  --json           tell in JSON, one object a frame
 
-exit status: 0 done; 1 refused by the decoder; 2 bad options, bad input, or a file that can't be read or written
+ to write, each with a FILE, or with a FOLDER that is there, in which outputs are named after their frames:
+  --pgm FILE       the samples, 16 bits each
+  --png FILE       a picture in which samples that rest on old values are tinted red
+  --planes FILE    such a picture of the four colour planes, side by side: even rows and even columns, even and odd, odd and
+                   even, odd and odd
+  --write-v0 FILE  the samples as V0, none above 16,383, in a file that this tool reads again
+  --to-v2 FILE     a V0 frame as V2, of a width that is a multiple of 16, with no sample marked or above 16,383, in a file that
+                   this tool reads again
+  --force          replace files of these names; a file that is read is never written over
+
+ pictures:
+  --white NUMBER   the sample that is white; else one that 199 of 200 samples don't exceed
+  --linear         grey in proportion to the sample; else a gamma curve of 1/2.2
+  --half           one pixel for each square of four samples
+
+  --help, -h, --version, -V
+
+exit status, of several frames the first that there is of 2, 1, 3, 0:
+  0  all frames are done, and clean
+  1  a frame is refused by the decoder
+  2  bad options, or a file that can't be read or written, or that has no frame
+  3  a frame is done, and samples of it rest on old values, or bytes of it are missing
 ";
 
 /// A bare stream.
@@ -38,15 +56,19 @@ pub struct Bare {
 
 #[derive(Clone, Debug, Default, PartialEq, Eq)]
 pub struct Options {
-    pub file: PathBuf,
+    /// At least one; `-` is standard input.
+    pub files: Vec<PathBuf>,
     pub bare: Option<Bare>,
     pub over: Option<PathBuf>,
     pub pgm: Option<PathBuf>,
     pub png: Option<PathBuf>,
     pub planes: Option<PathBuf>,
     pub write_v0: Option<PathBuf>,
+    pub to_v2: Option<PathBuf>,
     pub force: bool,
-    pub white: Option<u16>,
+    pub picture: Picture,
+    pub json: bool,
+    pub jobs: Option<usize>,
 }
 
 impl Options {
@@ -55,10 +77,15 @@ impl Options {
         self.bare.as_ref()?.offsets.as_deref()
     }
 
-    /// What is to be written, and where.
+    /// What is to be written, and where: a file, or a folder.
     pub fn outputs(&self) -> Vec<(Form, &Path)> {
-        let all =
-            [(Form::Pgm, &self.pgm), (Form::Png, &self.png), (Form::Planes, &self.planes), (Form::V0, &self.write_v0)];
+        let all = [
+            (Form::Pgm, &self.pgm),
+            (Form::Png, &self.png),
+            (Form::Planes, &self.planes),
+            (Form::V0, &self.write_v0),
+            (Form::V2, &self.to_v2),
+        ];
         all.into_iter().filter_map(|(form, path)| Some((form, path.as_deref()?))).collect()
     }
 }
@@ -67,20 +94,28 @@ impl Options {
 pub enum Asked {
     Help,
     Version,
-    Look(Options),
+    Look(Box<Options>),
+}
+
+/// An option's name, and the value that is told with it, as in `--png=FILE`.
+fn parted(word: &OsStr) -> (String, Option<OsString>) {
+    let bytes = word.as_bytes();
+    let at = bytes.iter().position(|&byte| byte == b'=').filter(|_| bytes.starts_with(b"--"));
+    let name = &bytes[..at.unwrap_or(bytes.len())];
+    (String::from_utf8_lossy(name).into(), at.map(|at| OsStr::from_bytes(&bytes[at + 1..]).into()))
 }
 
 /// Reads the words after the program's name.
 pub fn read(words: impl IntoIterator<Item = OsString>) -> Result<Asked, String> {
     let mut words = words.into_iter();
     let mut options = Options::default();
-    let (mut files, mut v0, mut v2, mut offsets) = (Vec::new(), None, None, None);
+    let (mut v0, mut v2, mut offsets) = (None, None, None);
     while let Some(word) = words.next() {
-        let name = word.to_string_lossy().into_owned();
-        let mut value = || words.next().ok_or(format!("{name} needs a value"));
+        let (name, mut told) = parted(&word);
+        let mut value = || told.take().or_else(|| words.next()).ok_or(format!("{name} needs a value"));
         match name.as_str() {
             "--help" | "-h" => return Ok(Asked::Help),
-            "--version" => return Ok(Asked::Version),
+            "--version" | "-V" => return Ok(Asked::Version),
             "--v0" => once(&name, &mut v0, size(&value()?)?)?,
             "--v2" => once(&name, &mut v2, size(&value()?)?)?,
             "--offsets" => once(&name, &mut offsets, value()?.into())?,
@@ -89,28 +124,48 @@ pub fn read(words: impl IntoIterator<Item = OsString>) -> Result<Asked, String> 
             "--png" => once(&name, &mut options.png, value()?.into())?,
             "--planes" => once(&name, &mut options.planes, value()?.into())?,
             "--write-v0" => once(&name, &mut options.write_v0, value()?.into())?,
+            "--to-v2" => once(&name, &mut options.to_v2, value()?.into())?,
+            "--white" => once(&name, &mut options.picture.white, number(&value()?, "number up to 65535")?)?,
+            "--jobs" => {
+                let jobs: u8 = number(&value()?, "number of workers, 1 to 255")?;
+                once(&name, &mut options.jobs, usize::from(jobs.max(1)))?;
+            }
+            "--linear" => options.picture.linear = true,
+            "--half" => options.picture.half = true,
+            "--json" => options.json = true,
             "--force" => options.force = true,
-            "--white" => once(&name, &mut options.white, white(&value()?)?)?,
-            "--" => files.extend(words.by_ref()),
-            _ if name.starts_with('-') => return Err(format!("there is no option {name}")),
-            _ => files.push(word),
+            "--" => options.files.extend(words.by_ref().map(PathBuf::from)),
+            _ if name.starts_with('-') && name != "-" => return Err(format!("there is no option {name}")),
+            _ => {
+                told = None;
+                options.files.push(word.into());
+            }
+        }
+        if told.is_some() {
+            return Err(format!("{name} takes no value"));
         }
     }
-    options.bare = match (v0, v2, offsets) {
-        (None, None, None) => None,
-        (Some((width, height)), None, offsets @ Some(_)) => Some(Bare { width, height, offsets }),
-        (None, Some((width, height)), None) => Some(Bare { width, height, offsets: None }),
-        (Some(_), Some(_), _) => return Err("a stream is V0 or V2, not both".into()),
-        (Some(_), None, None) => return Err("a bare V0 stream needs --offsets".into()),
-        (None, _, Some(_)) => return Err("--offsets goes with --v0 alone".into()),
-    };
-    let mut files = files.into_iter();
-    match (files.next(), files.next()) {
-        (Some(file), None) => options.file = file.into(),
-        (None, _) => return Err("no file is named".into()),
-        (_, Some(_)) => return Err("one file at a time".into()),
+    options.bare = bare(v0, v2, offsets)?;
+    let stdin = options.files.iter().filter(|file| file.as_os_str() == "-").count();
+    match options.files.len() {
+        0 => Err("no file is named".into()),
+        2.. if options.bare.is_some() => Err("one bare stream at a time".into()),
+        _ if stdin > 1 => Err("standard input is read once".into()),
+        _ => Ok(Asked::Look(options.into())),
     }
-    Ok(Asked::Look(options))
+}
+
+type Size = (usize, usize);
+
+fn bare(v0: Option<Size>, v2: Option<Size>, offsets: Option<PathBuf>) -> Result<Option<Bare>, String> {
+    match (v0, v2, offsets) {
+        (None, None, None) => Ok(None),
+        (Some((width, height)), None, offsets @ Some(_)) => Ok(Some(Bare { width, height, offsets })),
+        (None, Some((width, height)), None) => Ok(Some(Bare { width, height, offsets: None })),
+        (Some(_), Some(_), _) => Err("a stream is V0 or V2, not both".into()),
+        (Some(_), None, None) => Err("a bare V0 stream needs --offsets".into()),
+        (None, _, Some(_)) => Err("--offsets goes with --v0 alone".into()),
+    }
 }
 
 fn once<T>(name: &str, place: &mut Option<T>, value: T) -> Result<(), String> {
@@ -120,15 +175,15 @@ fn once<T>(name: &str, place: &mut Option<T>, value: T) -> Result<(), String> {
     }
 }
 
-fn size(word: &OsString) -> Result<(usize, usize), String> {
+fn size(word: &OsStr) -> Result<Size, String> {
     let word = word.to_string_lossy();
     let sides = word.split_once('x').and_then(|(width, height)| Some((width.parse().ok()?, height.parse().ok()?)));
     sides.ok_or(format!("{word} is no size, as 5546x3714 is"))
 }
 
-fn white(word: &OsString) -> Result<u16, String> {
+fn number<T: std::str::FromStr>(word: &OsStr, what: &str) -> Result<T, String> {
     let word = word.to_string_lossy();
-    word.parse().map_err(|_| format!("{word} is no number up to 65535"))
+    word.parse().map_err(|_| format!("{word} is no {what}"))
 }
 
 /// The numbers of a text.
@@ -146,40 +201,52 @@ mod tests {
     }
 
     #[test]
-    fn a_file_with_all_there_is() {
+    fn files_with_all_there_is() {
         let options = Options {
-            file: "a.srw".into(),
+            files: vec!["a.srw".into(), "b=.srw".into(), "-".into()],
             bare: None,
-            over: Some("b.srw".into()),
-            pgm: Some("c".into()),
-            png: Some("d".into()),
-            planes: Some("e".into()),
-            write_v0: Some("f".into()),
+            over: Some("c.srw".into()),
+            pgm: Some("d".into()),
+            png: Some("e=f".into()),
+            planes: Some("g".into()),
+            write_v0: Some("h".into()),
+            to_v2: Some("i".into()),
             force: true,
-            white: Some(4_095),
+            picture: Picture { white: Some(4_095), linear: true, half: true },
+            json: true,
+            jobs: Some(3),
         };
-        let line = "--over b.srw a.srw --force --pgm c --png d --planes e --write-v0 f --white 4095";
-        assert_eq!(asked(line), Ok(Asked::Look(options)));
-        assert_eq!(asked("-- --x"), Ok(Asked::Look(Options { file: "--x".into(), ..Options::default() })));
-        assert_eq!((asked("a --help"), asked("--version")), (Ok(Asked::Help), Ok(Asked::Version)));
+        let line = "--over=c.srw a.srw --force --pgm d --png=e=f b=.srw --planes g --write-v0 h --to-v2 i - --white 4095 --json \
+            --linear --half --jobs 3";
+        assert_eq!(asked(line), Ok(Asked::Look(options.into())));
+        assert_eq!(
+            asked("-- --x"),
+            Ok(Asked::Look(Options { files: vec!["--x".into()], ..Options::default() }.into()))
+        );
+        assert_eq!(
+            (asked("a --help"), asked("--version"), asked("-V")),
+            (Ok(Asked::Help), Ok(Asked::Version), Ok(Asked::Version))
+        );
     }
 
     #[test]
     fn bare_streams() {
         let bare = |offsets| Some(Bare { width: 646, height: 436, offsets });
-        let look = |bare| Ok(Asked::Look(Options { file: "s".into(), bare, ..Options::default() }));
+        let look = |bare| Ok(Asked::Look(Options { files: vec!["s".into()], bare, ..Options::default() }.into()));
         assert_eq!(asked("--v2 646x436 s"), look(bare(None)));
-        assert_eq!(asked("s --offsets o --v0 646x436"), look(bare(Some("o".into()))));
+        assert_eq!(asked("s --offsets o --v0=646x436"), look(bare(Some("o".into()))));
     }
 
     #[test]
     fn what_is_no_line() {
         for (line, text) in [
             ("", "no file is named"),
-            ("a b", "one file at a time"),
-            ("-- a b", "one file at a time"),
+            ("--v2 2x2 a b", "one bare stream at a time"),
+            ("- a -", "standard input is read once"),
             ("--png", "--png needs a value"),
             ("--gif a", "there is no option --gif"),
+            ("-x a", "there is no option -x"),
+            ("--force=a b", "--force takes no value"),
             ("--png a --png b c", "--png is told twice"),
             ("a --write-v0", "--write-v0 needs a value"),
             ("--v0 2x2 s", "a bare V0 stream needs --offsets"),
@@ -190,6 +257,7 @@ mod tests {
             ("--v2 -1x2 s", "-1x2 is no size, as 5546x3714 is"),
             ("--v2 99999999999999999999x2 s", "99999999999999999999x2 is no size, as 5546x3714 is"),
             ("--white 65536 s", "65536 is no number up to 65535"),
+            ("--jobs many s", "many is no number of workers, 1 to 255"),
         ] {
             assert_eq!(asked(line), Err(text.into()), "{line}");
         }

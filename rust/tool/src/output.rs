@@ -1,15 +1,28 @@
 //! Files that are written, without harm to others: an input is never written over, another file only by force, and what
 //! stands under a name at any moment is whole, the old file or the new.
 
-use crate::input::{Identity, Input, fault};
+use crate::form::Form;
+use crate::input::{Identity, fault};
+use std::collections::HashSet;
 use std::fmt::Display;
 use std::fs::{self, File, Metadata, OpenOptions, Permissions};
 use std::io::{self, ErrorKind, Write};
 use std::path::{Path, PathBuf};
 use std::process;
 
+/// Where an output of a frame goes that is written to a file, or into a folder that is there.
+pub fn named(form: Form, to: &Path, frame: &Path) -> PathBuf {
+    if !to.is_dir() {
+        return to.into();
+    }
+    let stem = frame.file_stem().filter(|stem| *stem != "-").unwrap_or("stdin".as_ref());
+    let mut name = stem.to_os_string();
+    name.push(form.ending());
+    to.join(name)
+}
+
 /// Where an output goes.
-#[derive(Debug)]
+#[derive(Clone, Debug)]
 pub struct Place {
     /// As the user calls it.
     name: PathBuf,
@@ -22,10 +35,10 @@ pub struct Place {
 /// The places of all outputs, if none of them would harm a file: an input, or without `force` any that is there.
 pub fn places<'a>(
     outputs: impl Iterator<Item = &'a Path>,
-    inputs: &[&Input],
+    inputs: &[Identity],
     force: bool,
 ) -> Result<Vec<Place>, String> {
-    let mut places: Vec<Place> = Vec::new();
+    let (mut places, mut taken) = (Vec::new(), HashSet::new());
     for name in outputs {
         let place = match fs::metadata(name) {
             Ok(there) => Place::of_file(name, &there, inputs, force),
@@ -33,7 +46,7 @@ pub fn places<'a>(
             Err(e) => Err(e.to_string()),
         };
         let place = place.map_err(|what| fault(name, what))?;
-        if places.iter().any(|other| other.path == place.path) {
+        if !taken.insert(place.path.clone()) {
             return Err(place.fault("two outputs can't be one file"));
         }
         places.push(place);
@@ -43,8 +56,8 @@ pub fn places<'a>(
 
 impl Place {
     /// A file that is there, by its own name or by links.
-    fn of_file(name: &Path, there: &Metadata, inputs: &[&Input], force: bool) -> Result<Place, String> {
-        if inputs.iter().any(|input| input.identity == Identity::of(there)) {
+    fn of_file(name: &Path, there: &Metadata, inputs: &[Identity], force: bool) -> Result<Place, String> {
+        if inputs.contains(&Identity::of(there)) {
             return Err("this file is read, and never written over".into());
         }
         if !there.is_file() {
@@ -73,10 +86,15 @@ impl Place {
         fault(&self.name, what)
     }
 
+    /// As the user calls it.
+    pub fn name(&self) -> &Path {
+        &self.name
+    }
+
     /// Writes a file beside the place: in its folder, under a name that no file has.
-    pub fn stage(self, bytes: &[u8]) -> Result<Staged, String> {
+    pub fn stage(&self, bytes: &[u8]) -> Result<Staged, String> {
         let (new, file) = new_file(&self.path).map_err(|e| self.fault(e))?;
-        let staged = Staged { new, place: self };
+        let staged = Staged { new, place: self.clone() };
         staged.fill(file, bytes).map_err(|e| staged.place.fault(e))?;
         Ok(staged)
     }
@@ -147,8 +165,8 @@ mod tests {
         fs::create_dir_all(&folder).expect("a folder");
         let name = folder.join("x.pgm");
         for force in [false, true] {
-            let mut places = places([name.as_path()].into_iter(), &[], force).expect("nothing is there");
-            let staged = places.remove(0).stage(b"new").expect("a file beside it");
+            let places = places([name.as_path()].into_iter(), &[], force).expect("nothing is there");
+            let staged = places[0].stage(b"new").expect("a file beside it");
             fs::write(&name, "another's").expect("a file is written");
             assert_eq!(staged.put(), Err(fault(&name, "File exists (os error 17)")));
             let names: Vec<_> = fs::read_dir(&folder).expect("a folder").map(|e| e.expect("a file").path()).collect();

@@ -1,16 +1,33 @@
 //! What is told of a frame, in words.
 
-use crate::srw::Frame;
+use crate::input::shown;
+use razvolk::srw::{Frame, V2Header};
 use razvolk::{Marks, Refusal};
 use std::fmt::Write;
 use std::path::Path;
 
+/// The most lines of rows that are listed.
+const MOST_LINES: usize = 12;
+
 /// What the file holds.
 pub fn heading(name: &str, frame: &Frame) -> String {
-    let Frame { coding, width, height, stream, missing } = frame;
+    let Frame { coding, width, height, stream, missing, .. } = frame;
     let mut text = format!("{name}: {coding}, {width} by {height}, {} bytes of stream", stream.len());
     if *missing > 0 {
         write!(text, ", {missing} more are missing").expect("a string");
+    }
+    text + &header(frame)
+}
+
+/// Where V2's own header says something else than the container. A header of 0 by 0 tells no size.
+fn header(frame: &Frame) -> String {
+    let Some(V2Header { width, height, depth }) = frame.v2_header() else { return String::new() };
+    let mut text = String::new();
+    if (width, height) != (0, 0) && (width, height) != (frame.width, frame.height) {
+        write!(text, "\n  its own header says {width} by {height}").expect("a string");
+    }
+    if let Some(bits) = frame.bits.filter(|&bits| bits != depth) {
+        write!(text, "\n  its own header says {depth} bits a sample, the container {bits}").expect("a string");
     }
     text
 }
@@ -26,27 +43,43 @@ pub fn answer(answer: Result<(), Refusal>) -> String {
     }
 }
 
-/// How many samples rest on old values, and in which rows.
-pub fn marks(marks: Option<Marks>, width: usize) -> String {
+/// How many samples rest on old values, and in which rows. That all the others rest on the stream is not said: bits that were
+/// missing read as ones, and what is made of them is not marked.
+pub fn marks(marks: Option<Marks>, missing: usize) -> String {
     let Some(marks) = marks else { return "nothing was decoded\n".into() };
     let (all, old) = (marks.bytes().len(), marks.count());
-    if old == 0 {
-        return format!("all {all} samples rest on the stream\n");
+    let mut text = match old {
+        0 => format!("none of {all} samples rests on what the buffer held before\n"),
+        _ => format!("{old} of {all} samples rest on what the buffer held before\n"),
+    };
+    text += &listing(&alike(marks), marks.width());
+    if missing > 0 {
+        text += "missing bytes read as ones: samples made of them are not marked\n";
     }
-    let mut text = format!("{old} of {all} samples rest on what the buffer held before\n");
-    for Rows { first, last, count } in alike(marks) {
+    text
+}
+
+/// The rows, a line for each run of them, up to so many lines.
+fn listing(runs: &[Rows], width: usize) -> String {
+    let mut text = String::new();
+    let (listed, more) = runs.split_at(runs.len().min(MOST_LINES));
+    for &Rows { first, last, count } in listed {
         match last - first {
             0 => writeln!(text, "  row {first}: {count} of {width}"),
             _ => writeln!(text, "  rows {first} to {last}: {count} of {width} each"),
         }
         .expect("a string");
     }
+    if !more.is_empty() {
+        let rows: usize = more.iter().map(|rows| rows.last - rows.first + 1).sum();
+        writeln!(text, "  and {rows} more rows").expect("a string");
+    }
     text
 }
 
-/// What is to be known of a frame that is to be written as V0: one that was refused isn't, and marks are not stored.
+/// What is to be known of a frame that is to be stored: one that was refused isn't, and marks are not stored.
 pub fn stored(path: &Path, answer: Result<(), Refusal>, marks: Option<Marks>) -> String {
-    let path = path.display();
+    let path = shown(path);
     match (answer, marks.map_or(0, Marks::count)) {
         (Err(_), _) => format!("{path}: not written, since the frame is refused\n"),
         (Ok(()), 0) => String::new(),
@@ -57,13 +90,14 @@ pub fn stored(path: &Path, answer: Result<(), Refusal>, marks: Option<Marks>) ->
 }
 
 /// Rows that follow one another and have as many marked samples each.
-struct Rows {
-    first: usize,
-    last: usize,
-    count: usize,
+pub struct Rows {
+    pub first: usize,
+    pub last: usize,
+    pub count: usize,
 }
 
-fn alike(marks: Marks) -> Vec<Rows> {
+/// All rows with marked samples.
+pub fn alike(marks: Marks) -> Vec<Rows> {
     let mut runs: Vec<Rows> = Vec::new();
     for (row, count) in marks.rows() {
         match runs.last_mut() {
@@ -72,4 +106,19 @@ fn alike(marks: Marks) -> Vec<Rows> {
         }
     }
     runs
+}
+
+#[cfg(test)]
+mod tests {
+    use super::*;
+
+    #[test]
+    fn a_long_listing_is_cut() {
+        let runs: Vec<Rows> = (0..20).map(|i| Rows { first: 10 * i, last: 10 * i + i % 2, count: 1 + i }).collect();
+        let text = listing(&runs, 40);
+        assert!(text.starts_with("  row 0: 1 of 40\n  rows 10 to 11: 2 of 40 each\n  row 20: 3 of 40\n"));
+        assert_eq!(text.lines().count(), 13);
+        assert!(text.ends_with("  rows 110 to 111: 12 of 40 each\n  and 12 more rows\n"), "{text}");
+        assert!(!listing(&runs[..12], 40).contains("more"));
+    }
 }

@@ -1,9 +1,14 @@
 //! The samples as V0, in a camera's container: a file that the tool reads again.
 
+use crate::form::Decoded;
+use razvolk::srw::{Coding, Frame};
 use razvolk::{Refusal, write_v0_to_vecs};
 
 /// Refused where a sample is above 16,383.
-pub fn file(samples: &[u16], width: usize, height: usize) -> Result<Vec<u8>, Refusal> {
+pub fn file(frame: Decoded) -> Result<Vec<u8>, Refusal> {
+    let Decoded { samples, width, height, model, .. } = frame;
     let (stream, offsets) = write_v0_to_vecs(samples, width, height)?;
-    Ok(container::file(width, height, Some(&offsets), &stream))
+    let mut coded = Frame::new(Coding::V0(offsets), width, height, &stream);
+    coded.model = model;
+    Ok(coded.to_file())
 }

@@ -1,6 +1,6 @@
 //! What a worker has: one sample buffer and a decoder, from frame to frame.
 
-use crate::srw::{Coding, Frame};
+use razvolk::srw::{Coding, Frame};
 use razvolk::{Decoder, MAX_SIDE, Marks, Refusal};
 
 /// The most samples that a frame may have here: more than twice as many as any camera's. A file of some bytes can't make the
@@ -8,23 +8,34 @@ use razvolk::{Decoder, MAX_SIDE, Marks, Refusal};
 pub const MOST_SAMPLES: usize = 1 << 26;
 
 /// The samples start at 0.
+#[derive(Default)]
 pub struct Worker {
     samples: Vec<u16>,
     decoder: Decoder,
 }
 
 impl Worker {
-    /// A worker whose buffer is long enough for each of the frames; the size of one that is too large, if there is such a
-    /// one. A side above the limit needs no samples: the decoder refuses it.
-    pub fn of(frames: &[&Frame]) -> Result<Worker, (usize, usize)> {
-        let mut most = 0;
-        for frame in frames.iter().filter(|frame| frame.width <= MAX_SIDE && frame.height <= MAX_SIDE) {
-            most = most.max(frame.width * frame.height);
-            if most > MOST_SAMPLES {
-                return Err((frame.width, frame.height));
-            }
+    /// Makes the buffer long enough for a frame; none may be too large. A side above the limit needs no samples: the decoder
+    /// refuses it.
+    pub fn make_room(&mut self, frame: &Frame) -> Result<(), String> {
+        let &Frame { width, height, .. } = frame;
+        if width > MAX_SIDE || height > MAX_SIDE {
+            return Ok(());
         }
-        Ok(Worker { samples: vec![0; most], decoder: Decoder::new() })
+        if width * height > MOST_SAMPLES {
+            let text =
+                format!("a frame of {width} by {height} is too large to look at: the limit is {MOST_SAMPLES} samples");
+            return Err(text);
+        }
+        if self.samples.len() < width * height {
+            self.samples.resize(width * height, 0);
+        }
+        Ok(())
+    }
+
+    /// Sets the samples to 0, as they were at the start.
+    pub fn clear(&mut self) {
+        self.samples.fill(0);
     }
 
     /// Decodes a frame over what the buffer holds.

@@ -3,14 +3,16 @@
 use super::any::Header;
 use super::{colour, fresh_length, position};
 use crate::bits::{self, Writer};
-use crate::random::Random;
 use crate::{Frame, Version};
 
 /// Encodes an image of 14 bits a sample. The last columns, which make no whole block, are not coded.
 pub fn encode(image: &[u16], width: usize, height: usize) -> Frame {
     let header = Header { depth: 14, options: 0, initial: 4_000 };
     let mut writer = Writer::default();
-    header.write(&mut Random::new(1), &mut writer);
+    // As the format's fields are: version and format, depth, unit and ratio, size, tile, options, overlap and the like, initial.
+    let fields = [(0, 20), (header.depth - 1, 4), (0, 8), (width as u32, 16), (height as u32, 16), (0, 16), (0, 4)];
+    let more = [(header.options, 4), (0, 26), (header.initial, 14)];
+    fields.into_iter().chain(more).for_each(|(value, bits)| writer.put(value, bits));
     let mut offsets = Vec::new();
     for row in 0..height {
         offsets.push(writer.len() as u32);

@@ -1,8 +1,16 @@
 //! A folder for one test, in which the built tool is run.
 
+use razvolk::srw::{self, Coding};
 use std::fs;
 use std::path::PathBuf;
 use std::process::Command;
+use streams::{Frame, Version};
+
+/// A file that holds the frame.
+pub fn srw(frame: &Frame) -> Vec<u8> {
+    let coding = if frame.version == Version::V0 { Coding::V0(frame.offsets.clone()) } else { Coding::V2 };
+    srw::Frame::new(coding, frame.width, frame.height, &frame.stream).to_file()
+}
 
 /// The exit status, and what is printed to standard output and to standard error.
 pub type Ran = (i32, String, String);
@@ -54,10 +62,20 @@ pub fn done(text: &str) -> Ran {
     (0, text.into(), String::new())
 }
 
+/// Done, and something of it is old or missing.
+pub fn marked(text: &str) -> Ran {
+    (3, text.into(), String::new())
+}
+
 pub fn refused(text: &str) -> Ran {
     (1, text.into(), String::new())
 }
 
 pub fn bad(text: &str) -> Ran {
     (2, String::new(), format!("razvolk: {text}\n"))
+}
+
+/// A line that the tool does not understand.
+pub fn misread(text: &str) -> Ran {
+    bad(&format!("{text}\nrazvolk --help lists what there is"))
 }

@@ -1,23 +1,23 @@
 //! What is printed of a frame, and written of it.
 
-use crate::folder::{Folder, Ran, bad, done, refused};
+use crate::folder::{Folder, Ran, bad, done, marked, misread, refused, srw};
 use std::fs;
 use std::path::PathBuf;
-use streams::images::{christening, sitting};
-use streams::srw::{self, LONG, SHORT, directory};
+use std::process::Command;
+use streams::images::{christening, photo, sitting};
 use streams::v0::encode::with_band;
 use streams::{Frame, Version, v0, v2};
 
 #[test]
 fn a_frame_over_another() {
     let folder = Folder::new("over");
-    folder.put("first.srw", srw::file(&v0::encode(&sitting(40, 6), 40, 6)));
-    folder.put("next.srw", srw::file(&with_band(&christening(40, 6), 40, 6, 2)));
+    folder.put("first.srw", srw(&v0::encode(&sitting(40, 6), 40, 6)));
+    folder.put("next.srw", srw(&with_band(&christening(40, 6), 40, 6, 2)));
     let text = "over first.srw: V0, 40 by 6, 408 bytes of stream\ndone\nnext.srw: V0, 40 by 6, 200 bytes of stream\ndone\n\
         80 of 240 samples rest on what the buffer held before\n  rows 0 to 1: 40 of 40 each\n";
-    assert_eq!(folder.run("--over first.srw next.srw --pgm next.pgm --png next.png --planes planes.png"), done(text));
+    assert_eq!(folder.run("--over first.srw next.srw --pgm next.pgm --png next.png --planes planes.png"), marked(text));
     let pgm = folder.get("next.pgm").expect("samples");
-    assert_eq!((&pgm[..13], pgm.len()), (&b"P5\n40 6\n65535"[..], 14 + 480));
+    assert_eq!((&pgm[..13], pgm.len()), (&b"P5\n40 6\n16383"[..], 14 + 480));
     for (name, width, height) in [("next.png", 40, 6), ("planes.png", 80, 3)] {
         let picture = folder.get(name).expect("a picture");
         assert!(picture.starts_with(b"\x89PNG\r\n\x1a\n"));
@@ -29,11 +29,11 @@ fn a_frame_over_another() {
 #[test]
 fn the_readme_shows_what_the_tool_does() {
     let folder = Folder::new("readme");
-    folder.put("sitting.srw", srw::file(&v0::encode(&sitting(320, 200), 320, 200)));
-    folder.put("christening.srw", srw::file(&with_band(&christening(320, 200), 320, 200, 24)));
+    folder.put("sitting.srw", srw(&v0::encode(&sitting(320, 200), 320, 200)));
+    folder.put("christening.srw", srw(&with_band(&christening(320, 200), 320, 200, 24)));
     let (status, text, _) = folder.run("--over sitting.srw christening.srw --png marked.png");
     let top = PathBuf::from(env!("CARGO_MANIFEST_DIR")).join("../..");
-    assert!(status == 0 && folder.get("marked.png") == fs::read(top.join("docs/marked.png")).ok());
+    assert!(status == 3 && folder.get("marked.png") == fs::read(top.join("docs/marked.png")).ok());
     let readme = fs::read_to_string(top.join("README.md")).expect("README.md");
     let shown: String = text.lines().map(|line| format!("    {line}\n")).collect();
     assert!(readme.contains(&shown), "the README has\n{shown}");
@@ -46,11 +46,11 @@ fn bare_streams() {
     folder.put("offsets", "0 4\n");
     let text = "v0: V0, 2 by 2, 12 bytes of stream\ndone\n2 of 4 samples rest on what the buffer held before\n  \
         rows 0 to 1: 1 of 2 each\n";
-    assert_eq!(folder.run("--v0 2x2 --offsets offsets v0 --pgm v0.pgm"), done(text));
-    assert_eq!(folder.get("v0.pgm").expect("samples"), b"P5\n2 2\n65535\n\0\0\0\x83\0\0\0\x7e");
+    assert_eq!(folder.run("--v0 2x2 --offsets offsets v0 --pgm v0.pgm"), marked(text));
+    assert_eq!(folder.get("v0.pgm").expect("samples"), b"P5\n2 2\n16383\n\0\0\0\x83\0\0\0\x7e");
     folder.put("v0", [0x18, 0x20, 0xa0, 0x7f, 0, 0, 0x70, 0, 0x08, 0, 0xa0, 0xff, 0, 0, 0, 0]);
     folder.put("offsets", "0,8");
-    let text = "v0: V0, 2 by 2, 16 bytes of stream\ndone\nall 4 samples rest on the stream\n";
+    let text = "v0: V0, 2 by 2, 16 bytes of stream\ndone\nnone of 4 samples rests on what the buffer held before\n";
     assert_eq!(folder.run("--v0 2x2 --offsets offsets v0"), done(text));
     folder.put("v2", [0; 16]);
     let text = "v2: V2, 646 by 436, 16 bytes of stream\nrefused 8, row 0: the stream ends in row 0\n\
@@ -69,17 +69,40 @@ fn stored(folder: &Folder, line: &str) -> (Ran, Ran) {
 fn a_frame_written_as_v0_is_read_again() {
     for (width, height) in [(40, 6), (33, 7), (1, 5), (320, 200)] {
         let folder = Folder::new(&format!("stored_{width}"));
-        folder.put("a.srw", srw::file(&v0::encode(&sitting(width, height), width, height)));
+        folder.put("a.srw", srw(&v0::encode(&sitting(width, height), width, height)));
         let (first, again) = stored(&folder, "a.srw");
         assert!(first.0 == 0 && first.2.is_empty(), "{first:?}");
-        let len = folder.get("stored.srw").expect("a file").len() - 140 - 4 * height;
+        let file = folder.get("stored.srw").expect("a file");
+        let len = razvolk::srw::frame(&file).expect("a frame").stream.len();
         let n = width * height;
         let text = format!(
-            "stored.srw: V0, {width} by {height}, {len} bytes of stream\ndone\nall {n} samples rest on the stream\n"
+            "stored.srw: V0, {width} by {height}, {len} bytes of stream\ndone\nnone of {n} samples rests on what the buffer held \
+             before\n"
         );
         assert_eq!(again, done(&text));
         assert!(folder.get("again.pgm") == folder.get("first.pgm") && folder.get("again.pgm").is_some());
     }
+}
+
+#[test]
+fn a_v0_frame_written_as_v2_is_read_again() {
+    let folder = Folder::new("to_v2");
+    folder.put("a.srw", srw(&v0::encode(&sitting(656, 436), 656, 436)));
+    let (status, _, fault) = folder.run("a.srw --pgm first.pgm --to-v2 b.srw");
+    assert_eq!((status, fault.as_str()), (0, ""));
+    let (status, text, fault) = folder.run("b.srw --pgm again.pgm");
+    assert_eq!((status, fault.as_str()), (0, ""));
+    assert!(text.starts_with("b.srw: V2, 656 by 436, "), "{text}");
+    let samples = |name| folder.get(name).expect("a file").split_off(15);
+    assert!(samples("first.pgm").ends_with(&samples("again.pgm")[9..]), "the samples are the same");
+
+    let (status, _, fault) = folder.run("b.srw --to-v2 c.srw");
+    assert_eq!((status, fault.as_str()), (2, "razvolk: c.srw: is V2 already\n"));
+    folder.put("odd.srw", srw(&v0::encode(&sitting(655, 436), 655, 436)));
+    let (status, _, fault) = folder.run("odd.srw --to-v2 c.srw");
+    let said = "razvolk: c.srw: can't be written as V2: the width is no multiple of 16\n";
+    assert_eq!((status, fault.as_str()), (2, said));
+    assert!(folder.get("c.srw").is_none());
 }
 
 #[test]
@@ -90,8 +113,9 @@ fn a_frame_of_no_samples_is_written_as_v0() {
     for size in ["5x0", "0x3"] {
         let (status, ..) = folder.run(&format!("--v0 {size} --offsets offsets none --write-v0 stored.srw --force"));
         let (width, height) = size.split_once('x').expect("a size");
-        let text =
-            format!("stored.srw: V0, {width} by {height}, 0 bytes of stream\ndone\nall 0 samples rest on the stream\n");
+        let text = format!(
+            "stored.srw: V0, {width} by {height}, 0 bytes of stream\ndone\nnone of 0 samples rests on what the buffer held before\n"
+        );
         assert_eq!((status, folder.run("stored.srw")), (0, done(&text)));
     }
 }
@@ -99,12 +123,12 @@ fn a_frame_of_no_samples_is_written_as_v0() {
 #[test]
 fn samples_that_rest_on_old_values_are_stored_and_told_of() {
     let folder = Folder::new("stored_marked");
-    folder.put("v2.srw", srw::file(&v2::encode(&christening(646, 436), 646, 436)));
+    folder.put("v2.srw", srw(&v2::encode(&christening(646, 436), 646, 436)));
     let ((status, text, fault), again) = stored(&folder, "v2.srw");
-    assert!(status == 0 && fault.is_empty());
+    assert!(status == 3 && fault.is_empty());
     let told = "stored.srw: 2616 samples that rest on what the buffer held are stored, and not marked";
     assert_eq!(text.lines().last(), Some(told));
-    assert!(again.1.ends_with("done\nall 281656 samples rest on the stream\n"), "{again:?}");
+    assert!(again.1.ends_with("done\nnone of 281656 samples rests on what the buffer held before\n"), "{again:?}");
     assert!(folder.get("again.pgm") == folder.get("first.pgm"));
 }
 
@@ -113,9 +137,9 @@ fn what_cannot_be_written_as_v0() {
     let folder = Folder::new("not_stored");
     // A sample above 16,383: refusal 9, and nothing is written, the samples neither.
     let bright: Vec<u16> = (0..240).map(|i| if i == 77 { 16_384 } else { 1_000 }).collect();
-    folder.put("bright.srw", srw::file(&v0::encode(&bright, 40, 6)));
+    folder.put("bright.srw", srw(&v0::encode(&bright, 40, 6)));
     let (status, text, fault) = folder.run("bright.srw --pgm x.pgm --write-v0 x.srw");
-    assert_eq!((status, text.lines().last()), (2, Some("all 240 samples rest on the stream")));
+    assert_eq!((status, text.lines().last()), (2, Some("none of 240 samples rests on what the buffer held before")));
     assert_eq!(fault, "razvolk: x.srw: can't be written as V0: a sample is above 16,383\n");
     assert_eq!(folder.names(), ["bright.srw"]);
     // A frame that is refused: its picture is written, and no frame that would pass for a whole one.
@@ -155,28 +179,26 @@ fn bad_input() {
     folder.put("offsets", "0 x");
     folder.put("none", []);
     assert_eq!(folder.run("text"), bad("text: not a TIFF file"));
-    assert_eq!(folder.run("--over text none"), bad("none: not a TIFF file"));
+    assert_eq!(folder.run("--over text none"), bad("text: not a TIFF file"));
     assert_eq!(folder.run("gone"), bad("gone: No such file or directory (os error 2)"));
-    assert_eq!(folder.run("."), bad(".: Is a directory (os error 21)"));
+    assert_eq!(folder.run("."), bad(".: no .srw file is in this folder"));
     assert_eq!(folder.run("--v0 2x2 --offsets offsets text"), bad("offsets: x is no number below 2^32"));
-    assert_eq!(folder.run("--what"), bad("there is no option --what"));
+    assert_eq!(folder.run("--what"), misread("there is no option --what"));
     let text = "a frame of 16384 by 16384 is too large to look at: the limit is 67108864 samples";
-    assert_eq!(folder.run("--v2 16384x16384 none"), bad(text));
-    let mut file = b"II*\0\x08\0\0\0".to_vec();
-    file.extend(directory(&[(256, LONG, 16_384), (257, LONG, 16_384), (259, SHORT, 32_773), (273, LONG, 8)]));
-    folder.put("large.srw", file);
-    assert_eq!(folder.run("large.srw"), bad(text));
+    assert_eq!(folder.run("--v2 16384x16384 none"), bad(&format!("none: {text}")));
+    folder.put("large.srw", srw(&Frame::new(Version::V2, 16_384, 16_384)));
+    assert_eq!(folder.run("large.srw"), bad(&format!("large.srw: {text}")));
 }
 
 #[test]
 fn output_that_cannot_be_written() {
     let folder = Folder::new("output");
-    folder.put("v2.srw", srw::file(&Frame { stream: vec![0; 16], ..Frame::new(Version::V2, 646, 436) }));
+    folder.put("v2.srw", srw(&Frame { stream: vec![0; 16], ..Frame::new(Version::V2, 646, 436) }));
     let (status, _, fault) = folder.run("v2.srw --pgm gone/x.pgm");
     assert_eq!((status, fault.as_str()), (2, "razvolk: gone/x.pgm: No such file or directory (os error 2)\n"));
     folder.put("offsets", "");
     let (status, text, fault) = folder.run("--v0 5x0 --offsets offsets offsets --png x.png");
-    assert_eq!((status, text.lines().last()), (2, Some("all 0 samples rest on the stream")));
+    assert_eq!((status, text.lines().last()), (2, Some("none of 0 samples rests on what the buffer held before")));
     assert_eq!(fault, "razvolk: x.png: a frame of no samples makes no picture\n");
 }
 
@@ -185,14 +207,17 @@ fn help_and_version() {
     let folder = Folder::new("help");
     let (status, text, _) = folder.run("--help");
     assert!(status == 0 && text.contains("usage: razvolk") && text.contains("exit status"));
-    assert_eq!(folder.run("--version"), done(concat!("razvolk ", env!("CARGO_PKG_VERSION"), "\n")));
-    assert_eq!(folder.run(""), bad("no file is named"));
+    assert!([0, 1, 2, 3].iter().all(|status| text.contains(&format!("\n  {status}  "))), "each status is listed");
+    for word in ["--version", "-V"] {
+        assert_eq!(folder.run(word), done(concat!("razvolk ", env!("CARGO_PKG_VERSION"), "\n")));
+    }
+    assert_eq!(folder.run(""), misread("no file is named"));
 }
 
 #[test]
 fn damaged_files_end_with_an_answer() {
     let folder = Folder::new("damaged");
-    let file = srw::file(&with_band(&christening(20, 5), 20, 5, 1));
+    let file = srw(&with_band(&christening(20, 5), 20, 5, 1));
     for i in 0..60 {
         let mut damaged = file.clone();
         let at = i * 37 % damaged.len();
@@ -200,6 +225,135 @@ fn damaged_files_end_with_an_answer() {
         damaged.truncate(file.len() - i * 5 % 200);
         folder.put("damaged.srw", damaged);
         let (status, _, fault) = folder.run("damaged.srw");
-        assert!((0..=2).contains(&status) && fault.is_empty() == (status < 2), "{i}: {status} {fault}");
+        assert!((0..=3).contains(&status) && fault.is_empty() == (status != 2), "{i}: {status} {fault}");
     }
+}
+
+/// A V0 frame that is cut at two thirds is not called clean, though no sample of it is marked.
+#[test]
+fn a_frame_that_is_cut_is_not_clean() {
+    let folder = Folder::new("cut");
+    let whole = srw(&v0::encode(&sitting(320, 200), 320, 200));
+    folder.put("cut.srw", &whole[..whole.len() * 2 / 3]);
+    let (status, text, fault) = folder.run("cut.srw");
+    assert_eq!((status, fault.as_str()), (3, ""));
+    assert!(text.lines().next().is_some_and(|line| line.ends_with("more are missing")), "{text}");
+    assert!(!text.contains("rest on the stream") && text.contains("\nmissing bytes read as ones"), "{text}");
+}
+
+#[test]
+fn names_do_not_steer_the_terminal() {
+    let folder = Folder::new("names");
+    let name = "a\u{1b}[2J\nb.srw";
+    folder.put(name, srw(&v0::encode(&sitting(40, 6), 40, 6)));
+    let tool = env!("CARGO_BIN_EXE_razvolk");
+    let (status, text, _) = folder.ran(Command::new(tool).arg(name));
+    assert!(status == 0 && text.starts_with("a\\u{1b}[2J\\nb.srw: V0"), "{text}");
+    let (_, text, _) = folder.ran(Command::new(tool).args(["--json", name]));
+    assert!(text.starts_with("{\"file\":\"a\\u001b[2J\\u000ab.srw\","), "{text}");
+    let (status, _, fault) = folder.ran(Command::new(tool).arg("gone\r"));
+    assert!(status == 2 && fault.starts_with("razvolk: gone\\r: "), "{fault}");
+}
+
+#[test]
+fn an_object_for_each_frame() {
+    let folder = Folder::new("json");
+    folder.put("a.srw", srw(&with_band(&christening(40, 6), 40, 6, 2)));
+    folder.put("b", "no TIFF");
+    folder.put("c.srw", srw(&Frame { stream: vec![0; 16], ..Frame::new(Version::V2, 646, 436) }));
+    let (status, text, fault) = folder.run("--json a.srw b c.srw");
+    assert_eq!((status, fault.as_str()), (2, ""));
+    let lines: Vec<&str> = text.lines().collect();
+    let a = "{\"file\":\"a.srw\",\"version\":\"V0\",\"width\":40,\"height\":6,\"stream_bytes\":200,\"missing_bytes\":0,\
+        \"answer\":0,\"row\":0,\"text\":\"done\",\"samples\":240,\"old\":80,\"rows\":[{\"first\":0,\"last\":1,\"old\":40}]}";
+    assert_eq!(lines[..2], [a, "{\"file\":\"b\",\"error\":\"b: not a TIFF file\"}"]);
+    assert!(lines[2].contains("\"answer\":8,\"row\":0,\"text\":\"the stream ends in row 0\""), "{}", lines[2]);
+    assert_eq!(lines.len(), 3);
+    let (status, text, _) = folder.run("--v2 645x436 --json b");
+    assert!(status == 1 && text.contains("\"answer\":2,\"row\":0") && !text.contains("\"old\""), "{text}");
+}
+
+#[test]
+fn files_and_folders_at_once() {
+    let folder = Folder::new("several");
+    for i in 0..9 {
+        let frame =
+            if i % 3 == 0 { with_band(&christening(40, 6), 40, 6, 2) } else { v0::encode(&sitting(40, 6), 40, 6) };
+        folder.put(&format!("{i}.SRW"), srw(&frame));
+    }
+    folder.put("other.txt", "no frame");
+    fs::create_dir(folder.0.join("out")).expect("a folder");
+    let tells = |jobs: usize| folder.run(&format!(". --jobs {jobs}"));
+    let (status, text, fault) = tells(1);
+    assert_eq!((status, fault.as_str()), (3, ""));
+    let names: Vec<&str> = text.lines().filter(|line| line.contains(": V0, ")).map(|line| &line[..8]).collect();
+    assert_eq!(
+        names,
+        ["./0.SRW:", "./1.SRW:", "./2.SRW:", "./3.SRW:", "./4.SRW:", "./5.SRW:", "./6.SRW:", "./7.SRW:", "./8.SRW:"]
+    );
+    let summary = "9 files: 6 clean, 3 with samples old or missing, 0 refused, 0 not read or written";
+    assert_eq!(text.lines().last(), Some(summary));
+    for jobs in [2, 5, 100] {
+        assert_eq!(tells(jobs), (status, text.clone(), String::new()), "{jobs} workers tell the same");
+    }
+    let (status, text, fault) = folder.run("1.SRW gone other.txt --jobs 3");
+    assert_eq!(status, 2);
+    assert!(
+        text.ends_with("3 files: 1 clean, 0 with samples old or missing, 0 refused, 2 not read or written\n"),
+        "{text}"
+    );
+    assert_eq!(fault, "razvolk: gone: No such file or directory (os error 2)\nrazvolk: other.txt: not a TIFF file\n");
+}
+
+#[test]
+fn outputs_of_several_files_go_to_a_folder() {
+    let folder = Folder::new("several_outputs");
+    let band = srw(&with_band(&christening(40, 6), 40, 6, 2));
+    for (name, file) in [("a.srw", &srw(&v0::encode(&sitting(40, 6), 40, 6))), ("b.srw", &band), ("c.srw", &band)] {
+        folder.put(name, file);
+    }
+    let line = "a.srw b.srw c.srw --jobs 1 --pgm out --png out --planes out --write-v0 out";
+    assert_eq!(folder.run(line), bad("out: outputs of several files go to a folder that is there"));
+    let out = Folder::new("several_outputs/out");
+    assert_eq!(folder.run(line).0, 3);
+    let names =
+        ["a", "b", "c"].map(|name| ["-planes.png", "-v0.srw", ".pgm", ".png"].map(|end| format!("{name}{end}")));
+    assert_eq!(out.names(), names.concat());
+    // What isn't marked by the stream is 0 in each, not what the file before left.
+    assert!(out.get("b.pgm") == out.get("c.pgm"));
+    assert_eq!(out.get("c.pgm").expect("samples")[14..16], [0, 0]);
+    // One of them is there: none is written.
+    let before = out.get("b.png");
+    assert_eq!(folder.run("c.srw b.srw --png out"), bad("out/c.png: there already; --force replaces it"));
+    assert_eq!(folder.run("a.srw ./a.srw --pgm out --force"), bad("out/a.pgm: two outputs can't be one file"));
+    assert_eq!(out.get("b.png"), before);
+}
+
+#[test]
+fn standard_input() {
+    let folder = Folder::new("stdin");
+    folder.put("a.srw", srw(&v0::encode(&sitting(40, 6), 40, 6)));
+    let tool = env!("CARGO_BIN_EXE_razvolk");
+    let by_shell = |line: &str| folder.ran(Command::new("sh").args(["-c", &line.replace("razvolk", tool)]));
+    let text = "-: V0, 40 by 6, 408 bytes of stream\ndone\nnone of 240 samples rests on what the buffer held before\n";
+    assert_eq!(by_shell("cat a.srw | razvolk -"), done(text));
+    assert_eq!(by_shell("razvolk - --pgm . < a.srw"), done(text));
+    assert_eq!(folder.names(), ["a.srw", "stdin.pgm"]);
+    assert_eq!(
+        by_shell("razvolk - --pgm a.srw --force < a.srw"),
+        bad("a.srw: this file is read, and never written over")
+    );
+}
+
+/// A noisy picture takes about as many bits a pixel as its noise has.
+#[test]
+fn pictures_are_small() {
+    let folder = Folder::new("small");
+    let image = photo(400, 300, 60.0, 1);
+    folder.put("a.srw", srw(&v0::encode(&image, 400, 300)));
+    assert_eq!(folder.run("a.srw --png a.png").0, 0);
+    assert_eq!(folder.run("a.srw --half --png half.png").0, 0);
+    let [whole, half] = ["a.png", "half.png"].map(|name| folder.get(name).expect("a picture"));
+    assert!(whole.len() < 400 * 300 * 5 / 8, "{} bytes", whole.len());
+    assert_eq!(half[16..24], [0, 0, 0, 200, 0, 0, 0, 150]);
 }

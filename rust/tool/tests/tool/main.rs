@@ -1,5 +1,6 @@
-//! The built tool as its user runs it: what it prints, what it writes, and how it ends.
+//! The tool: its library on files, and the built program as its user runs it, what it prints, what it writes, and how it ends.
 
+mod files;
 mod folder;
 mod looks;
 mod outputs;

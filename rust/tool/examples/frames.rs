@@ -5,10 +5,11 @@
 //! - `christening-v2.srw`: V2, of a width that 16 does not divide;
 //! - `small.srw`, `small-v2.srw`: a V0 frame of 20 by 5, and a V2 frame that breaks off in row 37, to damage.
 
+use razvolk::srw::{self, Coding};
 use std::path::Path;
 use std::{env, fs, io};
 use streams::images::{christening, sitting};
-use streams::{srw, v0, v2};
+use streams::{Frame, Version, v0, v2};
 
 fn main() -> io::Result<()> {
     let folder = env::args_os().nth(1).ok_or_else(|| io::Error::other("usage: frames FOLDER"))?;
@@ -21,7 +22,12 @@ fn main() -> io::Result<()> {
         ("small.srw", v0::encode::with_band(&christening(20, 5), 20, 5, 1)),
         ("small-v2.srw", v2.cut(3_000)),
     ] {
-        fs::write(Path::new(&folder).join(name), srw::file(&frame))?;
+        fs::write(Path::new(&folder).join(name), file(frame))?;
     }
     Ok(())
+}
+
+fn file(frame: Frame) -> Vec<u8> {
+    let coding = if frame.version == Version::V0 { Coding::V0(frame.offsets) } else { Coding::V2 };
+    srw::Frame::new(coding, frame.width, frame.height, &frame.stream).to_file()
 }

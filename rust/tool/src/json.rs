@@ -1,0 +1,54 @@
+//! What is told of a frame, for scripts: one object a frame, on a line of its own.
+
+use crate::report::{Rows, alike};
+use razvolk::srw::Frame;
+use razvolk::{Marks, Refusal};
+use std::fmt::Write;
+use std::path::Path;
+
+/// A frame that was decoded, or refused.
+pub fn frame(path: &Path, frame: &Frame, answer: Result<(), Refusal>, marks: Option<Marks>) -> String {
+    let Frame { coding, width, height, stream, missing, .. } = frame;
+    let (number, row) = answer.err().map_or((0, 0), |refusal| (refusal.number(), refusal.row()));
+    let text = answer.err().map_or("done".into(), |refusal| refusal.to_string());
+    let file = string(&path.to_string_lossy());
+    let mut line = format!("{{\"file\":{file},\"version\":\"{coding}\",\"width\":{width},\"height\":{height}");
+    let bytes = stream.len();
+    write!(line, ",\"stream_bytes\":{bytes},\"missing_bytes\":{missing},\"answer\":{number},\"row\":{row}")
+        .expect("a string");
+    write!(line, ",\"text\":{}", string(&text)).expect("a string");
+    if let Some(marks) = marks {
+        let run = |Rows { first, last, count }| format!("{{\"first\":{first},\"last\":{last},\"old\":{count}}}");
+        let runs: Vec<String> = alike(marks).into_iter().map(run).collect();
+        let (samples, old) = (marks.bytes().len(), marks.count());
+        write!(line, ",\"samples\":{samples},\"old\":{old},\"rows\":[{}]", runs.join(",")).expect("a string");
+    }
+    line + "}\n"
+}
+
+/// A file that has no frame, or can't be read or written.
+pub fn fault(path: &Path, what: &str) -> String {
+    format!("{{\"file\":{},\"error\":{}}}\n", string(&path.to_string_lossy()), string(what))
+}
+
+fn string(text: &str) -> String {
+    let mut quoted = String::from('"');
+    for c in text.chars() {
+        match c {
+            '"' | '\\' => quoted.extend(['\\', c]),
+            c if c < ' ' || c == '\u{7f}' => write!(quoted, "\\u{:04x}", u32::from(c)).expect("a string"),
+            c => quoted.push(c),
+        }
+    }
+    quoted + "\""
+}
+
+#[cfg(test)]
+mod tests {
+    use super::string;
+
+    #[test]
+    fn strings_are_quoted() {
+        assert_eq!(string("a\"b\\c\n\u{1b}ö"), "\"a\\\"b\\\\c\\u000a\\u001bö\"");
+    }
+}

@@ -1,0 +1,164 @@
+//! The library on files that are made, damaged, and made to do harm.
+
+use crate::folder::srw;
+use razvolk::Refusal;
+use razvolk::srw::{Coding, Frame, frame};
+use razvolk_tool::look::seen;
+use razvolk_tool::report;
+use razvolk_tool::worker::Worker;
+use streams::images::{christening, sitting};
+use streams::random::Random;
+use streams::{v0, v2};
+
+/// A V0 frame of 20 by 5 in its file; the table stands right before the strip.
+fn small() -> (streams::Frame, Vec<u8>) {
+    let made = v0::encode::with_band(&christening(20, 5), 20, 5, 1);
+    let file = srw(&made);
+    (made, file)
+}
+
+fn worker_for(frames: &[&Frame]) -> Worker {
+    let mut worker = Worker::default();
+    frames.iter().try_for_each(|frame| worker.make_room(frame)).expect("few samples");
+    worker
+}
+
+#[test]
+fn a_frame_is_found_and_decoded() {
+    let (width, height) = (320, 200);
+    let image = sitting(width, height);
+    let made = v0::encode(&image, width, height);
+    let file = srw(&made);
+    let found = frame(&file).expect("a frame");
+    let mut expected = Frame::new(Coding::V0(made.offsets.clone()), width, height, &made.stream);
+    (expected.model, expected.bits) = (Some("Razvolk"), Some(14));
+    assert_eq!(found, expected);
+    let mut worker = worker_for(&[&found]);
+    assert_eq!(worker.decode(&found), Ok(()));
+    let (samples, marks) = worker.frame().expect("the frame is done");
+    assert!(samples == image && marks.is_clean());
+}
+
+#[test]
+fn a_band_of_another_frame_is_marked() {
+    let (width, height) = (320, 200);
+    let first = v0::encode(&sitting(width, height), width, height);
+    let made = [first, v0::encode::with_band(&christening(width, height), width, height, 24)];
+    let files = made.map(|made| srw(&made));
+    let [over, band] = [0, 1].map(|i| frame(&files[i]).expect("a frame"));
+    let mut worker = worker_for(&[&over, &band]);
+    assert_eq!([worker.decode(&over), worker.decode(&band)], [Ok(()), Ok(())]);
+    let (samples, marks) = worker.frame().expect("the frame is done");
+    assert!(marks.bytes().iter().enumerate().all(|(i, &mark)| mark == u8::from(i < 24 * width)));
+    let first = sitting(width, height);
+    assert_eq!(samples[20 * width], first[0], "the band carries down what the first rows held");
+    assert_eq!(samples[24 * width..], christening(width, height)[24 * width..]);
+    let text = "7680 of 64000 samples rest on what the buffer held before\n  rows 0 to 23: 320 of 320 each\n";
+    assert_eq!(report::marks(Some(marks), 0), text);
+}
+
+#[test]
+fn a_v2_frame_is_found_and_decoded() {
+    let image = christening(646, 436);
+    let file = srw(&v2::encode(&image, 646, 436));
+    let found = frame(&file).expect("a frame");
+    assert_eq!((&found.coding, found.width, found.height), (&Coding::V2, 646, 436));
+    let mut worker = worker_for(&[&found]);
+    assert_eq!(worker.decode(&found), Ok(()));
+    let (samples, marks) = worker.frame().expect("the frame is done");
+    for (i, (sample, mark)) in samples.iter().zip(marks.bytes()).enumerate() {
+        let coded = i % 646 < 640;
+        assert_eq!((*sample, *mark), if coded { (image[i], 0) } else { (0, 1) }, "sample {i}");
+    }
+    let text = "2616 of 281656 samples rest on what the buffer held before\n  rows 0 to 435: 6 of 646 each\n";
+    assert_eq!(report::marks(Some(marks), 0), text);
+}
+
+#[test]
+fn a_file_broken_off_is_decoded_as_far_as_it_goes() {
+    let (made, file) = small();
+    for len in 0..file.len() {
+        let _ = seen(&file[..len]);
+    }
+    let text = seen(&file[..file.len() - 9]).expect("a frame");
+    assert!(
+        text.starts_with(&format!("file: V0, 20 by 5, {} bytes of stream, 9 more are missing", made.stream.len() - 9))
+    );
+}
+
+#[test]
+fn every_byte_may_be_wrong() {
+    let (_, file) = small();
+    let mut damaged = file.clone();
+    for i in 0..file.len() {
+        for value in [0, 1, 0x7f, 0x80, 0xff, file[i] ^ 1, file[i] ^ 0x80] {
+            damaged[i] = value;
+            let _ = seen(&damaged);
+        }
+        damaged[i] = file[i];
+    }
+}
+
+#[test]
+fn many_bytes_may_be_wrong() {
+    let (_, file) = small();
+    let mut random = Random::new(1);
+    let mut faults = 0;
+    for _ in 0..20_000 {
+        let mut damaged = file.clone();
+        for _ in 0..=random.below(6) {
+            // Mostly in the directories.
+            let within = if random.once_in(4) { file.len() } else { 250 };
+            let at = random.index(within);
+            damaged[at] = match random.below(4) {
+                0 => 0,
+                1 => 0xff,
+                2 => random.below(256) as u8,
+                _ => damaged[at] ^ 1 << random.below(8),
+            };
+        }
+        if random.once_in(4) {
+            damaged.truncate(random.index(file.len()));
+        }
+        faults += usize::from(seen(&damaged).is_err());
+    }
+    assert!((2_000..18_000).contains(&faults), "{faults} of 20000 are faults");
+}
+
+#[test]
+fn sizes_without_end_cost_no_memory() {
+    for (width, height) in [(u32::MAX as usize, u32::MAX as usize), (16_385, 0), (0, u32::MAX as usize)] {
+        let frame = Frame::new(Coding::V2, width, height, &[]);
+        let mut worker = worker_for(&[&frame]);
+        assert_eq!(worker.decode(&frame), Err(Refusal::TooLarge));
+        assert!(worker.frame().is_none());
+    }
+    // A size within the decoder's limits may still be too much for a look.
+    assert!(Worker::default().make_room(&Frame::new(Coding::V2, 16_384, 16_384, &[])).is_err());
+}
+
+#[test]
+fn a_header_that_differs_is_told() {
+    let made = v2::encode(&christening(646, 436), 646, 436);
+    let heading = |frame: &Frame| report::heading("file", frame);
+    let mut frame = Frame::new(Coding::V2, 646, 436, &made.stream);
+    let plain = format!("file: V2, 646 by 436, {} bytes of stream", made.stream.len());
+    assert_eq!(heading(&frame), plain);
+    frame.bits = Some(14);
+    assert_eq!(heading(&frame), plain);
+    (frame.width, frame.bits) = (662, Some(12));
+    let differs = "\n  its own header says 646 by 436\n  its own header says 14 bits a sample, the container 12";
+    assert_eq!(heading(&frame), plain.replace("646 by", "662 by") + differs);
+    frame.bits = None;
+    assert!(!heading(&frame).contains("bits a sample"));
+    let untold = Frame::new(Coding::V2, 646, 436, &[0, 0x0d, 0, 0, 0, 0, 0, 0, 0, 0, 0, 0, 0, 0, 0, 0]);
+    assert!(!heading(&untold).contains("header"), "0 by 0 tells no size");
+}
+
+#[test]
+fn answers_in_words() {
+    assert_eq!(report::answer(Ok(())), "done");
+    assert_eq!(report::answer(Err(Refusal::Overrun { row: 9 })), "refused 8, row 9: the stream ends in row 9");
+    assert_eq!(report::answer(Err(Refusal::TooLarge)), "refused 1: width or height is above 16,384");
+    assert_eq!(report::marks(None, 0), "nothing was decoded\n");
+}
