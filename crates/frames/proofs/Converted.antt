@@ -1,7 +1,7 @@
 -- What a call of the converter that is done leaves: a V2 stream that is accepted, whatever lies past it, and decoded over any
 -- buffer gives the frame that the V0 decoder left, with no word missing and no map byte other than 0.
 use Prim.Native.Nat.{ℕ, _*_, _%_, _^_, _<_, _≤_}
-use mathlib.Core.Bool.{Bool, true, false, _||_, cond}
+use mathlib.Core.Bool.{Bool, true, false, cond}
 use mathlib.Core.Path.{_≡_, refl, sym, ap, _∙_}
 use mathlib.Core.List.{List, [], _++_}
 use native.Mathlib.Omega.{arith}
@@ -11,11 +11,9 @@ use lib.Seq.{length-take-le}
 use borrow.Author.Tests.{ltb-false, eqb-true, eqb-false}
 use Rattle.rules.specs.declared.answer.Size.{Size}
 use Rattle.rules.specs.Frame.{cells}
-use Rattle.rules.specs.Answer.{Ask, ask, Lent, v2, done, too-large, too-small, first-of, refusal, stream-answer, answer, frame-samples, frame-marks, marks, samples-after, map-after, unless-refused}
+use Rattle.rules.specs.Answer.{Ask, ask, Lent, v2, done, too-small, refusal, stream-answer, answer, frame-samples, frame-marks, marks, samples-after, map-after, unless-refused}
 use Rattle.rules.proofs.Cells.{All}
-use Rattle.rules.proofs.Refusals.{samples-enough}
-use Rattle.rules.proofs.Tests.{neither}
-use Rattle.refusals.specs.Lending.{short}
+use Rattle.rules.proofs.Refusals.{samples-enough, v2-size-least}
 use Rattle.writers.specs.declared.Written.{Written}
 use Rattle.writers.specs.Calls.{too-bright, refused, written}
 use Rattle.writers.specs.V2Writer.{stream-for}
@@ -71,16 +69,6 @@ module _ (source offsets : List ℕ) (w h : ℕ) (samples map stream : List ℕ)
   late-tests false false true e = absurd (let q : 10 ≡ 0 = e in omega arith)
   late-tests false false false e = (refl, refl)
 
-  not-small : first-of (too-large size) (too-small v2 size) (ltb (length samples) (cells size) || ltb (length offsets) h) (ltb (length map) (cells size) || false) ≡ 0
-      → too-small v2 size ≡ false
-  unfolding first-of
-  not-small = go (too-large size) (too-small v2 size) (ltb (length samples) (cells size) || ltb (length offsets) h) (ltb (length map) (cells size) || false)
-    where
-      go : (t1 t2 t3 t4 : Bool) → first-of t1 t2 t3 t4 ≡ 0 → t2 ≡ false
-      go true t2 t3 t4 e = absurd (let q : 1 ≡ 0 = e in omega arith)
-      go false true t3 t4 e = absurd (let q : 2 ≡ 0 = e in omega arith)
-      go false false t3 t4 e = refl
-
   -- ── The round trip ──
 
   module _ (below : All (λ b. b < 256) stream) (fewer : length stream < 2 ^ 64) (p : Passed) where
@@ -105,10 +93,6 @@ module _ (source offsets : List ℕ) (w h : ℕ) (samples map stream : List ℕ)
         (written-holds size (frame-of c) (early-passed .1) long (not-bright (frame-of c) (t .0)) (drop (length (stream-for size (frame-of c))) stream)
         (over-stream (stream-for size (frame-of c)) stream (stream-below size (frame-of c)) below room fewer))
 
-    wide : 20 ≤ w
-    unfolding too-small short
-    wide = let q = neither _ _ (not-small (early-passed .0)) in omega (arith, ltb-false _ _ (q .1))
-
     -- Asked for as V2, and lent enough.
     abbrev pub again : Ask
     again = ask v2 left [] w h
@@ -127,4 +111,4 @@ module _ (source offsets : List ℕ) (w h : ℕ) (samples map stream : List ℕ)
       -- The map then holds the marks, and they are all 0.
       pub no-marks-back : (m : List ℕ) → (map-after again l m ≡ marks again ++ drop (cells size) m) × ((i : ℕ) → i < cells size → getD (marks again) i 0 ≡ 0)
       unfolding map-after unless-refused frame-marks
-      no-marks-back m = (rw lends, converted-holds .no-marks wide)
+      no-marks-back m = (rw lends, converted-holds .no-marks (omega (arith, v2-size-least again l lends refl .0)))

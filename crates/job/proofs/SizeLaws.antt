@@ -54,7 +54,7 @@ row-digits row h =
 
 -- ── Lines ──
 
-asterisk-most : (t : Bool) → length {A = ℕ} (cond t (42 ∷ []) []) ≤ 1
+asterisk-most : (t : Bool) → length {A = ℕ} (cond t [] (42 ∷ [])) ≤ 1
 asterisk-most true = omega arith
 asterisk-most false = omega arith
 
@@ -64,7 +64,7 @@ unfolding samples-text
 samples-most [] ms = omega arith
 samples-most (v ∷ vs) [] = omega arith
 samples-most (v ∷ vs) (m ∷ ms) =
-    omega (arith, length-append (digits 5 v ++ cond (eqb m 1) (42 ∷ []) []) (samples-text vs ms), length-append (digits 5 v) (cond (eqb m 1) (42 ∷ []) []), digits-most 5 v, asterisk-most (eqb m 1), samples-most vs ms)
+    omega (arith, length-append (digits 5 v ++ cond (eqb m 0) [] (42 ∷ [])) (samples-text vs ms), length-append (digits 5 v) (cond (eqb m 0) [] (42 ∷ [])), digits-most 5 v, asterisk-most (eqb m 0), samples-most vs ms)
 
 row-most : (row : ℕ) (vs ms : List ℕ) → length (row-text row vs ms) ≤ length (digits 5 row) + 2 + 7 * length vs
 unfolding row-text

@@ -17,15 +17,15 @@ use Rattle.job.proofs.WrittenLaws.{left-start, left-as}
 -- ── A sample ──
 
 module _ (t : List ℕ) (n v m : ℕ) where
-  pub sample-parts : Left t n (32 ∷ (digits 5 v ++ cond (eqb m 1) (42 ∷ []) [])) t n (sample-text v m)
+  pub sample-parts : Left t n (32 ∷ (digits 5 v ++ cond (eqb m 0) [] (42 ∷ []))) t n (sample-text v m)
   unfolding sample-text
   sample-parts = left-start t n (sample-text v m)
 
-  pub sample-marked : m ≡ 1 → Left t n (32 ∷ (digits 5 v ++ (42 ∷ []))) t n (sample-text v m)
-  sample-marked e = left-as (rw (eq-eqb m 1 e)) sample-parts
+  pub sample-marked : (m ≡ 0 → ⊥) → Left t n (32 ∷ (digits 5 v ++ (42 ∷ []))) t n (sample-text v m)
+  sample-marked e = left-as (rw (ne-eqb m 0 e)) sample-parts
 
-  pub sample-plain : (m ≡ 1 → ⊥) → Left t n (32 ∷ digits 5 v) t n (sample-text v m)
-  sample-plain e = left-as (rw (ne-eqb m 1 e, append-nil)) sample-parts
+  pub sample-plain : m ≡ 0 → Left t n (32 ∷ digits 5 v) t n (sample-text v m)
+  sample-plain e = left-as (rw (eq-eqb m 0 e, append-nil)) sample-parts
 
 -- ── A row ──
 

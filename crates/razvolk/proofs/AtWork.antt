@@ -158,9 +158,9 @@ frame-stream = 0x00 ∷ 0x00 ∷ 0x00 ∷ 0x80 ∷ 0x18 ∷ 0x20 ∷ 0xA0 ∷ 0x
 abbrev pub two-by-two : List ℕ → Export
 two-by-two old = direct-call frame-stream (0 ∷ 4 ∷ []) 2 2 old
 
--- Over four samples it is done.
+-- Over four samples it is done, and no word was missing.
 pub two-by-two-done : (old : List ℕ) → length old ≡ 4 → exported (two-by-two old) .answered ≡ Answer.done
-unfolding returned entry Answer.answer Answer.refusal Answer.too-large Answer.too-small Answer.short-samples Answer.short-offsets Answer.short-map Answer.short-scratch Answer.first-of Answer.stream-answer
+unfolding returned entry Answer.answer Answer.refusal Answer.too-large Answer.too-small Answer.short-samples Answer.short-offsets Answer.short-map Answer.short-scratch Answer.first-of Answer.stream-answer Reader.fetched Reader.counted Reader.held Reader.read Reader.fields Reader.four Reader.signed Reader.modulo Reader.read-residual V0.fresh-row V0.operated V0.operate V0.head V0.bounded V0.predictor V0.length-of V0.length-bits V0.residual-bits V0.sample V0.samples V0.blocks V0.row-blocks V0.rows-filler V0.frame-filler
 two-by-two-done old e = rw e
 
 -- Its second and fourth sample are marked 0. Its third is marked 1: it is the old second one.

@@ -12,7 +12,7 @@ use borrow.Author.Tests.{le-ltb, eqb-true}
 use Rattle.rules.specs.declared.answer.Answer.{Answer}
 use Rattle.rules.specs.declared.answer.Size.{Size}
 use Rattle.rules.specs.Frame.{cells}
-use Rattle.rules.specs.Answer.{done-with, done, refused, direct, two-phase, Ask, Lent, lent, lengths, too-small, short-samples, short-offsets, short-map, short-scratch, scratch-bytes, refusal, stream-answer, answer, frame-samples, unless-refused, samples-after}
+use Rattle.rules.specs.Answer.{done, refused, Decoder, direct, two-phase, Ask, Lent, lent, lengths, too-small, short-samples, short-offsets, short-map, short-scratch, scratch-bytes, refusal, stream-answer, answer, frame-samples, unless-refused, samples-after}
 use Rattle.rules.proofs.Refusals.{samples-enough}
 use Rattle.rules.proofs.TwoPhase.{two-phase-direct}
 use Rattle.rules.proofs.Isolation.{Returned}
@@ -52,11 +52,15 @@ module _ (a : Ask) (is : a .decoder ≡ direct) (n : ℕ) (m : Option ℕ) (long
 
   answer-same : answer (in-two-phases a) (lent n none k) ≡ uncounted (answer a (lent n m j))
   unfolding answer stream-answer
-  answer-same = rw (refusal-same, is) (go (eqb (refusal a (lent n m j)) 0))
+  answer-same = rw refusal-same (go (a .decoder) is (eqb r 0))
     where
-      go : (t : Bool) {r x : ℕ} → cond t done (refused r) ≡ uncounted (cond t (done-with x) (refused r))
-      go true = refl
-      go false = refl
+      r : ℕ
+      r = refusal a (lent n m j)
+
+      go : (d : Decoder) → d ≡ direct → (t : Bool)
+          → cond t done (refused r) ≡ uncounted (cond t (stream-answer d (a .stream) (a .offsets) (a .size)) (refused r))
+      go d e true = rw e
+      go d e false = refl
 
   samples-same : (buffer : List ℕ) → length buffer ≡ n → samples-after (in-two-phases a) (lent n none k) buffer ≡ samples-after a (lent n m j) buffer
   unfolding samples-after unless-refused frame-samples

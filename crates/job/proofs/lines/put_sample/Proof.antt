@@ -13,13 +13,13 @@ put-digits-requires : tie.Need-put-digits-requires
 put-digits-requires c κs = part-room _ (left-step (sample-parts _ _ _ _) (c .before .before .before .put .ensures)) (c .before .before .before .before .before .before .pre)
 
 put-requires-2 : tie.Need-put-requires-2
-put-requires-2 c κs = left-room (left-step (left-step (sample-marked _ _ _ _ (omega arith)) (c .before .before .before .before .before .before .before .before .put .ensures)) (c .before .before .before .before .put-digits .ensures)) (c .before .before .before .before .before .before .before .before .before .before .before .pre)
+put-requires-2 c κs = left-room (left-step (left-step (sample-marked _ _ _ _ (c .before .if1 .taken)) (c .before .before .before .before .before .before .before .before .put .ensures)) (c .before .before .before .before .put-digits .ensures)) (c .before .before .before .before .before .before .before .before .before .before .before .pre)
 
 same-length : tie.Need-same-length
 same-length c = search needs
 
 returns : tie.Need-returns
-returns c = left-last (left-step (left-step (sample-marked _ _ _ _ (omega arith)) (c .before .before .before .before .before .before .before .before .before .before .before .put .ensures)) (c .before .before .before .before .before .before .before .put-digits .ensures)) (c .before .before .put2 .ensures)
+returns c = left-last (left-step (left-step (sample-marked _ _ _ _ (c .before .before .before .before .if1 .taken)) (c .before .before .before .before .before .before .before .before .before .before .before .put .ensures)) (c .before .before .before .before .before .before .before .put-digits .ensures)) (c .before .before .put2 .ensures)
 
 same-length-2 : tie.Need-same-length-2
 same-length-2 c = search needs

@@ -35,12 +35,9 @@ slice-relend-prefix-decode-frame c = room _ _ _ _ _ _ _ (c .before .refuse .ensu
 slice-aggregate-decode-frame : tie.Need-slice-aggregate-decode-frame
 slice-aggregate-decode-frame c = sym (length-take-le _ _ (room _ _ _ _ _ _ _ (c .before .before .refuse .ensures) (c .before .if1 .left) .samples-enough))
 
-slice-aggregate-decode-frame-2 : tie.Need-slice-aggregate-decode-frame-2
-slice-aggregate-decode-frame-2 c = search needs
-
 decode-frame-requires : tie.Need-decode-frame-requires
 decode-frame-requires c κs =
-    let p = room _ _ _ _ _ _ _ (c .before .before .before .before .refuse .ensures) (c .before .before .before .if1 .left) in
+    let p = room _ _ _ _ _ _ _ (c .before .before .before .refuse .ensures) (c .before .before .if1 .left) in
     record { frame = record { width = p .wide; height = p .high; offsets-enough = long-enough _ _ (p .offsets-enough); samples-lent = length-take-le _ _ (p .samples-enough); map-lent = inr refl }; directions-lent = long-enough _ _ (p .scratch-enough) }
 
 done-requires : tie.Need-done-requires
@@ -55,9 +52,9 @@ same-length-2 c = search needs
 returns-2 : tie.Need-returns-2
 unfolding refusal too-small short-samples short-offsets short-map short-scratch short frame-samples frame-scratch stream-answer
 returns-2 c =
-    let ok = sym (c .before .before .before .before .before .before .before .before .before .before .before .refuse .ensures) ∙ c .before .before .before .before .before .before .before .before .before .before .if1 .left in
-    let d = c .before .before .before .before .before .before .decode-frame .ensures in
-    record { answered = passed-answer _ _ ok _ (c .done .ensures); samples = passed-samples _ _ ok _ _ (d .0); map = refl; scratch = passed-scratch _ _ ok _ _ (d .1 .1) }
+    let ok = sym (c .before .before .before .before .before .before .before .before .before .refuse .ensures) ∙ c .before .before .before .before .before .before .before .before .if1 .left in
+    let d = c .before .before .before .before .before .decode-frame .ensures in
+    record { answered = passed-answer _ _ ok _ (c .done .ensures); samples = passed-samples _ _ ok _ _ (d .0); map = refl; scratch = passed-scratch _ _ ok _ _ (d .1) }
 
 pub decode-v0-spec : {M : Type 1} → statement M
 decode-v0-spec =
@@ -69,7 +66,6 @@ decode-v0-spec =
     mul-n
     slice-relend-prefix-decode-frame
     slice-aggregate-decode-frame
-    slice-aggregate-decode-frame-2
     decode-frame-requires
     done-requires
     same-length
