@@ -186,13 +186,13 @@ module _ (b b′ x y : List ℕ) (h : Samples b) (h′ : Samples b′) (cs : Cal
   pub unmarked-same : (getD (exported (two-by-two old) .left .samples) 1 0 ≡ getD (exported (two-by-two old′) .left .samples) 1 0)
       × (getD (exported (two-by-two old) .left .samples) 3 0 ≡ getD (exported (two-by-two old′) .left .samples) 3 0)
   unfolding returned entry
-  unmarked-same = (same .samples 1 (lit≤ tt) (ap (λ l. getD l 1 0) (two-by-two-marks .0)), same .samples 3 (lit≤ tt) (ap (λ l. getD l 3 0) (two-by-two-marks .0)))
+  unmarked-same = (same .samples 1 (lit≤ tt) (ap (λ l. Map.old-part (getD l 1 0)) (two-by-two-marks .0)), same .samples 3 (lit≤ tt) (ap (λ l. Map.old-part (getD l 3 0)) (two-by-two-marks .0)))
 
   -- The third is what its buffer held at the second place.
   pub marked-old : getD (exported (two-by-two old) .left .samples) 2 0 ≡ (getD old 1 0 + 0) % 65_536
   unfolding returned entry
   marked-old =
-      same .marks-c .old is-direct 2 (lit≤ tt) (ap (λ l. getD l 2 0) (two-by-two-marks .0)) .1
+      same .marks-c .old is-direct 2 (lit≤ tt) (ap (λ l. Map.old-part (getD l 2 0)) (two-by-two-marks .0)) .1
       ∙ (λ i. (getD old (two-by-two-marks .1 .0 i) 0 + two-by-two-marks .1 .1 i) % 65_536)
 
 -- ── Two lists ──
