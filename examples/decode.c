@@ -21,7 +21,7 @@ int main(void) {
         printf("refused %u\n", (unsigned)answer.number);
         return 1;
     }
-    puts("done");
+    printf("done, %u words missing\n", (unsigned)answer.filler);
     for (size_t row = 0; row < HEIGHT; row++) {
         printf("%zu:", row);
         for (size_t i = row * WIDTH; i < (row + 1) * WIDTH; i++)

@@ -9,7 +9,6 @@
 #ifndef RAZVOLK_H
 #define RAZVOLK_H
 
-#include <stdbool.h>
 #include <stddef.h>
 #include <stdint.h>
 
@@ -43,10 +42,15 @@ extern "C" {
  *
  * 1 to 4 are tested in this order, then in bands 11 and 12; then the stream decides. 9 and 10 are a writer's, which tests 1, 3, 9
  * and 10; V0 into V2 tests 1 to 4 and 15, and when the frame is decoded 16, 9 and 10. `row` is the row at fault of 5 to 8, else
- * 0. Samples and map bytes from N on never change. */
+ * 0. Samples and map bytes from N on never change.
+ *
+ * `filler` is how many words of 4 bytes were missing: fetched where fewer than 4 bytes of the stream remained, and read as ones.
+ * The direct V0 decoder tells it when it is done, as the sum over its rows, and V2 with 5 to 8, up to the refusal and from the
+ * header on (where it is done, none was missing). Otherwise it is 0. It stops at 2^64 - 1. */
 typedef struct {
     uint32_t number;
     uint32_t row;
+    uint64_t filler;
 } razvolk_answer;
 
 /* The numbers by name. */
@@ -185,12 +189,12 @@ razvolk_written razvolk_v0_to_v2(const uint8_t *src, size_t src_len, const uint3
                                  uint8_t *stream, size_t stream_len);
 
 /* A bit reader's state. The stream is words of 4 bytes, lowest byte first, and a word's highest bit is read first. A reader
- * that starts at a byte position is { position, 0, 0, false }. */
+ * that starts at a byte position is { position, 0, 0, 0 }. */
 typedef struct {
-    uint64_t pos;   /* byte position of the next word */
-    uint32_t word;  /* the word fetched last; its low `count` bits are still unread */
-    uint32_t count; /* 0 to 31; a state with more counts as having none */
-    bool overrun;   /* whether a word was missing */
+    uint64_t pos;    /* byte position of the next word */
+    uint32_t word;   /* the word fetched last; its low `count` bits are still unread */
+    uint32_t count;  /* 0 to 31; a state with more counts as having none */
+    uint64_t filler; /* how many words were missing */
 } razvolk_bits;
 
 /* A value read, and the state after it. */
@@ -200,11 +204,12 @@ typedef struct {
 } razvolk_got;
 
 /* Reads n bits; n above 32 counts as 32. One word is fetched if fewer than n bits are unread, so n = 0 fetches none. Where
- * fewer than 4 bytes remain, the word is FFFFFFFF (hexadecimal) and overrun is set. The position grows by 4 for each word,
- * modulo 2^64, also for a missing one. Nothing is refused, and nothing is written: the state comes back by value. */
+ * fewer than 4 bytes remain, the word is FFFFFFFF (hexadecimal) and filler grows by 1, up to 2^64 - 1. The position grows by 4
+ * for each word, modulo 2^64, also for a missing one. Nothing is refused, and nothing is written: the state comes back by
+ * value. */
 razvolk_got razvolk_get(const uint8_t *src, size_t src_len, razvolk_bits state, uint32_t n);
 
-/* Drops the unread bits and goes on at byte position pos. An overrun stays set. Nothing is refused. */
+/* Drops the unread bits and goes on at byte position pos. The count of missing words stays. Nothing is refused. */
 razvolk_bits razvolk_reset_at(razvolk_bits state, uint64_t pos);
 
 #ifdef __cplusplus

@@ -3,6 +3,7 @@
  * rust/compare. */
 #include "razvolk.h"
 
+#include <stdbool.h>
 #include <stdio.h>
 #include <stdlib.h>
 #include <string.h>
@@ -18,7 +19,7 @@ static void expect(bool holds, const char *what) {
 
 static void reader(void) {
     static const uint8_t stream[7] = {0x78, 0x56, 0x34, 0x12, 0xff, 0x00, 0x00};
-    razvolk_bits state = {0, 0, 0, false};
+    razvolk_bits state = {0, 0, 0, 0};
     razvolk_got got;
 
     for (uint32_t digit = 1; digit <= 3; digit++) {
@@ -27,18 +28,25 @@ static void reader(void) {
         expect(got.value == digit, "three 4-bit reads of 78 56 34 12 give 1, 2, 3");
     }
     expect(state.pos == 4 && state.word == 0x12345678 && state.count == 20, "20 bits of the word are left");
-    expect(!state.overrun, "no word was missing");
+    expect(state.filler == 0, "no word was missing");
 
     got = razvolk_get(stream, sizeof stream, state, UINT32_MAX);
     state = got.bits;
     expect(got.value == 0x45678fff, "32 bits: the 20 left, then 12 of the filler");
-    expect(state.pos == 8 && state.count == 20 && state.overrun, "three bytes left over are a missing word");
+    expect(state.pos == 8 && state.count == 20 && state.filler == 1, "three bytes left over are a missing word");
 
     state = razvolk_reset_at(state, UINT64_MAX);
-    expect(state.pos == UINT64_MAX && state.count == 0 && state.overrun, "reset_at keeps the overrun");
+    expect(state.pos == UINT64_MAX && state.count == 0 && state.filler == 1, "reset_at keeps the count of missing words");
 
     got = razvolk_get(stream, 0, state, 1);
     expect(got.value == 1 && got.bits.pos == 3 && got.bits.count == 31, "the position wraps at 2^64");
+    expect(got.bits.filler == 2, "another word was missing");
+
+    state.filler = UINT64_MAX - 1;
+    got = razvolk_get(stream, 0, state, 1);
+    expect(got.bits.filler == UINT64_MAX, "the count comes to 2^64 - 1");
+    got = razvolk_get(stream, 0, got.bits, 32);
+    expect(got.bits.filler == UINT64_MAX, "and stops there");
 }
 
 /* A frame of 2 by 3, whose first row is skipped: stream, offsets, what the buffers hold before and after. The seventh sample and
@@ -59,7 +67,7 @@ static void before(void) {
 
 static void done(razvolk_answer answer, bool with_map, bool with_scratch, const char *what) {
     static const uint8_t untouched[7] = {9, 9, 9, 9, 9, 9, 9};
-    expect(answer.number == 0 && answer.row == 0, what);
+    expect(answer.number == 0 && answer.row == 0 && answer.filler == 0, what);
     expect(memcmp(samples, after, sizeof samples) == 0, what);
     expect(memcmp(map, with_map ? marks : untouched, sizeof map) == 0, what);
     expect(scratch[0] == (with_scratch ? 1 : 9) && scratch[1] == 9, what);
@@ -72,12 +80,16 @@ static void v0_reference(void) {
     before();
     done(razvolk_decode_v0_reference_map(stream, 12, offsets, 3, 2, 3, samples, 7, map, 7), true, false,
          "decode_v0_reference_map");
+    answer = razvolk_decode_v0_reference(stream, 8, offsets, 3, 2, 3, samples, 7);
+    expect(answer.number == 0 && answer.filler == 2, "rows 1 and 2 miss the word from byte 8 on");
+    answer = razvolk_decode_v0_reference_map(stream, 11, offsets, 3, 2, 3, samples, 7, map, 7);
+    expect(answer.number == 0 && answer.filler == 2, "and so they do where three bytes of it are there");
     answer = razvolk_decode_v0_reference(stream, 12, offsets, 3, 16385, 0, samples, 7);
-    expect(answer.number == 1 && answer.row == 0, "a width of 16,385 is refused by 1");
+    expect(answer.number == 1 && answer.row == 0 && answer.filler == 0, "a width of 16,385 is refused by 1");
     answer = razvolk_decode_v0_reference_map(stream, 12, offsets, 3, 2, 3, samples, 7, map, 5);
-    expect(answer.number == 4 && answer.row == 0, "a map of 5 bytes for 6 samples is refused by 4");
+    expect(answer.number == 4 && answer.row == 0 && answer.filler == 0, "a map of 5 bytes for 6 samples is refused by 4");
     answer = razvolk_decode_v0_reference_map(stream, 12, offsets, 3, 2, 3, samples, 5, map, 5);
-    expect(answer.number == 3 && answer.row == 0, "5 samples for a frame of 6 are refused by 3");
+    expect(answer.number == 3 && answer.row == 0 && answer.filler == 0, "5 samples for a frame of 6 are refused by 3");
 }
 
 static void v0(void) {
@@ -87,9 +99,11 @@ static void v0(void) {
     before();
     done(razvolk_decode_v0_map(stream, 12, offsets, 3, 2, 3, samples, 7, map, 7, scratch, 2), true, true,
          "decode_v0_map");
+    answer = razvolk_decode_v0(stream, 8, offsets, 3, 2, 3, samples, 7, scratch, 2);
+    expect(answer.number == 0 && answer.filler == 0, "decode_v0 tells of no missing words");
     expect(RAZVOLK_SCRATCH(2, 3) == 1 && RAZVOLK_SCRATCH(17, 5) == 6 && RAZVOLK_SCRATCH(17, 2) == 0, "RAZVOLK_SCRATCH");
     answer = razvolk_decode_v0(stream, 12, offsets, 3, 2, 3, samples, 7, scratch, 0);
-    expect(answer.number == 4 && answer.row == 0, "no scratch for a frame of 3 rows is refused by 4");
+    expect(answer.number == 4 && answer.row == 0 && answer.filler == 0, "no scratch for a frame of 3 rows is refused by 4");
 }
 
 static void v0_bands(void) {
@@ -100,11 +114,11 @@ static void v0_bands(void) {
          "decode_v0_bands");
     before();
     answer = razvolk_decode_v0_bands(stream, 12, offsets, 3, 2, 3, samples, 7, scratch, 2, 2, 16, steps, 1);
-    expect(answer.number == 11 && answer.row == 0, "two bands of one row are refused by 11");
+    expect(answer.number == 11 && answer.row == 0 && answer.filler == 0, "two bands of one row are refused by 11");
     answer = razvolk_decode_v0_bands(stream, 12, offsets, 3, 2, 3, samples, 7, scratch, 2, 1, 8, steps, 1);
-    expect(answer.number == 11 && answer.row == 0, "blocks of 8 columns are refused by 11");
+    expect(answer.number == 11 && answer.row == 0 && answer.filler == 0, "blocks of 8 columns are refused by 11");
     answer = razvolk_decode_v0_bands(stream, 12, offsets, 3, 2, 3, samples, 7, scratch, 2, 1, 16, steps, 0);
-    expect(answer.number == 12 && answer.row == 0, "no steps for a frame of 3 rows are refused by 12");
+    expect(answer.number == 12 && answer.row == 0 && answer.filler == 0, "no steps for a frame of 3 rows are refused by 12");
     expect(samples[4] == 11 && scratch[0] == 9, "and nothing is written");
     expect(RAZVOLK_MOST_BANDS(0) == 1 && RAZVOLK_MOST_BANDS(5) == 1 && RAZVOLK_MOST_BANDS(6) == 2 &&
                RAZVOLK_MOST_BANDS(129) == 63 && RAZVOLK_MOST_BANDS(130) == 64 && RAZVOLK_MOST_BANDS(16384) == 64,
@@ -125,12 +139,12 @@ static void v2(void) {
         return;
     }
     answer = razvolk_decode_v2(zeros, 0, 646, 436, out, n);
-    expect(answer.number == 5 && answer.row == 0 && out[0] == 0, "decode_v2 refuses no bytes by 5");
+    expect(answer.number == 5 && answer.row == 0 && answer.filler == 5 && out[0] == 0, "decode_v2 refuses no bytes by 5");
     answer = razvolk_decode_v2_map(zeros, 16, 646, 436, out, n, marked, n);
-    expect(answer.number == 8 && answer.row == 0, "decode_v2_map refuses sixteen zero bytes by 8");
+    expect(answer.number == 8 && answer.row == 0 && answer.filler == 7, "decode_v2_map refuses sixteen zero bytes by 8");
     expect(out[639] == 1 && out[640] == 0 && marked[639] == 0 && marked[640] == 1, "and has written 640 samples");
     answer = razvolk_decode_v2(zeros, 16, 645, 436, out, n);
-    expect(answer.number == 2 && answer.row == 0, "a width of 645 is refused by 2");
+    expect(answer.number == 2 && answer.row == 0 && answer.filler == 0, "a width of 645 is refused by 2");
     free(out);
     free(marked);
 }
@@ -143,9 +157,9 @@ static void planes(void) {
     answer = razvolk_from_planes(to, 7, 3, 2, back, 7);
     expect(answer.number == 0 && memcmp(back, frame, 6 * sizeof *frame) == 0 && back[6] == 8, "from_planes");
     answer = razvolk_to_planes(frame, 7, 3, 2, to, 5);
-    expect(answer.number == 3 && answer.row == 0, "5 samples for the planes of 6 are refused by 3");
+    expect(answer.number == 3 && answer.row == 0 && answer.filler == 0, "5 samples for the planes of 6 are refused by 3");
     answer = razvolk_from_planes(to, 5, 16385, 1, back, 7);
-    expect(answer.number == 1 && answer.row == 0, "a width of 16,385 is refused by 1");
+    expect(answer.number == 1 && answer.row == 0 && answer.filler == 0, "a width of 16,385 is refused by 1");
 }
 
 /* A frame of 3 by 2 that is written, and read back. The seventh sample, the last two bytes of stream and the third offset lie
@@ -157,7 +171,7 @@ static uint8_t bytes[26];
 static uint32_t rows[3];
 
 static void nothing_written(razvolk_written written, uint32_t number, const char *what) {
-    expect(written.answer.number == number && written.answer.row == 0 && written.length == 0, what);
+    expect(written.answer.number == number && written.answer.row == 0 && written.answer.filler == 0 && written.length == 0, what);
     for (size_t i = 0; i < sizeof bytes; i++)
         expect(bytes[i] == 9, "a refusal writes no byte");
     expect(rows[0] == 9 && rows[1] == 9 && rows[2] == 9, "a refusal writes no offset");
@@ -174,7 +188,7 @@ static void write_v0(void) {
     nothing_written(razvolk_write_v0(image, 7, 3, 2, bytes, 23, rows, 3), 10, "23 bytes for 24 are refused by 10");
     nothing_written(razvolk_write_v0(image, 7, 3, 2, bytes, 26, rows, 1), 10, "1 offset for 2 is refused by 10");
     written = razvolk_write_v0(image, 7, 3, 2, bytes, 26, rows, 3);
-    expect(written.answer.number == 0 && written.answer.row == 0 && written.length == 24, "write_v0");
+    expect(written.answer.number == 0 && written.answer.row == 0 && written.answer.filler == 0 && written.length == 24, "write_v0");
     expect(memcmp(bytes, coded, sizeof bytes) == 0, "the stream, and what lies past it as it was");
     expect(rows[0] == 0 && rows[1] == 8 && rows[2] == 9, "the offsets, and what lies past them as it was");
     before();
@@ -220,7 +234,7 @@ static void v0_to_v2(void) {
 static void null(void) {
     static const uint32_t one[1] = {0};
     uint16_t sample[1] = {7};
-    razvolk_bits state = {0, 0, 0, false};
+    razvolk_bits state = {0, 0, 0, 0};
     razvolk_answer answer = razvolk_decode_v0_reference(NULL, 0, NULL, 0, 5, 0, NULL, 0);
     expect(answer.number == RAZVOLK_DONE, "decode_v0_reference of NULL");
     answer = razvolk_decode_v0_reference_map(NULL, 0, NULL, 0, 0, 0, NULL, 0, NULL, 0);
@@ -244,7 +258,7 @@ static void null(void) {
     written = razvolk_v0_to_v2(NULL, 0, NULL, 0, 16, 1, NULL, 0, NULL, 0, NULL, 0);
     expect(written.answer.number == RAZVOLK_TOO_SMALL && written.length == 0, "v0_to_v2 of NULL");
     razvolk_got got = razvolk_get(NULL, 0, state, 8);
-    expect(got.value == 255 && got.bits.overrun, "get of NULL");
+    expect(got.value == 255 && got.bits.filler == 1, "get of NULL");
 }
 
 static void named(void) {

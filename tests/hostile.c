@@ -13,6 +13,7 @@
 #define _DEFAULT_SOURCE
 #include "razvolk.h"
 
+#include <stdbool.h>
 #include <stdio.h>
 #include <stdlib.h>
 #include <string.h>
@@ -454,7 +455,7 @@ static outcome run(const ask *a, const entry *e, const uint8_t *old) {
         refused = refusal_of_cut(a);
     size_t n = refused == 0 ? cells(a) : 0, directions = RAZVOLK_SCRATCH(a->width, a->height);
     size_t marks = refused == 0 && e->with_map ? n : 0, scratched = refused == 0 && e->with_scratch ? directions : 0;
-    outcome out = {{0, 0}, copy(old, 2 * a->samples), lend(a->map), lend(a->scratch)};
+    outcome out = {{0, 0, 0}, copy(old, 2 * a->samples), lend(a->map), lend(a->scratch)};
     /* With valgrind, what a decoder must set is not set before; a refusal must not read it, either. */
     filled(out.map, heap ? marks : 0);
     filled(out.scratch, heap ? scratched : 0);
@@ -469,6 +470,10 @@ static outcome run(const ask *a, const entry *e, const uint8_t *old) {
                "V2 answers 0 or 5 to 8, with a row of the frame");
     if (out.answer.number == 5)
         expect(out.answer.row < 2, "5 comes in row 0 or 1");
+    if (refused > 0 || e->with_scratch || (a->v2 && out.answer.number == 0))
+        expect(out.answer.filler == 0, "1 to 4, two phases, bands and V2 when it is done tell of no missing words");
+    if (out.answer.number == 8)
+        expect(out.answer.filler > 0, "8 tells of missing words");
     expect(a->samples == n || memcmp(out.samples.data + 2 * n, old + 2 * n, 2 * (a->samples - n)) == 0, "samples past the frame stay");
     check_bytes(out.map, marks, "the map is 0 and 1 within the frame, and stays past it");
     check_bytes(out.scratch, scratched, "the scratch is 0 and 1 where it is used, and stays past it");
@@ -489,13 +494,14 @@ static void play(const ask *a) {
     const entry *marked = entries;
     while (marked->v2 != a->v2 || !marked->with_map)
         marked++;
-    outcome first = run(a, marked, old.data), phased = {{1, 0}, {0}, {0}, {0}};
+    outcome first = run(a, marked, old.data), phased = {{1, 0, 0}, {0}, {0}, {0}};
     for (const entry *e = entries; e < entries_end; e++) {
         if (e->v2 != a->v2)
             continue;
         outcome next = run(a, e, old.data);
         if (begun(first.answer) && begun(next.answer)) {
             expect(next.answer.number == first.answer.number && next.answer.row == first.answer.row, "answers agree");
+            expect(e->with_scratch || next.answer.filler == first.answer.filler, "counts agree");
             expect(same(next.samples.data, first.samples.data, first.samples.bytes), "samples agree");
             if (e->with_map)
                 expect(same(next.map.data, first.map.data, first.map.bytes), "maps agree");
@@ -512,6 +518,7 @@ static void play(const ask *a) {
     if (begun(first.answer)) {
         outcome over = run(a, marked, other.data);
         expect(over.answer.number == first.answer.number && over.answer.row == first.answer.row, "answers over others");
+        expect(over.answer.filler == first.answer.filler, "counts over others");
         for (size_t i = 0; i < cells(a); i++) {
             expect(over.map.data[i] == first.map.data[i], "maps over others");
             expect(over.map.data[i] == 1 || memcmp(over.samples.data + 2 * i, first.samples.data + 2 * i, 2) == 0,
@@ -544,11 +551,14 @@ static void play_reader(void) {
     any_bytes(below(40));
     slice src = copy(written, written_len);
     close_for_writing(src);
-    razvolk_bits bits = {below(2) == 0 ? below(50) : number(), (uint32_t)number(), (uint32_t)below(70), below(2) == 0};
+    razvolk_bits bits = {below(2) == 0 ? below(50) : number(), (uint32_t)number(), (uint32_t)below(70), 0};
+    bits.filler = below(2) == 0 ? below(9) : UINT64_MAX - below(9);
     for (int i = 0; i < 20; i++) {
         razvolk_got got = razvolk_get(src.data, src.bytes, bits, (uint32_t)below(40));
-        expect(got.bits.count < 32 && got.bits.overrun >= bits.overrun, "at most 31 bits are unread; an overrun stays");
+        expect(got.bits.count < 32, "at most 31 bits are unread");
         expect(got.bits.pos == bits.pos || got.bits.pos == bits.pos + 4, "at most one word is fetched");
+        bool missing = got.bits.pos != bits.pos && (src.bytes < 4 || bits.pos > src.bytes - 4);
+        expect(got.bits.filler == bits.filler + (missing && bits.filler < UINT64_MAX), "each missing word counts");
         bits = below(6) == 0 ? razvolk_reset_at(got.bits, below(50)) : got.bits;
         calls++;
     }

@@ -11,7 +11,7 @@ fn main() -> Result<(), Refusal> {
     let mut samples = [0; WIDTH * HEIGHT]; // what a worker decoded before
     let mut decoder = Decoder::new();
     let marks = decoder.decode_v0(&stream, &[0, 4], WIDTH, HEIGHT, &mut samples)?;
-    println!("done");
+    println!("done, {} words missing", marks.filler_words());
     for (row, (samples, marks)) in samples.chunks(WIDTH).zip(marks.bytes().chunks(WIDTH)).enumerate() {
         print!("{row}:");
         for (sample, mark) in samples.iter().zip(marks) {

@@ -2,17 +2,23 @@
 
 use std::{error, fmt};
 
-/// The answer as it comes from the archive: number 0 is done.
+/// The answer as it comes from the archive: number 0 is done, and `filler` is how many words were missing.
 #[repr(C)]
 #[derive(Clone, Copy)]
 pub(crate) struct Answer {
     number: u32,
     row: u32,
+    filler: u64,
 }
 
 impl Answer {
     pub(crate) fn result(self) -> Result<(), Refusal> {
-        Refusal::of(self.number, self.row).map_or(Ok(()), Err)
+        self.counted().map(|_| ())
+    }
+
+    /// With the count, which both done and a refusal carry.
+    pub(crate) fn counted(self) -> Result<u64, Refusal> {
+        Refusal::of(self.number, self.row, self.filler).map_or(Ok(self.filler), Err)
     }
 }
 
@@ -31,9 +37,9 @@ impl Written {
     }
 }
 
-/// Makes [`Refusal`] of one list: each line has the number, the name, the row where there is one, and the text.
+/// Makes [`Refusal`] of one list: each line has the number, the name, the row and the count where there are such, and the text.
 macro_rules! refusals {
-    ($(#[$doc:meta])* $($number:literal $name:ident $({ $row:ident })? $text:literal;)*) => {
+    ($(#[$doc:meta])* $($number:literal $name:ident $({ $row:ident $(, $filler:ident)? })? $text:literal;)*) => {
         $(#[$doc])*
         #[derive(Clone, Copy, Debug, PartialEq, Eq, Hash)]
         #[non_exhaustive]
@@ -43,6 +49,10 @@ macro_rules! refusals {
                 $name $({
                     /// The row at fault.
                     $row: u32,
+                    $(
+                        /// How many words were missing up to the refusal.
+                        $filler: u64,
+                    )?
                 })?,
             )*
             /// A number that this list does not have, from an archive that is newer than the crate.
@@ -51,22 +61,25 @@ macro_rules! refusals {
                 number: u32,
                 /// The row that was told with it.
                 row: u32,
+                /// The count that was told with it.
+                filler: u64,
             },
         }
 
         impl Refusal {
-            /// The refusal that a number and a row tell, as C has them; none of number 0, which is done.
+            /// The refusal that a number, a row and a count of missing words tell, as C has them; none of number 0, which is
+            /// done.
             ///
             /// ```
             /// use razvolk::Refusal;
-            /// assert_eq!(Refusal::of(8, 435), Some(Refusal::Overrun { row: 435 }));
-            /// assert_eq!(Refusal::of(0, 0), None);
+            /// assert_eq!(Refusal::of(8, 435, 3), Some(Refusal::Overrun { row: 435, filler: 3 }));
+            /// assert_eq!(Refusal::of(0, 0, 0), None);
             /// ```
-            pub const fn of(number: u32, row: u32) -> Option<Refusal> {
+            pub const fn of(number: u32, row: u32, filler: u64) -> Option<Refusal> {
                 Some(match number {
                     0 => return None,
-                    $($number => Refusal::$name $({ $row: row })?,)*
-                    _ => Refusal::Other { number, row },
+                    $($number => Refusal::$name $({ $row: row, $($filler: filler)? })?,)*
+                    _ => Refusal::Other { number, row, filler },
                 })
             }
 
@@ -86,12 +99,28 @@ macro_rules! refusals {
             ///
             /// ```
             /// use razvolk::Refusal;
-            /// assert_eq!((Refusal::Overrun { row: 435 }.row(), Refusal::TooSmall.row()), (435, 0));
+            /// assert_eq!((Refusal::Overrun { row: 435, filler: 3 }.row(), Refusal::TooSmall.row()), (435, 0));
             /// ```
             pub const fn row(self) -> u32 {
                 match self {
-                    $($(Refusal::$name { $row } => $row,)?)*
+                    $($(Refusal::$name { $row, .. } => $row,)?)*
                     Refusal::Other { row, .. } => row,
+                    _ => 0,
+                }
+            }
+
+            /// How many words of 4 bytes the stream lacked up to the refusal: they were read as ones. 0 where the refusal tells
+            /// of none.
+            ///
+            /// ```
+            /// // A header, and no more: the first row is made of ones.
+            /// let refused = razvolk::decode_v2(&[0; 16], 646, 436, &mut vec![0; 646 * 436]).unwrap_err();
+            /// assert_eq!((refused.number(), refused.filler_words()), (8, 7));
+            /// ```
+            pub const fn filler_words(self) -> u64 {
+                match self {
+                    $($($(Refusal::$name { $filler, .. } => $filler,)?)?)*
+                    Refusal::Other { filler, .. } => filler,
                     _ => 0,
                 }
             }
@@ -100,8 +129,8 @@ macro_rules! refusals {
         impl fmt::Display for Refusal {
             fn fmt(&self, f: &mut fmt::Formatter<'_>) -> fmt::Result {
                 match *self {
-                    $(Refusal::$name $({ $row })? => write!(f, $text),)*
-                    Refusal::Other { number, row } => write!(f, "refusal {number} in row {row}"),
+                    $(Refusal::$name $({ $row, .. })? => write!(f, $text),)*
+                    Refusal::Other { number, row, .. } => write!(f, "refusal {number} in row {row}"),
                 }
             }
         }
@@ -130,26 +159,27 @@ refusals! {
     /// | 15 | V0 into V2: the width is not a multiple of 16 | every buffer as it was |
     /// | 16 | V0 into V2: a sample of the decoded frame is marked | the frame is decoded, the stream as it was |
     ///
-    /// A decoder tests 1 to 4 in this order, in bands then 11 and 12, a writer 1, 3, 9 and 10; V0 into V2 1 to 4 and 15, and when
-    /// the frame is decoded 16, 9 and 10. After 5 to 8 the map describes
-    /// the samples as they are left; the row in which the stream ended has ones in place of the missing bits.
+    /// A decoder tests 1 to 4 in this order, in bands then 11 and 12, a writer 1, 3, 9 and 10; V0 into V2 1 to 4
+    /// and 15, and when the frame is decoded 16, 9 and 10. After 5 to 8 the map describes the samples as they are left; the row
+    /// in which the stream ended has ones in place of the missing bits. 5 to 8 carry how many words were missing up to there,
+    /// from the header on: [`Refusal::filler_words`].
     ///
     /// ```
     /// use razvolk::Refusal;
     ///
     /// let refused = razvolk::decode_v2(&[], 646, 436, &mut vec![0; 646 * 436]).unwrap_err();
-    /// assert_eq!(refused, Refusal::EarlyMotion { row: 0 });
-    /// assert_eq!((refused.number(), refused.row()), (5, 0));
+    /// assert_eq!(refused, Refusal::EarlyMotion { row: 0, filler: 5 });
+    /// assert_eq!((refused.number(), refused.row(), refused.filler_words()), (5, 0, 5));
     /// assert_eq!(refused.to_string(), "row 0 predicts from rows that do not exist");
     /// ```
     1 TooLarge "width or height is above 16,384";
     2 TooSmall "the frame is smaller than 646 by 436";
     3 ShortSamples "the sample buffer or the offset table is too short";
     4 ShortMap "the map or the scratch is too short";
-    5 EarlyMotion { row } "row {row} predicts from rows that do not exist";
-    6 Outside { row } "row {row} predicts from outside the frame";
-    7 LongDifference { row } "row {row} has a difference longer than the depth allows";
-    8 Overrun { row } "the stream ends in row {row}";
+    5 EarlyMotion { row, filler } "row {row} predicts from rows that do not exist";
+    6 Outside { row, filler } "row {row} predicts from outside the frame";
+    7 LongDifference { row, filler } "row {row} has a difference longer than the depth allows";
+    8 Overrun { row, filler } "the stream ends in row {row}";
     9 TooBright "a sample is above 16,383";
     10 ShortOutput "the buffer for the stream or the offsets is too short";
     11 BadCut "the frame can't be cut into so many bands, or into blocks of that width";
@@ -164,7 +194,7 @@ impl Refusal {
     /// ```
     /// use razvolk::Refusal;
     /// assert!(!Refusal::ShortMap.has_begun());
-    /// assert!(Refusal::EarlyMotion { row: 1 }.has_begun());
+    /// assert!(Refusal::EarlyMotion { row: 1, filler: 0 }.has_begun());
     /// ```
     pub const fn has_begun(self) -> bool {
         matches!(self.number(), 5..=8)
@@ -181,23 +211,28 @@ mod tests {
     fn each_refusal_has_its_number_and_a_message_of_its_own() {
         let mut texts: Vec<String> = Vec::new();
         for number in 1..=99 {
-            let refusal = Refusal::of(number, 7).expect("not done");
+            let refusal = Refusal::of(number, 7, u64::MAX).expect("not done");
             let text = refusal.to_string();
             assert_eq!(refusal.number(), number);
+            let counts = matches!(number, 5..=8) || matches!(refusal, Refusal::Other { .. });
+            assert_eq!(refusal.filler_words(), if counts { u64::MAX } else { 0 });
             assert_eq!(text.contains("row 7"), refusal.row() == 7, "{text}");
             assert!(!texts.contains(&text), "{text}");
             texts.push(text);
         }
-        assert_eq!(Refusal::of(99, 7), Some(Refusal::Other { number: 99, row: 7 }));
-        let error: Box<dyn error::Error> = Box::new(Refusal::Overrun { row: 435 });
+        assert_eq!(Refusal::of(99, 7, 1), Some(Refusal::Other { number: 99, row: 7, filler: 1 }));
+        let error: Box<dyn error::Error> = Box::new(Refusal::Overrun { row: 435, filler: 1 });
         assert_eq!(error.to_string(), "the stream ends in row 435");
     }
 
     #[test]
     fn number_0_is_done() {
-        assert_eq!(Answer { number: 0, row: 0 }.result(), Ok(()));
-        assert_eq!(Answer { number: 5, row: 1 }.result(), Err(Refusal::EarlyMotion { row: 1 }));
-        let written = |number| Written { answer: Answer { number, row: 0 }, length: 24 };
+        let done = Answer { number: 0, row: 0, filler: 3 };
+        assert_eq!((done.result(), done.counted()), (Ok(()), Ok(3)));
+        let refused = Answer { number: 5, row: 1, filler: 3 };
+        assert_eq!(refused.result(), Err(Refusal::EarlyMotion { row: 1, filler: 3 }));
+        assert_eq!(refused.counted().map(|_| ()), refused.result());
+        let written = |number| Written { answer: Answer { number, row: 0, filler: 0 }, length: 24 };
         assert_eq!(written(0).result(), Ok(24));
         assert_eq!(written(10).result(), Err(Refusal::ShortOutput));
     }

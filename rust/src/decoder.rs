@@ -31,8 +31,8 @@ pub const MAX_SIDE: usize = 16_384;
 #[derive(Default)]
 pub struct Decoder {
     map: Vec<u8>,
-    /// Width and samples of the frame that the map tells of.
-    frame: Option<(usize, usize)>,
+    /// Width and samples of the frame that the map tells of, and how many words were missing.
+    frame: Option<(usize, usize, u64)>,
 }
 
 impl Decoder {
@@ -70,7 +70,7 @@ impl Decoder {
     /// let mut decoder = razvolk::Decoder::new();
     /// // An empty stream: missing bits are ones, the block is upward, and row 0 has no row above it.
     /// let marks = decoder.decode_v0(&[], &[0], 3, 1, &mut [7, 8, 9])?;
-    /// assert_eq!(marks.bytes(), [1, 1, 1]);
+    /// assert_eq!((marks.bytes(), marks.filler_words()), (&[1, 1, 1][..], 1));
     ///
     /// let refused = decoder.decode_v0(&[], &[], 3, 1, &mut [7, 8, 9]).unwrap_err();
     /// assert_eq!(refused, razvolk::Refusal::ShortSamples, "a row has no offset");
@@ -102,7 +102,7 @@ impl Decoder {
     /// let mut samples = vec![7; 646 * 436];
     /// // A header, and no more: the first row is made of ones in place of the missing bits.
     /// let refused = decoder.decode_v2(&[0; 16], 646, 436, &mut samples).unwrap_err();
-    /// assert_eq!(refused, razvolk::Refusal::Overrun { row: 0 });
+    /// assert_eq!(refused, razvolk::Refusal::Overrun { row: 0, filler: 7 });
     /// let marks = decoder.marks().expect("the stream was begun");
     /// assert_eq!(marks.count(), 646 * 436 - 640);
     /// ```
@@ -115,7 +115,7 @@ impl Decoder {
     ) -> Result<Marks<'_>, Refusal> {
         self.make_room(width, height, out.len());
         let answer = crate::decode_v2_map(src, width, height, out, &mut self.map);
-        self.answered(answer, width, height)
+        self.answered(answer.map(|()| 0), width, height)
     }
 
     /// The marks of the last frame, as its samples were left: after done, and after refusals 5 to 8. None if there was no
@@ -130,7 +130,7 @@ impl Decoder {
     /// # Ok::<(), razvolk::Refusal>(())
     /// ```
     pub fn marks(&self) -> Option<Marks<'_>> {
-        self.frame.map(|(width, n)| Marks::new(&self.map[..n], width))
+        self.frame.map(|(width, n, filler)| Marks::new(&self.map[..n], width).with_filler_words(filler))
     }
 
     /// Makes the map long enough. A size that will be refused by 1 to 3 gets nothing: those are tested before 4.
@@ -141,10 +141,12 @@ impl Decoder {
         }
     }
 
-    fn answered(&mut self, answer: Result<(), Refusal>, width: usize, height: usize) -> Result<Marks<'_>, Refusal> {
-        let begun = answer.map_or_else(Refusal::has_begun, |()| true);
-        self.frame = begun.then(|| (width, width * height));
-        answer.map(|()| self.marks().expect("the frame is done"))
+    /// Keeps what a call tells: the count of missing words, or the refusal.
+    fn answered(&mut self, answer: Result<u64, Refusal>, width: usize, height: usize) -> Result<Marks<'_>, Refusal> {
+        let begun = answer.map_or_else(Refusal::has_begun, |_| true);
+        let filler = answer.unwrap_or_else(Refusal::filler_words);
+        self.frame = begun.then(|| (width, width * height, filler));
+        answer.map(|_| self.marks().expect("the frame is done"))
     }
 }
 

@@ -7,7 +7,7 @@
 //! A slice is handed over as its pointer and its length. It is borrowed for the call, mutably where it is written, so the
 //! pointer is good for so many elements, not null, and what is written overlaps nothing else. The callee is proved to return on
 //! every input, and to touch nothing but these slices, inside their lengths; it keeps none of them. What it takes and returns
-//! by value are numbers, of which every value is allowed, and a bool, which Rattle makes 0 or 1.
+//! by value are numbers, of which every value is allowed.
 //!
 //! That the archive is what was proved is up to `build.rs`, and to whoever sets `RAZVOLK_ARCHIVE`.
 

@@ -24,11 +24,16 @@ use std::fmt;
 pub struct Marks<'a> {
     bytes: &'a [u8],
     width: usize,
+    filler: u64,
 }
 
 impl<'a> Marks<'a> {
     pub(crate) fn new(bytes: &'a [u8], width: usize) -> Marks<'a> {
-        Marks { bytes, width }
+        Marks { bytes, width, filler: 0 }
+    }
+
+    pub(crate) fn with_filler_words(self, filler: u64) -> Marks<'a> {
+        Marks { filler, ..self }
     }
 
     /// The bytes, as many as the frame has samples.
@@ -39,6 +44,20 @@ impl<'a> Marks<'a> {
     /// The frame's width.
     pub const fn width(self) -> usize {
         self.width
+    }
+
+    /// How many words of 4 bytes the stream lacked, over the whole frame: they were read as ones. 0 if it had all that was
+    /// read. After refusals 5 to 8, those up to the refusal.
+    ///
+    /// ```
+    /// let mut decoder = razvolk::Decoder::new();
+    /// // Row 0 has a word, and row 1 would start behind it.
+    /// let marks = decoder.decode_v0(&[0, 0, 0, 0x80], &[0, 4], 2, 2, &mut [7, 8, 9, 10])?;
+    /// assert_eq!(marks.filler_words(), 5);
+    /// # Ok::<(), razvolk::Refusal>(())
+    /// ```
+    pub const fn filler_words(self) -> u64 {
+        self.filler
     }
 
     /// A row's bytes; none where the frame has no such row, or no columns.

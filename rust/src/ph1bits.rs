@@ -12,12 +12,12 @@ use crate::bits::{self, Bits};
 /// assert_eq!([bits.get(4), bits.get(4), bits.get(4)], [1, 2, 3]);
 /// assert_eq!((bits.pos(), bits.overrun()), (4, false));
 ///
-/// // Three bytes are left: no word. It reads as ones, and the overrun stays.
+/// // Three bytes are left: no word. It reads as ones, and the count of such words stays.
 /// assert_eq!(bits.get(32), 0x4567_8fff);
-/// assert_eq!((bits.pos(), bits.overrun()), (8, true));
+/// assert_eq!((bits.pos(), bits.overrun(), bits.filler_words()), (8, true, 1));
 /// bits.reset_at(0);
 /// assert_eq!(bits.get(32), 0x1234_5678);
-/// assert!(bits.overrun());
+/// assert_eq!(bits.filler_words(), 1);
 /// ```
 #[derive(Clone, Debug)]
 pub struct Ph1Bits<'a> {
@@ -59,7 +59,7 @@ impl<'a> Ph1Bits<'a> {
         self.state.pos as usize
     }
 
-    /// Drops the unread bits and goes on at byte position `pos`. An overrun stays set.
+    /// Drops the unread bits and goes on at byte position `pos`. The count of missing words stays.
     ///
     /// ```
     /// let mut bits = razvolk::Ph1Bits::new(&[0, 0, 0, 0xa0], 0);
@@ -71,7 +71,18 @@ impl<'a> Ph1Bits<'a> {
         self.state = bits::reset_at(self.state, pos as u64);
     }
 
-    /// Whether a word was missing.
+    /// How many words were missing so far, and read as ones; the count stops at 2^64 - 1.
+    ///
+    /// ```
+    /// let mut bits = razvolk::Ph1Bits::new(&[0, 0, 0, 0xa0, 1, 2, 3], 0);
+    /// assert_eq!((bits.get(8), bits.filler_words()), (0xa0, 0));
+    /// assert_eq!((bits.get(32), bits.get(32), bits.filler_words()), (0xff, u32::MAX, 2));
+    /// ```
+    pub const fn filler_words(&self) -> u64 {
+        self.state.filler
+    }
+
+    /// Whether a word was missing: [`Ph1Bits::filler_words`] isn't 0.
     ///
     /// ```
     /// let mut bits = razvolk::Ph1Bits::new(&[], 0);
@@ -80,6 +91,6 @@ impl<'a> Ph1Bits<'a> {
     /// assert!(bits.overrun());
     /// ```
     pub const fn overrun(&self) -> bool {
-        self.state.overrun
+        self.state.filler != 0
     }
 }

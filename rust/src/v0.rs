@@ -8,6 +8,8 @@ use crate::{Refusal, ffi};
 /// The first `width * height` samples of `out` are the frame's afterwards. A sample that the stream skips keeps what `out`
 /// held, and later samples build on it: [`decode_v0_reference_map`] tells which.
 ///
+/// On done it tells how many words of 4 bytes were missing, over all rows: 0 if the stream has all that was read.
+///
 /// # Errors
 ///
 /// Refusals 1 and 3, in this order; `out` is unchanged then.
@@ -15,8 +17,11 @@ use crate::{Refusal, ffi};
 /// ```
 /// let stream = [0x18, 0x20, 0xa0, 0x7f, 0, 0, 0x70, 0, 0x08, 0, 0xa0, 0xff, 0, 0, 0, 0];
 /// let mut samples = [0; 4];
-/// razvolk::decode_v0_reference(&stream, &[0, 8], 2, 2, &mut samples)?;
+/// assert_eq!(razvolk::decode_v0_reference(&stream, &[0, 8], 2, 2, &mut samples)?, 0);
 /// assert_eq!(samples, [131, 132, 126, 128]);
+///
+/// // Cut after 15 bytes: the second word of row 1 is missing.
+/// assert_eq!(razvolk::decode_v0_reference(&stream[..15], &[0, 8], 2, 2, &mut samples)?, 1);
 /// # Ok::<(), razvolk::Refusal>(())
 /// ```
 pub fn decode_v0_reference(
@@ -25,12 +30,14 @@ pub fn decode_v0_reference(
     width: usize,
     height: usize,
     out: &mut [u16],
-) -> Result<(), Refusal> {
-    ffi::razvolk_decode_v0_reference(src, row_offsets, width, height, out).result()
+) -> Result<u64, Refusal> {
+    ffi::razvolk_decode_v0_reference(src, row_offsets, width, height, out).counted()
 }
 
 /// Decodes as [`decode_v0_reference`] does, and tells in the first `width * height` bytes of `map` what each sample rests
 /// on: 1, on what `out` held before; 0, on the stream alone. What `map` holds before does not matter.
+///
+/// On done it tells how many words were missing, as [`decode_v0_reference`] does.
 ///
 /// # Errors
 ///
@@ -51,8 +58,8 @@ pub fn decode_v0_reference_map(
     height: usize,
     out: &mut [u16],
     map: &mut [u8],
-) -> Result<(), Refusal> {
-    ffi::razvolk_decode_v0_reference_map(src, row_offsets, width, height, out, map).result()
+) -> Result<u64, Refusal> {
+    ffi::razvolk_decode_v0_reference_map(src, row_offsets, width, height, out, map).counted()
 }
 
 /// Decodes in two phases, first residuals, then predictions: the same samples as [`decode_v0_reference`]'s. `scratch` needs
@@ -143,10 +150,11 @@ mod tests {
 
     /// The entries without a map, and those with one.
     const PLAIN: [Entry; 2] = [
-        |s, o, w, h, out, _, _| decode_v0_reference(s, o, w, h, out),
+        |s, o, w, h, out, _, _| decode_v0_reference(s, o, w, h, out).map(drop),
         |s, o, w, h, out, _, scratch| decode_v0(s, o, w, h, out, scratch),
     ];
-    const MARKED: [Entry; 2] = [|s, o, w, h, out, map, _| decode_v0_reference_map(s, o, w, h, out, map), decode_v0_map];
+    const MARKED: [Entry; 2] =
+        [|s, o, w, h, out, map, _| decode_v0_reference_map(s, o, w, h, out, map).map(drop), decode_v0_map];
 
     #[test]
     fn frames_of_the_document() {
@@ -170,6 +178,17 @@ mod tests {
             assert_eq!(decoded(entry, &[], &[0; 16_383], (0, 16_384)), (3, [7, 8, 9, 10], [9; 4]));
             assert_eq!(decoded(entry, &[], &[0; 9], (usize::MAX, usize::MAX)), (1, [7, 8, 9, 10], [9; 4]));
             assert_eq!(decoded(entry, &[], &[0; 9], (5, 1)), (3, [7, 8, 9, 10], [9; 4]));
+        }
+    }
+
+    #[test]
+    fn missing_words_are_counted_over_all_rows() {
+        let (mut out, mut map) = ([7; 4], [9; 4]);
+        // Both rows of the frame with spill have two words. A row of ones reads 25 bits, and row 1 then 8 residuals of 15.
+        for (bytes, missing) in (0..=16).zip([6, 6, 6, 6, 6, 6, 6, 6, 5, 5, 5, 5, 1, 1, 1, 1, 0]) {
+            let (src, offsets) = (&SPILL.0[..bytes], &SPILL.1);
+            assert_eq!(decode_v0_reference(src, offsets, 2, 2, &mut out), Ok(missing), "{bytes} bytes");
+            assert_eq!(decode_v0_reference_map(src, offsets, 2, 2, &mut out, &mut map), Ok(missing), "{bytes} bytes");
         }
     }
 

@@ -8,12 +8,14 @@ use crate::{Refusal, ffi};
 /// # Errors
 ///
 /// Refusals 1 to 3, in this order; `out` is unchanged then. Refusals 5 to 8, the first that the stream meets; the blocks
-/// before it are written then.
+/// before it are written then, and [`Refusal::filler_words`] tells how many words were missing so far, from the header on.
+/// Where the frame is done, none was.
 ///
 /// ```
 /// let mut samples = vec![7; 646 * 436];
 /// let refused = razvolk::decode_v2(&[0; 16], 646, 436, &mut samples).unwrap_err();
 /// assert_eq!(refused.to_string(), "the stream ends in row 0");
+/// assert_eq!(refused.filler_words(), 7);
 /// assert_eq!([samples[639], samples[640]], [1, 7], "that row is written, but for its last 6 samples");
 /// ```
 pub fn decode_v2(src: &[u8], width: usize, height: usize, out: &mut [u16]) -> Result<(), Refusal> {
@@ -55,19 +57,28 @@ mod tests {
     #[test]
     fn frames_of_the_document() {
         let (refusal, out, map) = decoded(&[], 646, 436);
-        assert_eq!(refusal, Refusal::EarlyMotion { row: 0 });
+        assert_eq!(refusal, Refusal::EarlyMotion { row: 0, filler: 5 });
         assert!(out.iter().all(|&s| s == 7) && map.iter().all(|&m| m == 1));
         let (refusal, out, map) = decoded(&[0; 16], 646, 436);
-        assert_eq!(refusal, Refusal::Overrun { row: 0 });
+        assert_eq!(refusal, Refusal::Overrun { row: 0, filler: 7 });
         assert!(out[..640].iter().all(|&s| s == 1) && out[640..].iter().all(|&s| s == 7));
         assert!(map[..640].iter().all(|&m| m == 0) && map[640..].iter().all(|&m| m == 1));
+    }
+
+    #[test]
+    fn lengths_are_read_one_by_one() {
+        // The first length of row 0 is too long, and has the last bits of the stream: no word is missing up to it.
+        let stream = [0, 0, 0, 0, 0, 0, 0, 0, 0, 1, 0, 0, 0, 0, 0, 0, 0xff, 0xff, 0x01, 0xc0];
+        let (refusal, out, _) = decoded(&stream, 646, 436);
+        assert_eq!(refusal, Refusal::LongDifference { row: 0, filler: 0 });
+        assert!(out.iter().all(|&s| s == 7));
     }
 
     #[test]
     fn sizes_of_the_document() {
         for (width, height, number) in [(645, 436, 2), (646, 435, 2), (16_385, 0, 1), (0, 16_385, 1), (647, 436, 3)] {
             let (refusal, out, map) = decoded(&[0; 16], width, height);
-            assert_eq!(Some(refusal), Refusal::of(number, 0), "{width} by {height}");
+            assert_eq!(Some(refusal), Refusal::of(number, 0, 0), "{width} by {height}");
             assert!(out.iter().all(|&s| s == 7) && map.iter().all(|&m| m == 9));
         }
         let mut out = vec![7; 646 * 436];

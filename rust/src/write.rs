@@ -123,7 +123,7 @@ mod tests {
         for (samples, (width, height), bytes, rows, number) in cases {
             let (mut stream, mut offsets) = (vec![9; bytes], vec![9; rows]);
             let answer = write_v0(samples, width, height, &mut stream, &mut offsets);
-            assert_eq!(answer.err(), Refusal::of(number, 0), "{width} by {height}");
+            assert_eq!(answer.err(), Refusal::of(number, 0, 0), "{width} by {height}");
             assert_eq!((stream, offsets), (vec![9; bytes], vec![9; rows]));
         }
         let more = [0, 0, 0, 0, 16_384];

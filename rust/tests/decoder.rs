@@ -24,16 +24,17 @@ fn frames() -> Vec<Frame> {
     frames
 }
 
-/// By the functions: the answer, and the marks where the stream was begun.
-fn by_functions(frame: &Frame, samples: &mut [u16], direct: bool) -> (Result<(), Refusal>, Option<Vec<u8>>) {
+/// By the functions: the answer with the count of missing words, which the two-phase decoder does not tell, and the marks
+/// where the stream was begun.
+fn by_functions(frame: &Frame, samples: &mut [u16], direct: bool) -> (Result<Option<u64>, Refusal>, Option<Vec<u8>>) {
     let &Frame { version, width, height, ref stream, ref offsets } = frame;
     let (mut map, mut scratch) = (vec![7; width * height], vec![7; scratch_len(width, height)]);
     let answer = match (version, direct) {
-        (Version::V2, _) => razvolk::decode_v2_map(stream, width, height, samples, &mut map),
-        (_, true) => razvolk::decode_v0_reference_map(stream, offsets, width, height, samples, &mut map),
-        _ => razvolk::decode_v0_map(stream, offsets, width, height, samples, &mut map, &mut scratch),
+        (Version::V2, _) => razvolk::decode_v2_map(stream, width, height, samples, &mut map).map(|()| Some(0)),
+        (_, true) => razvolk::decode_v0_reference_map(stream, offsets, width, height, samples, &mut map).map(Some),
+        _ => razvolk::decode_v0_map(stream, offsets, width, height, samples, &mut map, &mut scratch).map(|()| None),
     };
-    let begun = answer.map_or_else(Refusal::has_begun, |()| true);
+    let begun = answer.map_or_else(Refusal::has_begun, |_| true);
     (answer, begun.then_some(map))
 }
 
@@ -41,7 +42,7 @@ fn by_functions(frame: &Frame, samples: &mut [u16], direct: bool) -> (Result<(),
 fn a_kept_decoder_gives_what_the_functions_give() {
     let mut decoder = Decoder::new();
     let (mut samples, mut expected) = (vec![9; 646 * 436], vec![9; 646 * 436]);
-    let mut refused = [0; 9];
+    let (mut refused, mut missing) = ([0; 9], 0);
     for (i, frame) in frames().iter().cycle().take(100).enumerate() {
         let &Frame { version, width, height, ref stream, ref offsets } = frame;
         let result = match version {
@@ -50,7 +51,13 @@ fn a_kept_decoder_gives_what_the_functions_give() {
         };
         let told = result.map(|marks| marks.bytes().to_vec());
         let (answer, marks) = by_functions(frame, &mut expected, i % 3 == 0);
-        assert_eq!(told.as_ref().map(|_| ()).map_err(|refusal| *refusal), answer, "frame {i}");
+        assert_eq!(told.as_ref().map(|_| ()).map_err(|refusal| *refusal), answer.map(|_| ()), "frame {i}");
+        let filler = decoder.marks().map_or(0, Marks::filler_words);
+        assert!(
+            answer.map_or_else(|r| filler == r.filler_words(), |count| count.is_none_or(|c| c == filler)),
+            "frame {i}"
+        );
+        missing += u64::from(answer.is_ok_and(|count| count > Some(0)));
         assert_eq!(decoder.marks().map(|marks| marks.bytes().to_vec()), marks, "frame {i}");
         assert!(told.is_err() || told.ok() == marks, "frame {i}");
         assert!(samples == expected, "frame {i}");
@@ -58,5 +65,5 @@ fn a_kept_decoder_gives_what_the_functions_give() {
         let counted = decoder.marks().map_or(0, Marks::count);
         assert_eq!(decoder.marks().map_or(0, |marks| marks.rows().map(|(_, count)| count).sum()), counted);
     }
-    assert!([0, 1, 2, 3, 8].iter().all(|&number| refused[number] > 0), "{refused:?}");
+    assert!([0, 1, 2, 3, 8].iter().all(|&number| refused[number] > 0) && missing > 3, "{refused:?}, {missing}");
 }

@@ -42,19 +42,25 @@ pub struct Lent<'a> {
     pub scratch: &'a mut [u8],
 }
 
-/// Number 0 is done.
+/// Number 0 is done. The Rust tells of no missing words: what is held to it leaves the count out.
 #[derive(Clone, Copy, Debug, PartialEq, Eq)]
 pub struct Answer {
     pub number: u32,
     pub row: u32,
+    pub filler: u64,
 }
 
 impl Answer {
-    pub const DONE: Answer = Answer { number: 0, row: 0 };
+    pub const DONE: Answer = Answer { number: 0, row: 0, filler: 0 };
 
-    /// Refusals 1 to 4, 11 and 12, which name no row.
+    /// Refusals 1 to 4, 11 and 12, which name no row and tell of no missing words.
     pub fn refused(number: u32) -> Answer {
-        Answer { number, row: 0 }
+        Answer { number, row: 0, filler: 0 }
+    }
+
+    /// Done, and so many words were missing.
+    pub fn done_with(filler: u64) -> Answer {
+        Answer { filler, ..Answer::DONE }
     }
 
     /// Whether the stream was decoded, to its end or up to a refusal.
@@ -65,7 +71,7 @@ impl Answer {
 
 impl fmt::Display for Answer {
     fn fmt(&self, f: &mut fmt::Formatter<'_>) -> fmt::Result {
-        write!(f, "{}, row {}", self.number, self.row)
+        write!(f, "{}, row {}, {} words missing", self.number, self.row, self.filler)
     }
 }
 
@@ -116,20 +122,26 @@ impl Entry {
 }
 
 fn answer(result: Result<(), razvolk::Refusal>) -> Answer {
-    match result {
-        Ok(()) => Answer::DONE,
-        Err(refusal) => Answer { number: refusal.number(), row: refusal.row() },
-    }
+    counted(result.map(|()| 0))
+}
+
+fn counted(result: Result<u64, razvolk::Refusal>) -> Answer {
+    let refused = |refusal: razvolk::Refusal| Answer {
+        number: refusal.number(),
+        row: refusal.row(),
+        filler: refusal.filler_words(),
+    };
+    result.map_or_else(refused, Answer::done_with)
 }
 
 /// Razvolk's entries: a new decoder is one more here.
 pub fn razvolk() -> Vec<Entry> {
     vec![
         Entry::new("decode_v0_reference", Decoder::Direct, false, |a, l| {
-            answer(razvolk::decode_v0_reference(a.src, a.offsets, a.width, a.height, l.samples))
+            counted(razvolk::decode_v0_reference(a.src, a.offsets, a.width, a.height, l.samples))
         }),
         Entry::new("decode_v0_reference_map", Decoder::Direct, true, |a, l| {
-            answer(razvolk::decode_v0_reference_map(a.src, a.offsets, a.width, a.height, l.samples, l.map))
+            counted(razvolk::decode_v0_reference_map(a.src, a.offsets, a.width, a.height, l.samples, l.map))
         }),
         Entry::new("decode_v0", Decoder::TwoPhase, false, |a, l| {
             answer(razvolk::decode_v0(a.src, a.offsets, a.width, a.height, l.samples, l.scratch))

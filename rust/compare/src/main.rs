@@ -1,7 +1,7 @@
 //! The comparisons with the Rust, as long as wanted. Each prints its seed, and how much was compared.
 
 use compare::call::{Difference, Entry, razvolk, razvolk_in_bands, razvolk_of};
-use compare::{bands, convert, jobs, lists, planes, reader, record, refusals, v0, v2, write};
+use compare::{bands, convert, jobs, lists, missing, planes, reader, record, refusals, states, v0, v2, write};
 use std::fmt::Display;
 use std::path::Path;
 use std::process::ExitCode;
@@ -10,7 +10,7 @@ use streams::Version::{V0, V2};
 
 const USAGE: &str = "usage: compare quick [SEED]
        compare long [SEED]
-       compare reader|v0|bands|v2|v2-full|refusals|lists|planes|write|convert COUNT [SEED]
+       compare reader|states|v0|bands|v2|v2-full|missing|refusals|lists|planes|write|convert COUNT [SEED]
        compare record FILE           writes recorded calls of the Rust
        compare record-check FILE     finds them equal
        compare jobs FOLDER           writes the job program's cases
@@ -25,12 +25,18 @@ struct Comparison {
     run: fn(u64, u64) -> Result<String, Difference>,
 }
 
-const COMPARISONS: [Comparison; 10] = [
+const COMPARISONS: [Comparison; 12] = [
     Comparison {
         name: "reader",
         quick: 20_000_000,
         long: 1_000_000_000,
         run: |seed, n| Ok(reader::compare(reader::razvolk, reader::reference, seed, n)?.to_string()),
+    },
+    Comparison {
+        name: "states",
+        quick: 2_000_000,
+        long: 100_000_000,
+        run: |seed, n| Ok(states::compare(states::RAZVOLK, seed, n)?.to_string()),
     },
     Comparison {
         name: "v0",
@@ -55,6 +61,12 @@ const COMPARISONS: [Comparison; 10] = [
         quick: 0,
         long: 50,
         run: |seed, n| of(&razvolk_of(V2), |entries| v2::full::compare(entries, seed, n)),
+    },
+    Comparison {
+        name: "missing",
+        quick: 65,
+        long: 2_000,
+        run: |seed, n| of(&razvolk(), |_| missing::compare(&razvolk_of(V0), &razvolk_of(V2), seed, n)),
     },
     Comparison {
         name: "refusals",

@@ -1,6 +1,7 @@
 //! The bit reader: Razvolk's `Ph1Bits`, over `razvolk::bits`, against the Rust's, step by step. Value, position and overrun are
-//! compared after each step; the unread bits, which the Rust keeps to itself, show in the reads that follow. A state with more
-//! than 31 of them has no counterpart there.
+//! compared after each step; the unread bits, which the Rust keeps to itself, show in the reads that follow. The count of
+//! missing words, which the Rust does not have, is held to the positions that the Rust fetches from. A state with more than 31
+//! unread bits has no counterpart there, nor has one with a large count: [`crate::states`] tries them.
 
 use crate::call::Difference;
 use std::fmt;
@@ -12,6 +13,8 @@ pub trait Reader {
     fn reset_at(&mut self, pos: u64);
     fn pos(&self) -> u64;
     fn overrun(&self) -> bool;
+    /// How many words were missing, where the reader tells it.
+    fn filler(&self) -> Option<u64>;
 }
 
 /// Starts a reader over a stream at a byte position.
@@ -27,9 +30,9 @@ pub fn reference<'a>(src: &'a [u8], pos: u64) -> Box<dyn Reader + 'a> {
     Box::new(reference::Ph1Bits::new(src, pos as usize))
 }
 
-/// Both have the same calls.
+/// Both have the same calls, but for the count.
 macro_rules! reads {
-    ($reader:ty) => {
+    ($reader:ty, $filler:expr) => {
         impl Reader for $reader {
             fn get(&mut self, n: u32) -> u32 {
                 <$reader>::get(self, n)
@@ -46,12 +49,16 @@ macro_rules! reads {
             fn overrun(&self) -> bool {
                 <$reader>::overrun(self)
             }
+
+            fn filler(&self) -> Option<u64> {
+                $filler(self)
+            }
         }
     };
 }
 
-reads!(razvolk::Ph1Bits<'_>);
-reads!(reference::Ph1Bits<'_>);
+reads!(razvolk::Ph1Bits<'_>, |reader: &razvolk::Ph1Bits| Some(reader.filler_words()));
+reads!(reference::Ph1Bits<'_>, |_| None);
 
 /// A step of both readers.
 #[derive(Clone, Copy, Debug)]
@@ -81,22 +88,24 @@ pub struct Seen {
     pub widths: [u64; 42],
     pub streams: u64,
     pub resets: u64,
-    /// After how many reads the overrun was set, and how many took the position past 2^64.
+    /// After how many reads the overrun was set, how many words were missing, and how many reads took the position past 2^64.
     pub overrun: u64,
+    pub missing: u64,
     pub wrapped: u64,
 }
 
 impl fmt::Display for Seen {
     fn fmt(&self, f: &mut fmt::Formatter<'_>) -> fmt::Result {
-        let Seen { seed, reads, streams, resets, overrun, wrapped, .. } = self;
+        let Seen { seed, reads, streams, resets, overrun, missing, wrapped, .. } = self;
         writeln!(f, "reader, seed {seed}: {streams} streams, {resets} resets")?;
-        writeln!(f, "reader: the overrun was set after {overrun} reads, {wrapped} reads took the position past 2^64")?;
+        writeln!(f, "reader: the overrun was set after {overrun} reads, {missing} words were missing")?;
+        writeln!(f, "reader: {wrapped} reads took the position past 2^64")?;
         write!(f, "reader: {reads} reads compared with the Rust, no difference")
     }
 }
 
 /// A stream of 0 to 200 bytes: random ones, or all 0, or all FF.
-fn stream(random: &mut Random) -> Vec<u8> {
+pub fn stream(random: &mut Random) -> Vec<u8> {
     let len = random.below(201) as usize;
     match random.below(16) {
         0 => vec![0; len],
@@ -106,7 +115,7 @@ fn stream(random: &mut Random) -> Vec<u8> {
 }
 
 /// A position in the stream or just past it, near 2^64, or anywhere.
-fn position(random: &mut Random, len: usize) -> u64 {
+pub fn position(random: &mut Random, len: usize) -> u64 {
     match random.below(8) {
         0 => 0u64.wrapping_sub(random.below(24)),
         1 => random.number(),
@@ -115,7 +124,7 @@ fn position(random: &mut Random, len: usize) -> u64 {
 }
 
 /// A width of 0 to 40 bits, or of 2^32 - 1.
-fn width(random: &mut Random) -> u32 {
+pub fn width(random: &mut Random) -> u32 {
     match random.below(42) as u32 {
         41 => u32::MAX,
         n => n,
@@ -125,7 +134,7 @@ fn width(random: &mut Random) -> u32 {
 /// Takes two readers through the same steps until `reads` reads are compared, or up to the first difference.
 pub fn compare(one: Start, other: Start, seed: u64, reads: u64) -> Result<Seen, Difference> {
     let mut random = Random::new(seed);
-    let mut seen = Seen { seed, reads: 0, widths: [0; 42], streams: 0, resets: 0, overrun: 0, wrapped: 0 };
+    let mut seen = Seen { seed, reads: 0, widths: [0; 42], streams: 0, resets: 0, overrun: 0, missing: 0, wrapped: 0 };
     while seen.reads < reads {
         over_a_stream(one, other, &mut random, &mut seen, reads).map_err(|what| {
             Difference(format!("reader, seed {seed}: a difference after {} reads\n{what}", seen.reads))
@@ -139,7 +148,7 @@ fn over_a_stream(one: Start, other: Start, random: &mut Random, seen: &mut Seen,
     let start = position(random, src.len());
     let (mut one, mut other) = (one(&src, start), other(&src, start));
     let mut steps = Vec::new();
-    let mut before = start;
+    let (mut before, mut missing) = (start, 0);
     seen.streams += 1;
     for _ in 0..=random.below(96) {
         let step = match random.below(16) {
@@ -147,12 +156,16 @@ fn over_a_stream(one: Start, other: Start, random: &mut Random, seen: &mut Seen,
             _ => Step::Get(width(random)),
         };
         steps.push(step);
-        let (one, other) = (shown(&mut *one, step), shown(&mut *other, step));
-        if one != other {
-            let found = format!("value, position and overrun are {one:x?} and {other:x?}");
-            return Err(format!("stream {src:02x?}, from position {start:#x}: {steps:x?}\n{found}"));
+        let (found, expected) = (shown(&mut *one, step), shown(&mut *other, step));
+        let (_, after, overrun) = expected;
+        if let Step::Get(_) = step {
+            missing += u64::from(after != before && !is_whole(&src, before));
         }
-        let (_, after, overrun) = other;
+        if found != expected || one.filler().is_some_and(|count| count != missing) {
+            let told = format!("value, position and overrun are {found:x?} and {expected:x?}");
+            let counts = format!("{:?} words and {missing} were missing", one.filler());
+            return Err(format!("stream {src:02x?}, from position {start:#x}: {steps:x?}\n{told}; {counts}"));
+        }
         match step {
             Step::ResetAt(_) => seen.resets += 1,
             Step::Get(n) => {
@@ -167,5 +180,11 @@ fn over_a_stream(one: Start, other: Start, random: &mut Random, seen: &mut Seen,
             break;
         }
     }
+    seen.missing += missing;
     Ok(())
+}
+
+/// Whether the four bytes from a position on all lie in the stream.
+pub fn is_whole(src: &[u8], pos: u64) -> bool {
+    u128::from(pos) + 4 <= src.len() as u128
 }

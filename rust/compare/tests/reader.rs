@@ -1,6 +1,8 @@
-//! The reader's comparison, a quick part of it; and readers that are wrong, each of which it must find out.
+//! The reader's comparisons, a quick part of each; and readers that are wrong, each of which they must find out.
 
 use compare::reader::{Reader, Start, compare, razvolk, reference};
+use compare::states::{self, ByValue};
+use razvolk::bits::{Bits, Got};
 
 #[test]
 fn razvolk_reads_as_the_rust_does() {
@@ -11,6 +13,7 @@ fn razvolk_reads_as_the_rust_does() {
     assert!(seen.widths.iter().all(|&n| n > 10_000), "every width was read: {:?}", seen.widths);
     assert!(seen.resets > 10_000 && seen.wrapped > 1_000, "{seen}");
     assert!(seen.overrun > 100_000 && seen.reads - seen.overrun > 100_000, "{seen}");
+    assert!(seen.missing > 100_000, "{seen}");
 }
 
 /// A reader of its own, right but for one fault.
@@ -21,6 +24,7 @@ struct Wrong<'a> {
     unread: u64,
     count: u32,
     overrun: bool,
+    filler: u64,
 }
 
 #[derive(Clone, Copy, PartialEq)]
@@ -34,6 +38,10 @@ enum Fault {
     WideReads,
     StuckAtTheEnd,
     ForgottenOverrun,
+    ForgottenCount,
+    CountOfReads,
+    CountAsAFlag,
+    CountAtTheEndAlone,
     KeptBits,
 }
 
@@ -47,6 +55,13 @@ impl Wrong<'_> {
         };
         let whole = rest.len() >= 4;
         self.overrun |= !whole;
+        self.filler = match self.fault {
+            _ if whole => self.filler,
+            Fault::CountAsAFlag => 1,
+            // Where no byte of the word is left.
+            Fault::CountAtTheEndAlone => self.filler + u64::from(rest.is_empty()),
+            _ => self.filler + 1,
+        };
         if whole || self.fault == Fault::LeftoverBytes {
             let n = rest.len().min(4);
             word[..n].copy_from_slice(&rest[..n]);
@@ -76,6 +91,9 @@ impl Reader for Wrong<'_> {
         if self.count < n || self.fault == Fault::EagerFetch && self.count == n {
             self.fetch();
         }
+        if self.fault == Fault::CountOfReads && self.overrun && n > 0 {
+            self.filler += 1;
+        }
         self.count -= n;
         let value = self.unread >> self.count;
         self.unread &= (1 << self.count) - 1;
@@ -85,6 +103,9 @@ impl Reader for Wrong<'_> {
     fn reset_at(&mut self, pos: u64) {
         self.pos = pos;
         self.overrun &= self.fault != Fault::ForgottenOverrun;
+        if self.fault == Fault::ForgottenCount {
+            self.filler = 0;
+        }
         if self.fault != Fault::KeptBits {
             (self.unread, self.count) = (0, 0);
         }
@@ -97,12 +118,16 @@ impl Reader for Wrong<'_> {
     fn overrun(&self) -> bool {
         self.overrun
     }
+
+    fn filler(&self) -> Option<u64> {
+        Some(self.filler)
+    }
 }
 
 macro_rules! start {
     ($fault:ident) => {
         (stringify!($fault), |src, pos| {
-            Box::new(Wrong { src, fault: Fault::$fault, pos, unread: 0, count: 0, overrun: false })
+            Box::new(Wrong { src, fault: Fault::$fault, pos, unread: 0, count: 0, overrun: false, filler: 0 })
         })
     };
 }
@@ -115,7 +140,7 @@ fn a_reader_of_its_own_without_a_fault_is_alike() {
 
 #[test]
 fn a_wrong_reader_is_found_out() {
-    let wrong: [(&str, Start); 9] = [
+    let wrong: [(&str, Start); 13] = [
         start!(LeftoverBytes),
         start!(FillerOfZeros),
         start!(HighestByteFirst),
@@ -124,10 +149,47 @@ fn a_wrong_reader_is_found_out() {
         start!(WideReads),
         start!(StuckAtTheEnd),
         start!(ForgottenOverrun),
+        start!(ForgottenCount),
+        start!(CountOfReads),
+        start!(CountAsAFlag),
+        start!(CountAtTheEndAlone),
         start!(KeptBits),
     ];
     for (fault, start) in wrong {
         let found = compare(start, reference, 7, 100_000);
         assert!(found.is_err(), "{fault} was not found out");
     }
+}
+
+/// A fault of a read by value: what it makes of the state before and what was rightly read.
+fn wrong_state(get: fn(&[u8], Bits, u32) -> Got) -> bool {
+    states::compare(ByValue { get, ..states::RAZVOLK }, 7, 20_000).is_err()
+}
+
+/// As a right read has it, but for the count.
+fn counted(src: &[u8], state: Bits, n: u32, count: fn(u64) -> u64) -> Got {
+    let mut got = states::get(src, Bits { filler: 0, ..state }, n);
+    got.bits.filler = if got.bits.filler == 1 { count(state.filler) } else { state.filler };
+    got
+}
+
+#[test]
+fn razvolk_reads_any_state_by_the_rules() {
+    let seen = states::compare(states::RAZVOLK, 0x5eed, 400_000).unwrap_or_else(|difference| panic!("{difference}"));
+    println!("{seen}");
+    assert!(seen.overfull > 10_000 && seen.missing > 50_000 && seen.full > 20_000, "{seen}");
+}
+
+#[test]
+fn a_wrong_read_of_a_state_is_found_out() {
+    assert!(!wrong_state(|src, state, n| counted(src, state, n, |count| count.saturating_add(1))));
+    assert!(wrong_state(|src, state, n| counted(src, state, n, |count| count.wrapping_add(1))), "the count wraps");
+    assert!(wrong_state(|src, state, n| counted(src, state, n, |_| 1)), "a count that is a flag");
+    assert!(wrong_state(|src, state, n| counted(src, state, n, |count| count)), "nothing is counted");
+    assert!(wrong_state(|src, state, n| counted(src, state, n, |count| count.saturating_add(2))), "counted twice");
+    let stopped = |src: &[u8], state, n| counted(src, state, n, |count| count.saturating_add(1).min(u64::MAX - 1));
+    assert!(wrong_state(stopped), "the count stops one too soon");
+    assert!(wrong_state(|src, state, n| states::get(src, Bits { count: state.count % 32, ..state }, n)), "overfull");
+    let lost = ByValue { reset_at: |_, pos| Bits::new(pos), ..states::RAZVOLK };
+    assert!(states::compare(lost, 7, 20_000).is_err(), "a move loses the count");
 }

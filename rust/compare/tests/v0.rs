@@ -2,7 +2,7 @@
 
 use compare::call::{Decoder, Entry, razvolk_of};
 use compare::v0::model::{Fault, entry};
-use compare::{refusals, v0};
+use compare::{missing, refusals, v0};
 use streams::Version;
 
 fn own(fault: Fault) -> Vec<Entry> {
@@ -18,8 +18,16 @@ fn razvolk_decodes_v0_as_the_rust_does() {
     println!("{seen}");
     assert_eq!(seen.calls, 4_000 * 2 * entries.len() as u64);
     assert!(seen.upward > 1_000 && seen.operations.iter().all(|&n| n > 10_000), "{seen}");
-    assert!(seen.none > 5_000 && seen.long > 100 && seen.overruns > 1_000, "{seen}");
+    assert!(seen.none > 5_000 && seen.long > 100 && seen.missing.rows > 1_000 && seen.missing.words > 10_000, "{seen}");
     assert!(seen.spill > 1_000 && seen.old > 1_000, "{seen}");
+}
+
+#[test]
+fn razvolk_counts_the_missing_words_of_v0() {
+    let seen = missing::compare(&razvolk_of(Version::V0), &[], 0x5eed, 40);
+    let seen = seen.unwrap_or_else(|difference| panic!("{difference}"));
+    println!("{seen}");
+    assert!(seen.v0.frames > 1_000 && seen.v0.missing.words > 20_000, "{seen}");
 }
 
 #[test]
@@ -33,12 +41,15 @@ fn razvolk_refuses_v0_by_the_rules() {
 #[test]
 fn a_decoder_of_its_own_without_a_fault_is_alike() {
     v0::compare(&own(Fault::None), 7, 8_000).unwrap_or_else(|difference| panic!("{difference}"));
+    missing::compare(&own(Fault::None), &[], 7, 20).unwrap_or_else(|difference| panic!("{difference}"));
     refusals::compare(&own(Fault::None), 7, 4_000).unwrap_or_else(|difference| panic!("{difference}"));
 }
 
 #[test]
 fn a_wrong_decoder_is_found_out() {
-    let found_out = |fault: &Fault| v0::compare(&own(*fault), 7, 4_000).is_err();
+    let found_out = |fault: &Fault| {
+        v0::compare(&own(*fault), 7, 4_000).is_err() || missing::compare(&own(*fault), &[], 7, 60).is_err()
+    };
     let missed: Vec<Fault> = Fault::ALL.iter().copied().filter(|fault| !found_out(fault)).collect();
     assert!(missed.is_empty(), "not found out: {missed:?}");
 }

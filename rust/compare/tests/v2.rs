@@ -2,7 +2,7 @@
 
 use compare::call::{Answer, Ask, Entry, Lent, razvolk_of};
 use compare::v2::model::{Fault, entry};
-use compare::{refusals, v2};
+use compare::{missing, refusals, v2};
 use streams::bits::Writer;
 use streams::random::Random;
 use streams::v2::any::Header;
@@ -58,7 +58,7 @@ fn number_6_comes_exactly_at_row_2_column_0_motions_0_to_2() {
         for entry in razvolk_of(Version::V2) {
             let (mut out, mut map) = (old.clone(), vec![1; old.len()]);
             let answer = entry.call(&Ask::of(&frame), &mut Lent { samples: &mut out, map: &mut map, scratch: &mut [] });
-            let at = if six { Answer { number: 6, row: 2 } } else { Answer::DONE };
+            let at = if six { Answer { number: 6, row: 2, filler: 0 } } else { Answer::DONE };
             assert_eq!(answer, at, "{}: row {row}, block {block}, motion {motion}", entry.name);
             assert!(out == samples, "{}: row {row}, block {block}, motion {motion}", entry.name);
         }
@@ -72,6 +72,28 @@ fn frames_of_full_size_are_the_largest_and_a_camera_s() {
     let count = |size: (usize, usize)| sizes.iter().filter(|&&one| one == size).count();
     assert!(count((16_384, 16_384)) == 2 && count((6_496, 4_336)) == 20, "{sizes:?}");
     assert!(sizes.iter().all(|&(width, height)| (646..=16_384).contains(&width) && (436..=16_384).contains(&height)));
+}
+
+#[test]
+fn razvolk_counts_the_missing_words_of_v2() {
+    let seen = missing::compare(&[], &razvolk_of(Version::V2), 0x5eed, 64);
+    let seen = seen.unwrap_or_else(|difference| panic!("{difference}"));
+    println!("{seen}");
+    assert!(seen.v2.calls > 1_000 && seen.v2.missing > 5_000, "{seen}");
+    assert!([5, 7, 8].iter().all(|&i| seen.v2.numbers[i] > 4), "{seen}");
+}
+
+/// The first length is too long, and has the last bits of the stream: the other lengths would need a missing word.
+#[test]
+fn lengths_are_read_one_by_one() {
+    let mut stream = vec![0; 20];
+    (stream[9], stream[16], stream[17], stream[18], stream[19]) = (1, 0xff, 0xff, 0x01, 0xc0);
+    let frame = Frame { stream, ..Frame::new(Version::V2, 646, 436) };
+    for entry in razvolk_of(Version::V2).into_iter().chain(own(Fault::None)) {
+        let (mut out, mut map) = (vec![7; frame.samples()], vec![9; frame.samples()]);
+        let answer = entry.call(&Ask::of(&frame), &mut Lent { samples: &mut out, map: &mut map, scratch: &mut [] });
+        assert_eq!(answer, Answer { number: 7, row: 0, filler: 0 }, "{}", entry.name);
+    }
 }
 
 #[test]
@@ -90,7 +112,9 @@ fn a_decoder_of_its_own_without_a_fault_is_alike() {
 
 #[test]
 fn a_wrong_decoder_is_found_out() {
-    let found_out = |fault: &Fault| v2::compare(&own(*fault), 7, 150).is_err();
+    let found_out = |fault: &Fault| {
+        v2::compare(&own(*fault), 7, 150).is_err() || missing::compare(&[], &own(*fault), 7, 64).is_err()
+    };
     let missed: Vec<Fault> = Fault::ALL.iter().copied().filter(|fault| !found_out(fault)).collect();
     assert!(missed.is_empty(), "not found out: {missed:?}");
 }

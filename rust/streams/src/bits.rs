@@ -100,9 +100,11 @@ impl<'a> Reader<'a> {
         self.start + 4 * self.at.div_ceil(32)
     }
 
-    /// Whether one of these words was missing. (No position lies near 2^64 here.)
-    pub fn overrun(&self) -> bool {
-        self.at > 0 && self.pos() > self.src.len() as u64
+    /// How many of these words were missing: those past the whole words that the stream has from the start on. (No position
+    /// lies near 2^64 here.)
+    pub fn filler(&self) -> u64 {
+        let whole = (self.src.len() as u64).saturating_sub(self.start) / 4;
+        self.at.div_ceil(32).saturating_sub(whole)
     }
 }
 
@@ -123,8 +125,11 @@ mod tests {
         for (value, n) in fields {
             assert_eq!(u64::from(reader.get(n)), u64::from(value) & ((1 << n) - 1), "{n} bits");
         }
-        assert_eq!((reader.get(6), reader.pos(), reader.overrun()), (0, 12, false));
-        assert_eq!((reader.get(8), reader.pos(), reader.overrun()), (0xff, 16, true));
+        assert_eq!((reader.get(6), reader.pos(), reader.filler()), (0, 12, 0));
+        assert_eq!((reader.get(8), reader.pos(), reader.filler()), (0xff, 16, 1));
+        assert_eq!((reader.get(24), reader.filler(), reader.get(1), reader.filler()), (0xff_ffff, 1, 1, 2));
+        let mut past = Reader::new(&bytes, 13);
+        assert_eq!((past.filler(), past.get(1), past.filler()), (0, 1, 1));
     }
 
     #[test]

@@ -14,8 +14,9 @@ pub fn frame(path: &Path, frame: &Frame, answer: Result<(), Refusal>, marks: Opt
     let file = string(&path.to_string_lossy());
     let mut line = format!("{{\"file\":{file},\"version\":\"{coding}\",\"width\":{width},\"height\":{height}");
     let bytes = stream.len();
-    write!(line, ",\"stream_bytes\":{bytes},\"missing_bytes\":{missing},\"answer\":{number},\"row\":{row}")
-        .expect("a string");
+    let words = marks.map_or(0, Marks::filler_words);
+    write!(line, ",\"stream_bytes\":{bytes},\"missing_bytes\":{missing},\"missing_words\":{words}").expect("a string");
+    write!(line, ",\"answer\":{number},\"row\":{row}").expect("a string");
     write!(line, ",\"text\":{}", string(&text)).expect("a string");
     if let Some(marks) = marks {
         let run = |Rows { first, last, count }| format!("{{\"first\":{first},\"last\":{last},\"old\":{count}}}");

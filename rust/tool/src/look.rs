@@ -4,7 +4,7 @@ use crate::form::{self, Decoded, Form, Picture};
 use crate::report;
 use crate::worker::Worker;
 use razvolk::srw::{self, Fault, Frame};
-use razvolk::{MAX_SIDE, Refusal};
+use razvolk::{MAX_SIDE, Marks, Refusal};
 
 /// What came of a frame.
 pub struct Look<'a> {
@@ -32,7 +32,8 @@ impl<'a> Look<'a> {
 
     /// The exit status of a frame by itself: 1 refused, 3 something old or missing, 0 clean.
     pub fn status(&self) -> u8 {
-        let clean = self.missing == 0 && self.decoded.is_none_or(|decoded| decoded.marks.is_clean());
+        let clean = |marks: Marks| marks.is_clean() && marks.filler_words() == 0;
+        let clean = self.missing == 0 && self.decoded.is_none_or(|decoded| clean(decoded.marks));
         match self.answer {
             Err(_) => 1,
             Ok(()) if clean => 0,
@@ -42,7 +43,7 @@ impl<'a> Look<'a> {
 
     /// What is told of it.
     pub fn text(&self, name: &str, frame: &Frame) -> String {
-        let marks = report::marks(self.decoded.map(|decoded| decoded.marks), frame.missing);
+        let marks = report::marks(self.decoded.map(|decoded| decoded.marks));
         format!("{}\n{}\n{marks}", report::heading(name, frame), report::answer(self.answer))
     }
 }

@@ -43,9 +43,9 @@ pub fn answer(answer: Result<(), Refusal>) -> String {
     }
 }
 
-/// How many samples rest on old values, and in which rows. That all the others rest on the stream is not said: bits that were
-/// missing read as ones, and what is made of them is not marked.
-pub fn marks(marks: Option<Marks>, missing: usize) -> String {
+/// How many samples rest on old values, and in which rows; and how much of the stream was missing. That all the others rest on
+/// the stream is not said: what is made of missing words is not marked.
+pub fn marks(marks: Option<Marks>) -> String {
     let Some(marks) = marks else { return "nothing was decoded\n".into() };
     let (all, old) = (marks.bytes().len(), marks.count());
     let mut text = match old {
@@ -53,8 +53,14 @@ pub fn marks(marks: Option<Marks>, missing: usize) -> String {
         _ => format!("{old} of {all} samples rest on what the buffer held before\n"),
     };
     text += &listing(&alike(marks), marks.width());
-    if missing > 0 {
-        text += "missing bytes read as ones: samples made of them are not marked\n";
+    let words = marks.filler_words();
+    if words > 0 {
+        let bytes = words.saturating_mul(4);
+        writeln!(
+            text,
+            "missing: {words} words, {bytes} bytes; they read as ones, and what is made of them is not marked"
+        )
+        .expect("a string");
     }
     text
 }

@@ -60,7 +60,7 @@ fn decode(fault: Fault, ask: &Ask, lent: &mut Lent) -> Answer {
         Fault::ScratchChangedByTwelve if number == 12 => lent.scratch.fill(0),
         _ => {}
     }
-    Answer { number, row: u32::from(fault == Fault::TwelveWithARow && number == 12) }
+    Answer { row: u32::from(fault == Fault::TwelveWithARow && number == 12), ..Answer::refused(number) }
 }
 
 /// Whether the frame may be cut so.

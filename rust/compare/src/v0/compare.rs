@@ -1,9 +1,9 @@
-//! V0's entries against the Rust: samples over the whole buffer, marks against runs over two sets of old values, scratch
-//! against the directions read on their own.
+//! V0's entries against the Rust: samples over the whole buffer, marks against runs over two sets of old values, scratch and
+//! the count of missing words against the frame's blocks read on their own.
 
-use super::parse;
+use super::parse::{self, Missing};
 use crate::bands::Cut;
-use crate::call::{Answer, Ask, Difference, Entry, Lent, first_difference};
+use crate::call::{Answer, Ask, Decoder, Difference, Entry, Lent, first_difference};
 use std::fmt;
 use streams::random::Random;
 use streams::{Frame, v0};
@@ -22,8 +22,8 @@ pub struct Seen {
     /// Lengths of 0 and below, and above 32.
     pub none: u64,
     pub long: u64,
-    /// Rows in which the stream ended, frames with spill, frames with old samples.
-    pub overruns: u64,
+    /// Rows in which the stream ended and words missing there, frames with spill, frames with old samples.
+    pub missing: Missing,
     pub spill: u64,
     pub old: u64,
     pub marked: u64,
@@ -32,10 +32,11 @@ pub struct Seen {
 impl fmt::Display for Seen {
     fn fmt(&self, f: &mut fmt::Formatter<'_>) -> fmt::Result {
         let Seen { seed, frames, calls, samples, blocks, upward, operations, none, long, .. } = self;
-        let Seen { overruns, spill, old, marked, .. } = self;
+        let Seen { missing, spill, old, marked, .. } = self;
         writeln!(f, "V0, seed {seed}: {frames} frames, {samples} samples, {calls} calls, {blocks} blocks")?;
         writeln!(f, "V0: {upward} upward blocks in rows 0 and 1, operations 0 to 3: {operations:?}")?;
-        writeln!(f, "V0: {none} lengths of 0 or below, {long} above 32, {overruns} rows past the stream's end")?;
+        writeln!(f, "V0: {none} lengths of 0 or below, {long} above 32")?;
+        writeln!(f, "V0: {} rows past the stream's end, {} words missing", missing.rows, missing.words)?;
         writeln!(f, "V0: {spill} frames with spill, {old} with samples marked 1, {marked} samples marked 1")?;
         write!(f, "V0: {frames} frames compared with the Rust, no difference")
     }
@@ -70,6 +71,7 @@ struct Expected {
     samples: [Vec<u16>; 2],
     marks: Vec<u8>,
     directions: Vec<u8>,
+    missing: Missing,
 }
 
 fn expected(frame: &Frame, old: Vec<u16>) -> Result<Expected, String> {
@@ -82,7 +84,8 @@ fn expected(frame: &Frame, old: Vec<u16>) -> Result<Expected, String> {
         return Err(format!("the Rust's decode_v0 and decode_v0_reference: {what}"));
     }
     let marks = marks(width * height, &samples[1], &samples[0])?;
-    Ok(Expected { old, samples, marks, directions: parse::directions(frame) })
+    let (directions, missing) = (parse::directions(frame), parse::heads(frame, |_| {}));
+    Ok(Expected { old, samples, marks, directions, missing })
 }
 
 /// Compares one frame through every entry, over both sets of old values; old samples and what the other buffers hold at entry
@@ -100,8 +103,10 @@ pub fn frame(entries: &[Entry], frame: &Frame, random: &mut Random, seen: &mut S
             let cut = Cut::fitting(entry.decoder, random, frame.width, frame.height);
             let answer = entry.call(&Ask { cut: &cut, ..Ask::of(frame) }, &mut lent);
             seen.calls += 1;
-            if answer != Answer::DONE {
-                return Err(format!("{}: answer {answer}, expected done", entry.name));
+            // The direct decoder alone tells of missing words.
+            let words = if entry.decoder == Decoder::Direct { expected.missing.words } else { 0 };
+            if answer != Answer::done_with(words) {
+                return Err(format!("{}: answer {answer}, expected {}", entry.name, Answer::done_with(words)));
             }
             let marks = if entry.map { &expected.marks[..] } else { &[] };
             let directions = if entry.decoder.in_phases() { &expected.directions[..] } else { &[] };
@@ -127,7 +132,7 @@ fn note(frame: &Frame, expected: &Expected, seen: &mut Seen) {
     seen.marked += marked;
     seen.old += u64::from(marked > 0);
     seen.spill += u64::from(!frame.width.is_multiple_of(16) && frame.height > 1);
-    let overruns = parse::heads(frame, |head| {
+    parse::heads(frame, |head| {
         seen.blocks += 1;
         seen.upward += u64::from(head.row < 2 && head.direction == 1);
         for operation in head.operations {
@@ -138,7 +143,8 @@ fn note(frame: &Frame, expected: &Expected, seen: &mut Seen) {
             seen.long += u64::from(length > 32);
         }
     });
-    seen.overruns += overruns as u64;
+    seen.missing.rows += expected.missing.rows;
+    seen.missing.words += expected.missing.words;
 }
 
 /// Compares `frames` frames of every kind and size, up to the first difference.

@@ -37,6 +37,13 @@ crate::faults::faults!(
     LongDirections,
     DirectionsOfAllRows,
     SpillOverResiduals,
+    CountsNothing,
+    CountsRows,
+    CountsTheLastRow,
+    CountsNoLeftover,
+    CountsInTwoPhases,
+    NoSkipBound,
+    ConstantSkipped,
 );
 
 /// The entry of a decoder with a fault.
@@ -69,9 +76,9 @@ pub fn decode(fault: Fault, decoder: Decoder, map: bool, ask: &Ask, lent: &mut L
     let mark = |i: usize| if map && fault == Fault::MapKeptFromEntry { lent.map[i] } else { 1 };
     let cells = lent.samples.iter().enumerate().map(|(i, &s)| (s, if i < n { mark(i) } else { 0 })).collect();
     let mut work = Work { fault, ask, cells, directions: Vec::new() };
-    let overrun = work.rows(decoder);
-    if fault == Fault::RefusesOverrun && overrun {
-        return Answer { number: 8, row: 0 };
+    let filler = work.rows(decoder);
+    if fault == Fault::RefusesOverrun && filler > 0 {
+        return Answer::refused(8);
     }
     let before = work.cells.clone();
     work.exchange();
@@ -85,7 +92,8 @@ pub fn decode(fault: Fault, decoder: Decoder, map: bool, ask: &Ask, lent: &mut L
     if decoder.in_phases() {
         leave_directions(fault, ask, &work.directions, lent.scratch);
     }
-    Answer::DONE
+    let told = decoder == Decoder::Direct || fault == Fault::CountsInTwoPhases;
+    Answer::done_with(if told { filler } else { 0 })
 }
 
 fn leave_marks(fault: Fault, cells: &[Cell], map: &mut [u8]) {
@@ -126,21 +134,27 @@ struct Place {
 }
 
 impl Work<'_> {
-    /// Reads all rows, and tells whether the stream ended in one.
-    fn rows(&mut self, decoder: Decoder) -> bool {
-        let mut overrun = false;
+    /// Reads all rows, and tells how many words were missing.
+    fn rows(&mut self, decoder: Decoder) -> u64 {
+        let mut filler = 0;
         for row in 0..self.ask.height {
-            overrun |= self.row(row, decoder.in_phases() && row >= 2);
+            let words = self.row(row, decoder.in_phases() && row >= 2);
+            filler = match self.fault {
+                Fault::CountsNothing => 0,
+                Fault::CountsRows => filler + words.min(1),
+                Fault::CountsTheLastRow => words,
+                _ => filler + words,
+            };
         }
         if self.fault == Fault::SpillOverResiduals && self.ask.height > 2 {
             let directions = self.directions.len();
             self.row(1, false);
             self.directions.truncate(directions);
         }
-        overrun
+        filler
     }
 
-    fn row(&mut self, row: usize, late: bool) -> bool {
+    fn row(&mut self, row: usize, late: bool) -> u64 {
         let mut reader = Reader::new(self.ask.src, u64::from(self.ask.offsets[row]));
         let fresh = if row < 2 && self.fault != Fault::OneFreshLength { 7 } else { 4 };
         let mut lengths = [fresh; 4];
@@ -162,7 +176,9 @@ impl Work<'_> {
                 self.sample(Place { row, col, c, direction, late }, lengths[j], &mut reader);
             }
         }
-        reader.overrun()
+        // Where some bytes of a word are left, that word is not counted.
+        let leftover = self.fault == Fault::CountsNoLeftover && !self.ask.src.len().is_multiple_of(4);
+        reader.filler().saturating_sub(leftover.into())
     }
 
     fn sample(&mut self, place: Place, length: i32, reader: &mut Reader) {
@@ -174,7 +190,12 @@ impl Work<'_> {
             _ => length.clamp(0, 32) as u32,
         };
         let at = place.row * width + place.col + place.c;
-        if !place.late && skipped(width, height, place.row, place.col, place.c, place.direction) {
+        let skips = match fault {
+            Fault::NoSkipBound => place.direction == 1 && place.row < 1 + place.c % 2,
+            Fault::ConstantSkipped if at >= width * (height + 7) => true,
+            _ => skipped(width, height, place.row, place.col, place.c, place.direction),
+        };
+        if !place.late && skips {
             if fault == Fault::SkippedReadsBits {
                 reader.get(bits);
             }

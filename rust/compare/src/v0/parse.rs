@@ -1,4 +1,5 @@
-//! The heads of a V0 frame's blocks, read on their own: what scratch must hold, and what a frame makes use of.
+//! The heads of a V0 frame's blocks, read on their own: what scratch must hold, how many words are missing, and what a frame
+//! makes use of.
 
 use streams::Frame;
 use streams::bits::Reader;
@@ -13,10 +14,17 @@ pub struct Head {
     pub lengths: [i64; 4],
 }
 
-/// Hands on each block's head in turn, and tells how many rows met the end of the stream.
-pub fn heads(frame: &Frame, mut each: impl FnMut(Head)) -> usize {
+/// What a stream lacks: in how many rows, and how many words in all.
+#[derive(Clone, Copy, Debug, Default, PartialEq, Eq)]
+pub struct Missing {
+    pub rows: u64,
+    pub words: u64,
+}
+
+/// Hands on each block's head in turn, and tells what was missing where the direct decoder reads.
+pub fn heads(frame: &Frame, mut each: impl FnMut(Head)) -> Missing {
     let Frame { width, height, .. } = *frame;
-    let mut overruns = 0;
+    let mut missing = Missing::default();
     for row in 0..height {
         let mut reader = Reader::new(&frame.stream, u64::from(frame.offsets[row]));
         let mut lengths = [i64::from(fresh_length(row)); 4];
@@ -34,9 +42,10 @@ pub fn heads(frame: &Frame, mut each: impl FnMut(Head)) -> usize {
             }
             each(Head { row, col, direction, operations, lengths });
         }
-        overruns += usize::from(reader.overrun());
+        missing.rows += u64::from(reader.filler() > 0);
+        missing.words += reader.filler();
     }
-    overruns
+    missing
 }
 
 /// One direction byte for each block of rows 2 on, row by row.

@@ -21,6 +21,8 @@ pub struct Seen {
     pub numbers: [u64; NUMBERS],
     pub deep: u64,
     pub marked: u64,
+    /// How many words were missing.
+    pub missing: u64,
     /// How often each row was the one in which the stream ended.
     pub ends: Vec<u64>,
     pub used: Used,
@@ -28,13 +30,14 @@ pub struct Seen {
 
 impl fmt::Display for Seen {
     fn fmt(&self, f: &mut fmt::Formatter<'_>) -> fmt::Result {
-        let Seen { name, seed, streams, calls, samples, numbers, deep, marked, ends, used } = self;
+        let Seen { name, seed, streams, calls, samples, numbers, deep, marked, missing, ends, used } = self;
         writeln!(
             f,
             "{name}, seed {seed}: {streams} streams, {calls} calls, {samples} samples, {marked} of them marked 1"
         )?;
         let rows = ends.iter().filter(|&&n| n > 0).count();
-        writeln!(f, "{name}: answers 0 to 12: {numbers:?}; done or refused after row 2: {deep}; ends in {rows} rows")?;
+        writeln!(f, "{name}: answers 0 to 12: {numbers:?}; done or refused after row 2: {deep}")?;
+        writeln!(f, "{name}: ends in {rows} rows, {missing} words missing")?;
         let Used { motions, flags, none, scales, held } = used;
         writeln!(f, "{name}: motions 0 to 7: {motions:?}, flags 0 to 3: {flags:?}, blocks without lengths: {none}")?;
         writeln!(f, "{name}: scales from {} to {}, samples held to 0 and to the top: {held:?}", scales[0], scales[1])?;
@@ -42,7 +45,7 @@ impl fmt::Display for Seen {
     }
 }
 
-/// What the Rust answers and leaves over old values; it tells a row only with 8.
+/// What the Rust answers and leaves over old values; it tells a row only with 8, and of no missing words.
 pub fn rust(frame: &Frame, old: &[u16]) -> (Answer, Vec<u16>) {
     let mut out = old.to_vec();
     let answer = match reference::decode_v2(&frame.stream, frame.width, frame.height, &mut out) {
@@ -62,7 +65,7 @@ fn refusal(what: &str) -> Answer {
     }
     let row = what.split("truncated data at row ").nth(1).and_then(|rest| rest.split('/').next());
     match row.and_then(|row| row.parse().ok()) {
-        Some(row) => Answer { number: 8, row },
+        Some(row) => Answer { row, ..Answer::refused(8) },
         None => panic!("the Rust says: {what}"),
     }
 }
@@ -75,8 +78,9 @@ struct Expected {
     used: Used,
 }
 
-/// The Rust's number and samples. The rows of 5 to 7 and the marks are those of the decoder of its own, which must give the
-/// Rust's number and samples, and whose samples marked 0 must be the Rust's over other old values, too.
+/// The Rust's number and samples. The rows of 5 to 7, the count of missing words and the marks are those of the decoder of its
+/// own, which must give the Rust's number and samples, and whose samples marked 0 must be the Rust's over other old values,
+/// too.
 fn expected(frame: &Frame, old: &[u16], other: &[u16]) -> Result<Expected, String> {
     let (told, samples) = rust(frame, old);
     let mut own = old.to_vec();
@@ -135,6 +139,7 @@ impl Seen {
         self.numbers[answer.number as usize] += 1;
         self.deep += u64::from(answer == Answer::DONE || answer.row > 2);
         self.marked += expected.marks.iter().map(|&mark| u64::from(mark)).sum::<u64>();
+        self.missing += answer.filler;
         self.used.add(&expected.used);
         if answer.number == 8 {
             self.ends.resize(self.ends.len().max(answer.row as usize + 1), 0);

@@ -42,6 +42,12 @@ crate::faults::faults!(
     MapAfterDoneOnly,
     MapPastTheFrame,
     TouchesAMapNotLent,
+    CountsNothing,
+    CountsRows,
+    CountsOverrunAlone,
+    HeaderNotCounted,
+    LengthsReadAhead,
+    OverrunOfOneWord,
 );
 
 /// The entry of a decoder with a fault.
@@ -84,6 +90,8 @@ struct Work<'a> {
     initial: u16,
     samples: &'a mut [u16],
     marks: Vec<u8>,
+    /// How many words were missing in the header and the rows before.
+    filler: u64,
     used: Used,
 }
 
@@ -105,10 +113,21 @@ pub fn marked(fault: Fault, ask: &Ask, samples: &mut [u16]) -> (Answer, Vec<u8>,
     let options = header.get(4);
     header.get(26);
     let initial = header.get(14) as u16;
-    let mut work =
-        Work { fault, ask, depth, options, initial, samples, marks: vec![1; ask.n()], used: Used::default() };
+    let filler = if fault == Fault::HeaderNotCounted { 0 } else { header.filler() };
+    let (marks, used) = (vec![1; ask.n()], Used::default());
+    let mut work = Work { fault, ask, depth, options, initial, samples, marks, filler, used };
     let answer = work.rows();
-    (answer, work.marks, work.used)
+    (Answer { filler: told(fault, answer), ..answer }, work.marks, work.used)
+}
+
+/// How many words a decoder with a fault says were missing.
+fn told(fault: Fault, answer: Answer) -> u64 {
+    match fault {
+        Fault::CountsNothing => 0,
+        Fault::CountsRows => answer.filler.min(1),
+        Fault::CountsOverrunAlone if answer.number != 8 => 0,
+        _ => answer.filler,
+    }
 }
 
 pub fn decode(fault: Fault, map: bool, ask: &Ask, lent: &mut Lent) -> Answer {
@@ -152,17 +171,19 @@ impl Work<'_> {
             for col in (0..self.ask.width / 16).map(|block| 16 * block) {
                 if let Err(number) = self.block(&mut state, col, &mut reader) {
                     let row = row as u32 + u32::from(self.fault == Fault::WrongRow);
-                    let number = if self.fault == Fault::OverrunFirst && reader.overrun() { 8 } else { number };
-                    return Answer { number, row };
+                    let filler = self.filler + reader.filler();
+                    let number = if self.fault == Fault::OverrunFirst && filler > 0 { 8 } else { number };
+                    return Answer { number, row, filler };
                 }
             }
             if self.fault == Fault::TailPainted {
                 let tail = self.ask.width / 16 * 16;
                 self.samples[row * self.ask.width..][tail..self.ask.width].fill(0);
             }
-            if reader.overrun() {
+            self.filler += reader.filler();
+            if self.filler > 0 && (self.filler == 1 || self.fault != Fault::OverrunOfOneWord) {
                 self.samples[row * self.ask.width..][..before.len()].copy_from_slice(&before);
-                return Answer { number: 8, row: row as u32 };
+                return Answer { number: 8, row: row as u32, filler: self.filler };
             }
             start = reader.pos().next_multiple_of(if self.fault == Fault::AlignsToFour { 4 } else { 16 });
             motion = if self.fault == Fault::MotionKept { state.motion } else { 7 };
@@ -320,6 +341,9 @@ impl Work<'_> {
             *mode = [mode[1], length];
             let most = self.depth + u32::from(self.fault != Fault::TighterLengths);
             if length > most {
+                if self.fault == Fault::LengthsReadAhead {
+                    reader.get(4 * flags[j + 1..].iter().filter(|&&flag| flag == 3).count() as u32);
+                }
                 return Err(7);
             }
             lengths[j] = length;

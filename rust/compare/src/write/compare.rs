@@ -17,7 +17,10 @@ pub type Write<'a> = &'a dyn Fn(&Ask, &mut [u8], &mut [u32]) -> Written;
 pub fn razvolk(ask: &Ask, stream: &mut [u8], offsets: &mut [u32]) -> Written {
     match razvolk::write_v0(ask.samples, ask.width, ask.height, stream, offsets) {
         Ok(length) => Written { answer: Answer::DONE, length },
-        Err(refusal) => Written { answer: Answer { number: refusal.number(), row: refusal.row() }, length: 0 },
+        Err(refusal) => {
+            let (number, row, filler) = (refusal.number(), refusal.row(), refusal.filler_words());
+            Written { answer: Answer { number, row, filler }, length: 0 }
+        }
     }
 }
 
@@ -198,12 +201,12 @@ fn one(write: Write, entries: &[Entry], ask: &Ask, random: &mut Random, seen: &m
 /// What the blocks say, read on their own: direction 0, four operations 3, and no row goes past the stream's end.
 fn note(frame: &Frame, seen: &mut Seen) -> Result<(), String> {
     let mut others = 0;
-    let overruns = parse::heads(frame, |head| {
+    let missing = parse::heads(frame, |head| {
         others += u64::from(head.direction != 0 || head.operations != [3; 4]);
         head.lengths.into_iter().for_each(|length| seen.lengths[length as usize] += 1);
     });
-    if others > 0 || overruns > 0 {
-        return Err(format!("{others} blocks of another form, {overruns} rows past the stream's end"));
+    if others > 0 || missing.words > 0 {
+        return Err(format!("{others} blocks of another form, {} words past the stream's end", missing.words));
     }
     Ok(())
 }

@@ -54,7 +54,7 @@ fn a_band_of_another_frame_is_marked() {
     assert_eq!(samples[20 * width], first[0], "the band carries down what the first rows held");
     assert_eq!(samples[24 * width..], christening(width, height)[24 * width..]);
     let text = "7680 of 64000 samples rest on what the buffer held before\n  rows 0 to 23: 320 of 320 each\n";
-    assert_eq!(report::marks(Some(marks), 0), text);
+    assert_eq!(report::marks(Some(marks)), text);
 }
 
 #[test]
@@ -71,7 +71,7 @@ fn a_v2_frame_is_found_and_decoded() {
         assert_eq!((*sample, *mark), if coded { (image[i], 0) } else { (0, 1) }, "sample {i}");
     }
     let text = "2616 of 281656 samples rest on what the buffer held before\n  rows 0 to 435: 6 of 646 each\n";
-    assert_eq!(report::marks(Some(marks), 0), text);
+    assert_eq!(report::marks(Some(marks)), text);
 }
 
 #[test]
@@ -84,6 +84,7 @@ fn a_file_broken_off_is_decoded_as_far_as_it_goes() {
     assert!(
         text.starts_with(&format!("file: V0, 20 by 5, {} bytes of stream, 9 more are missing", made.stream.len() - 9))
     );
+    assert!(text.contains("\nmissing: 10 words, 40 bytes; "), "{text}");
 }
 
 #[test]
@@ -158,7 +159,10 @@ fn a_header_that_differs_is_told() {
 #[test]
 fn answers_in_words() {
     assert_eq!(report::answer(Ok(())), "done");
-    assert_eq!(report::answer(Err(Refusal::Overrun { row: 9 })), "refused 8, row 9: the stream ends in row 9");
+    assert_eq!(
+        report::answer(Err(Refusal::Overrun { row: 9, filler: 1 })),
+        "refused 8, row 9: the stream ends in row 9"
+    );
     assert_eq!(report::answer(Err(Refusal::TooLarge)), "refused 1: width or height is above 16,384");
-    assert_eq!(report::marks(None, 0), "nothing was decoded\n");
+    assert_eq!(report::marks(None), "nothing was decoded\n");
 }

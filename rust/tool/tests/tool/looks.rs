@@ -54,7 +54,8 @@ fn bare_streams() {
     assert_eq!(folder.run("--v0 2x2 --offsets offsets v0"), done(text));
     folder.put("v2", [0; 16]);
     let text = "v2: V2, 646 by 436, 16 bytes of stream\nrefused 8, row 0: the stream ends in row 0\n\
-        281016 of 281656 samples rest on what the buffer held before\n  row 0: 6 of 646\n  rows 1 to 435: 646 of 646 each\n";
+        281016 of 281656 samples rest on what the buffer held before\n  row 0: 6 of 646\n  rows 1 to 435: 646 of 646 each\n\
+        missing: 7 words, 28 bytes; they read as ones, and what is made of them is not marked\n";
     assert_eq!(folder.run("--v2 646x436 v2 --png v2.png"), refused(text));
     assert!(folder.get("v2.png").is_some(), "what was decoded before the refusal can be looked at");
 }
@@ -168,7 +169,8 @@ fn refusals() {
         was decoded\n";
     assert_eq!(folder.run("--v0 5x5 --offsets offsets stream"), refused(text));
     let text = "stream: V2, 646 by 436, 0 bytes of stream\nrefused 5, row 0: row 0 predicts from rows that do not exist\n\
-        281656 of 281656 samples rest on what the buffer held before\n  rows 0 to 435: 646 of 646 each\n";
+        281656 of 281656 samples rest on what the buffer held before\n  rows 0 to 435: 646 of 646 each\n\
+        missing: 5 words, 20 bytes; they read as ones, and what is made of them is not marked\n";
     assert_eq!(folder.run("--v2 646x436 stream"), refused(text));
 }
 
@@ -238,7 +240,7 @@ fn a_frame_that_is_cut_is_not_clean() {
     let (status, text, fault) = folder.run("cut.srw");
     assert_eq!((status, fault.as_str()), (3, ""));
     assert!(text.lines().next().is_some_and(|line| line.ends_with("more are missing")), "{text}");
-    assert!(!text.contains("rest on the stream") && text.contains("\nmissing bytes read as ones"), "{text}");
+    assert!(!text.contains("rest on the stream") && text.contains("\nmissing: "), "{text}");
 }
 
 #[test]
@@ -265,9 +267,13 @@ fn an_object_for_each_frame() {
     assert_eq!((status, fault.as_str()), (2, ""));
     let lines: Vec<&str> = text.lines().collect();
     let a = "{\"file\":\"a.srw\",\"version\":\"V0\",\"width\":40,\"height\":6,\"stream_bytes\":200,\"missing_bytes\":0,\
-        \"answer\":0,\"row\":0,\"text\":\"done\",\"samples\":240,\"old\":80,\"rows\":[{\"first\":0,\"last\":1,\"old\":40}]}";
+        \"missing_words\":0,\"answer\":0,\"row\":0,\"text\":\"done\",\"samples\":240,\"old\":80,\"rows\":[{\"first\":0,\"last\":1,\"old\":40}]}";
     assert_eq!(lines[..2], [a, "{\"file\":\"b\",\"error\":\"b: not a TIFF file\"}"]);
-    assert!(lines[2].contains("\"answer\":8,\"row\":0,\"text\":\"the stream ends in row 0\""), "{}", lines[2]);
+    assert!(
+        lines[2].contains("\"missing_words\":7,\"answer\":8,\"row\":0,\"text\":\"the stream ends in row 0\""),
+        "{}",
+        lines[2]
+    );
     assert_eq!(lines.len(), 3);
     let (status, text, _) = folder.run("--v2 645x436 --json b");
     assert!(status == 1 && text.contains("\"answer\":2,\"row\":0") && !text.contains("\"old\""), "{text}");
