@@ -50,7 +50,7 @@ mutate:
 compare: $(archive)
 	$(cargo_run) -p compare -- long
 
-# As many calls as docs/TESTING.md tells: ten million of V0, a hundred thousand frames in bands, as many streams of V2, pairs of
+# As many calls as docs/TESTING.md tells: eight million of V0, a hundred thousand frames in bands, as many streams of V2, pairs of
 # lists, two hundred thousand frames written. SEED picks others.
 SEED = 1
 compare-long: $(archive)
@@ -59,6 +59,8 @@ compare-long: $(archive)
 	$(cargo_run) -p compare -- lists 20_000 $(SEED)
 	$(cargo_run) -p compare -- v2 100_000 $(SEED)
 	$(cargo_run) -p compare -- write 200_000 $(SEED)
+	$(cargo_run) -p compare -- missing 400 $(SEED)
+	$(cargo_run) -p compare -- uploads 200 $(SEED)
 
 # Razvolk and the Rust timed in turn on the same frames, three to four minutes.
 bench: $(archive)
@@ -98,10 +100,12 @@ fuzz: $(made)/tests/hostile frames
 frames: $(archive)
 	$(cargo_run) --quiet -p razvolk-tool --example frames -- target/made/frames
 
-# The picture in the README: a frame with upward blocks from row 0 on, decoded over another. Samples of it are old: status 3.
+# The pictures in the README: a frame with upward blocks from row 0 on, decoded over another, and an upload that broke off at
+# half its height. Samples of them are old, or made of missing words: status 3.
 picture: frames
 	$(cargo_run) --quiet -p razvolk-tool -- --over target/made/frames/sitting.srw target/made/frames/christening.srw \
 		--force --png ../docs/marked.png || [ $$? -eq 3 ]
+	$(cargo_run) --quiet -p razvolk-tool -- target/made/frames/upload.srw --force --png ../docs/upload.png || [ $$? -eq 3 ]
 
 # Some thousand frames in one process, through one decoder: memory must stay flat.
 soak: $(archive)

@@ -1,5 +1,5 @@
 /* Decodes a V0 frame of 2 by 2 over an old buffer, and prints its rows, with a star at each sample that rests on what the
- * buffer held before.
+ * buffer held before, or on words that the stream lacks.
  *
  *     cc examples/decode.c $(pkg-config --cflags --libs razvolk) -o decode && ./decode */
 #include "razvolk.h"
@@ -25,7 +25,7 @@ int main(void) {
     for (size_t row = 0; row < HEIGHT; row++) {
         printf("%zu:", row);
         for (size_t i = row * WIDTH; i < (row + 1) * WIDTH; i++)
-            printf(" %u%s", (unsigned)samples[i], map[i] == 1 ? "*" : "");
+            printf(" %u%s", (unsigned)samples[i], map[i] != 0 ? "*" : "");
         puts("");
     }
     return 0;

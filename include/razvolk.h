@@ -76,6 +76,10 @@ typedef struct {
 #define RAZVOLK_V2_LEAST_HEIGHT 436u   /* 2 */
 #define RAZVOLK_V0_MOST_SAMPLE 16383u  /* 9 */
 
+/* The parts of a map byte: 0 to 3, the sum of those that hold. */
+#define RAZVOLK_OLD    1u /* the sample is what the buffer held before, or rests on it */
+#define RAZVOLK_FILLER 2u /* its block was read past the stream's end, or it rests on a sample of which that holds */
+
 /* The bytes of scratch that a two-phase frame within the limits needs: one for each block of 16 columns of rows 2 on. */
 #define RAZVOLK_SCRATCH(width, height) ((height) > 2 ? ((size_t)(width) + 15) / 16 * ((size_t)(height) - 2) : (size_t)0)
 
@@ -86,8 +90,10 @@ typedef struct {
 razvolk_answer razvolk_decode_v0_reference(const uint8_t *src, size_t src_len, const uint32_t *offsets, size_t offsets_len,
                                            size_t width, size_t height, uint16_t *samples, size_t samples_len);
 
-/* The same samples, and in the first N bytes of the map what each rests on: 1, on what the buffer held; 0, on the stream
- * alone. What the map holds before does not matter.
+/* The same samples, and in the first N bytes of the map what each rests on: the sum of RAZVOLK_OLD if on what the buffer held, and
+ * RAZVOLK_FILLER if on words that are missing; 0 if on bytes of the stream only. RAZVOLK_FILLER is set where the row's reader had
+ * fetched a missing word by the end of the sample's block, or where a sample that it is predicted from has it. So a sample of a
+ * stream that is cut has byte 0 only if it is final: with more bytes it is the same. What the map holds before does not matter.
  * 0        the first N samples and map bytes are the frame's
  * 1, 3, 4  nothing is written, neither samples nor map */
 razvolk_answer razvolk_decode_v0_reference_map(const uint8_t *src, size_t src_len, const uint32_t *offsets,
@@ -101,13 +107,6 @@ razvolk_answer razvolk_decode_v0_reference_map(const uint8_t *src, size_t src_le
 razvolk_answer razvolk_decode_v0(const uint8_t *src, size_t src_len, const uint32_t *offsets, size_t offsets_len,
                                  size_t width, size_t height, uint16_t *samples, size_t samples_len, uint8_t *scratch,
                                  size_t scratch_len);
-
-/* The same with a map.
- * 0        samples and map as of razvolk_decode_v0_reference_map, scratch as of razvolk_decode_v0
- * 1, 3, 4  nothing is written, neither samples nor map nor scratch */
-razvolk_answer razvolk_decode_v0_map(const uint8_t *src, size_t src_len, const uint32_t *offsets, size_t offsets_len,
-                                     size_t width, size_t height, uint16_t *samples, size_t samples_len, uint8_t *map,
-                                     size_t map_len, uint8_t *scratch, size_t scratch_len);
 
 /* V0 in two phases, the second in bands: the same samples and scratch, whatever the sequence of the steps. There is no map.
  *
@@ -141,8 +140,8 @@ razvolk_answer razvolk_decode_v2(const uint8_t *src, size_t src_len, size_t widt
 /* The same samples, and a map.
  * 0           the first N samples and map bytes are the frame's
  * 1, 2, 3, 4  nothing is written, neither samples nor map
- * 5, 6, 7, 8  samples as of razvolk_decode_v2; the first N map bytes tell of them as they are left: 1 wherever a sample is as
- *             it was, or rests on one */
+ * 5, 6, 7, 8  samples as of razvolk_decode_v2; the first N map bytes tell of them as they are left: RAZVOLK_OLD wherever a
+ *             sample is as it was, or rests on one; RAZVOLK_FILLER in blocks by whose end a word was missing */
 razvolk_answer razvolk_decode_v2_map(const uint8_t *src, size_t src_len, size_t width, size_t height, uint16_t *samples,
                                      size_t samples_len, uint8_t *map, size_t map_len);
 
@@ -165,7 +164,7 @@ typedef struct {
 #define RAZVOLK_V0_MOST(width, height) ((((size_t)(width) + 15) / 16 * 265 + 31) / 32 * 4 * (size_t)(height))
 
 /* Writes the first N samples as V0: rows in order, from byte 0 of the stream on and without gaps, and in offsets[r] where row r
- * starts. Each razvolk_decode_v0.. gives the samples back, over any buffer, with no map byte 1, whatever lies past the stream
+ * starts. Each razvolk_decode_v0.. gives the samples back, over any buffer, with every map byte 0, whatever lies past the stream
  * and the offsets. The samples are only read; those from N on do not matter.
  * 0            the first `length` bytes of stream and the first `height` offsets are the frame's; those past them are as before
  * 1, 3, 9, 10  nothing is written, neither stream nor offsets, and `length` is 0. 3 is of the samples alone */

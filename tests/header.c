@@ -82,8 +82,15 @@ static void v0_reference(void) {
          "decode_v0_reference_map");
     answer = razvolk_decode_v0_reference(stream, 8, offsets, 3, 2, 3, samples, 7);
     expect(answer.number == 0 && answer.filler == 2, "rows 1 and 2 miss the word from byte 8 on");
+    before();
     answer = razvolk_decode_v0_reference_map(stream, 11, offsets, 3, 2, 3, samples, 7, map, 7);
     expect(answer.number == 0 && answer.filler == 2, "and so they do where three bytes of it are there");
+    for (int i = 0; i < 6; i++) {
+        static const uint8_t filled[6] = {0, 2, 0, 2, 2, 2}; /* row 1's places, before the exchange, and row 2's */
+        expect(map[i] == marks[i] + filled[i] && (filled[i] & RAZVOLK_FILLER) == filled[i], "a cut stream's map");
+    }
+    answer = razvolk_decode_v0_reference_map(stream, 0, offsets, 1, 1, 1, samples, 1, map, 1);
+    expect(answer.filler == 1 && map[0] == (RAZVOLK_OLD | RAZVOLK_FILLER), "1 by 1 without a byte has map 3");
     answer = razvolk_decode_v0_reference(stream, 12, offsets, 3, 16385, 0, samples, 7);
     expect(answer.number == 1 && answer.row == 0 && answer.filler == 0, "a width of 16,385 is refused by 1");
     answer = razvolk_decode_v0_reference_map(stream, 12, offsets, 3, 2, 3, samples, 7, map, 5);
@@ -96,9 +103,6 @@ static void v0(void) {
     razvolk_answer answer;
     before();
     done(razvolk_decode_v0(stream, 12, offsets, 3, 2, 3, samples, 7, scratch, 2), false, true, "decode_v0");
-    before();
-    done(razvolk_decode_v0_map(stream, 12, offsets, 3, 2, 3, samples, 7, map, 7, scratch, 2), true, true,
-         "decode_v0_map");
     answer = razvolk_decode_v0(stream, 8, offsets, 3, 2, 3, samples, 7, scratch, 2);
     expect(answer.number == 0 && answer.filler == 0, "decode_v0 tells of no missing words");
     expect(RAZVOLK_SCRATCH(2, 3) == 1 && RAZVOLK_SCRATCH(17, 5) == 6 && RAZVOLK_SCRATCH(17, 2) == 0, "RAZVOLK_SCRATCH");
@@ -142,7 +146,7 @@ static void v2(void) {
     expect(answer.number == 5 && answer.row == 0 && answer.filler == 5 && out[0] == 0, "decode_v2 refuses no bytes by 5");
     answer = razvolk_decode_v2_map(zeros, 16, 646, 436, out, n, marked, n);
     expect(answer.number == 8 && answer.row == 0 && answer.filler == 7, "decode_v2_map refuses sixteen zero bytes by 8");
-    expect(out[639] == 1 && out[640] == 0 && marked[639] == 0 && marked[640] == 1, "and has written 640 samples");
+    expect(out[639] == 1 && out[640] == 0 && marked[639] == 2 && marked[640] == 1, "and has written 640 samples");
     answer = razvolk_decode_v2(zeros, 16, 645, 436, out, n);
     expect(answer.number == 2 && answer.row == 0 && answer.filler == 0, "a width of 645 is refused by 2");
     free(out);
@@ -241,8 +245,6 @@ static void null(void) {
     expect(answer.number == RAZVOLK_DONE, "decode_v0_reference_map of NULL");
     answer = razvolk_decode_v0(NULL, 0, one, 1, 1, 1, sample, 1, NULL, 0);
     expect(answer.number == RAZVOLK_DONE && sample[0] == 7, "decode_v0 of NULL");
-    answer = razvolk_decode_v0_map(NULL, 0, one, 1, 0, 1, NULL, 0, NULL, 0, NULL, 0);
-    expect(answer.number == RAZVOLK_DONE, "decode_v0_map of NULL");
     answer = razvolk_decode_v0_bands(NULL, 0, NULL, 0, 0, 0, NULL, 0, NULL, 0, 1, 16, NULL, 0);
     expect(answer.number == RAZVOLK_DONE, "decode_v0_bands of NULL");
     answer = razvolk_decode_v2(NULL, 0, 646, 436, NULL, 0);

@@ -1,9 +1,9 @@
 /* Calls every decoder with streams that are random, written or damaged, with right and with short buffers, and holds it to what
  * can be told without a second decoder: the refusal among 1 to 4, 11 and 12, what each answer leaves, that the entries of one
- * decoder and all V0 decoders agree, and that a sample marked 0 is the same over any old samples. Calls the writer with any
- * samples, sizes and buffers, and holds it to its refusal, to the length that is worked out apart, and to the decoders, which
- * must give the samples back. Calls V0 into V2 likewise, and holds it to the V0 decoder, whose samples and map it must leave, and
- * to the V2 decoder.
+ * decoder and all V0 decoders agree, that a sample without an old part is the same over any old samples, and that one of a cut
+ * stream with map byte 0 is final. Calls the writer with any samples, sizes and buffers, and holds it to its refusal, to the
+ * length that is worked out apart, and to the decoders, which must give the samples back. Calls V0 into V2 likewise, and holds
+ * it to the V0 decoder, whose samples and map it must leave, and to the V2 decoder.
  *
  *     hostile [pages|heap [COUNT[s] [SEED]]]      COUNT rounds, or COUNT seconds; by itself: pages, 300 rounds
  *
@@ -401,10 +401,6 @@ static razvolk_answer two_phase(const ask *a, const outcome *o) {
     return razvolk_decode_v0(V0(a), SAMPLES(o->samples), BYTES(o->scratch));
 }
 
-static razvolk_answer two_phase_map(const ask *a, const outcome *o) {
-    return razvolk_decode_v0_map(V0(a), SAMPLES(o->samples), BYTES(o->map), BYTES(o->scratch));
-}
-
 static razvolk_answer bands(const ask *a, const outcome *o) {
     return razvolk_decode_v0_bands(V0(a), SAMPLES(o->samples), BYTES(o->scratch), a->bands, a->block_width, WORDS(a->steps));
 }
@@ -427,7 +423,6 @@ static const entry entries[] = {
     {false, false, false, false, direct},
     {false, true, false, false, direct_map},
     {false, false, true, false, two_phase},
-    {false, true, true, false, two_phase_map},
     {false, false, true, true, bands},
     {true, false, false, false, v2},
     {true, true, false, false, v2_map},
@@ -437,15 +432,15 @@ static const entry *const entries_end = entries + sizeof entries / sizeof *entri
 /* Whether the stream was begun: done, or refused by 5 to 8. */
 static bool begun(razvolk_answer answer) { return answer.number == 0 || (5 <= answer.number && answer.number <= 8); }
 
-/* Bytes of which those from `from` on must stay 9, and those before it must have become 0 or 1. */
+/* Bytes of which those from `from` on must stay 9, and those before it must have become `most` or less. */
 static void filled(slice lent, size_t from) {
     if (lent.bytes > from)
         memset(lent.data + from, 9, lent.bytes - from);
 }
 
-static void check_bytes(slice lent, size_t from, const char *what) {
+static void check_bytes(slice lent, size_t from, uint8_t most, const char *what) {
     for (size_t i = 0; i < lent.bytes; i++)
-        expect(i < from ? lent.data[i] <= 1 : lent.data[i] == 9, what);
+        expect(i < from ? lent.data[i] <= most : lent.data[i] == 9, what);
 }
 
 /* Calls an entry over old samples, and checks what it answers and leaves. */
@@ -475,8 +470,11 @@ static outcome run(const ask *a, const entry *e, const uint8_t *old) {
     if (out.answer.number == 8)
         expect(out.answer.filler > 0, "8 tells of missing words");
     expect(a->samples == n || memcmp(out.samples.data + 2 * n, old + 2 * n, 2 * (a->samples - n)) == 0, "samples past the frame stay");
-    check_bytes(out.map, marks, "the map is 0 and 1 within the frame, and stays past it");
-    check_bytes(out.scratch, scratched, "the scratch is 0 and 1 where it is used, and stays past it");
+    check_bytes(out.map, marks, RAZVOLK_OLD | RAZVOLK_FILLER, "the map is 0 to 3 within the frame, and stays past it");
+    check_bytes(out.scratch, scratched, 1, "the scratch is 0 and 1 where it is used, and stays past it");
+    if (refused == 0 && e->with_map && out.answer.filler == 0)
+        for (size_t i = 0; i < n; i++)
+            expect(out.map.data[i] <= RAZVOLK_OLD, "no sample rests on missing words where there are none");
     return out;
 }
 
@@ -486,7 +484,21 @@ static void end(outcome out) {
     give_back(out.scratch);
 }
 
-/* All entries of the version over the same old samples, and one with a map over others. */
+/* What a cut stream shows is final: where its byte is 0, the whole stream's is, and the sample is the same. */
+static void check_cut(const ask *a, const entry *marked, const uint8_t *old, const outcome *whole) {
+    ask cut = *a;
+    cut.src = copy(a->src.data, below(a->src.bytes + 1));
+    close_for_writing(cut.src);
+    outcome out = run(&cut, marked, old);
+    for (size_t i = 0; i < cells(a); i++)
+        expect(out.map.data[i] != 0 ||
+                   (whole->map.data[i] == 0 && memcmp(out.samples.data + 2 * i, whole->samples.data + 2 * i, 2) == 0),
+               "a sample of a cut stream with byte 0 is final");
+    end(out);
+    give_back(cut.src);
+}
+
+/* All entries of the version over the same old samples, and one with a map over others and over a cut stream. */
 static void play(const ask *a) {
     slice old = lend(2 * a->samples), other = lend(2 * a->samples);
     scatter(old.data, old.bytes);
@@ -521,10 +533,11 @@ static void play(const ask *a) {
         expect(over.answer.filler == first.answer.filler, "counts over others");
         for (size_t i = 0; i < cells(a); i++) {
             expect(over.map.data[i] == first.map.data[i], "maps over others");
-            expect(over.map.data[i] == 1 || memcmp(over.samples.data + 2 * i, first.samples.data + 2 * i, 2) == 0,
-                   "a sample marked 0 is the same over other old samples");
+            expect((over.map.data[i] & RAZVOLK_OLD) != 0 || memcmp(over.samples.data + 2 * i, first.samples.data + 2 * i, 2) == 0,
+                   "a sample without an old part is the same over other old samples");
         }
         end(over);
+        check_cut(a, marked, old.data, &first);
     }
     end(phased);
     end(first);
@@ -726,7 +739,7 @@ static void decodes_back(const to_write *w) {
         expect(out.answer.number == 0, "what is written is decoded");
         expect(same(out.samples.data, w->samples.data, 2 * n), "what is written decodes to the samples");
         for (size_t i = 0; e->with_map && i < n; i++)
-            expect(out.map.data[i] == 0, "what is written decodes with no map byte 1");
+            expect(out.map.data[i] == 0, "what is written decodes with every map byte 0");
         end(out);
     }
     give_back(a.steps);

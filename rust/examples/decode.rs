@@ -1,5 +1,5 @@
 //! Decodes a V0 frame of 2 by 2 over an old buffer, and prints its rows, with a star at each sample that rests on what the
-//! buffer held before: what `examples/decode.c` does in C.
+//! buffer held before, or on words that the stream lacks: what `examples/decode.c` does in C.
 
 use razvolk::{Decoder, Refusal};
 

@@ -18,8 +18,8 @@ pub const MAX_SIDE: usize = 16_384;
 /// let mut decoder = Decoder::with_capacity(2, 2);
 ///
 /// let marks = decoder.decode_v0(&stream, &[0, 4], 2, 2, &mut samples)?;
-/// if !marks.is_clean() {
-///     println!("hold back: {} samples of another frame, in {} rows", marks.count(), marks.rows().count());
+/// if marks.count_old() > 0 {
+///     println!("hold back: {} samples of another frame, in {} rows", marks.count_old(), marks.rows().count());
 /// }
 /// assert_eq!(marks.bytes(), [1, 0, 1, 0]);
 /// assert_eq!(samples, [7, 131, 8, 126]);
@@ -59,8 +59,7 @@ impl Decoder {
     }
 
     /// Decodes a V0 frame into the first `width * height` samples of `out`, and tells what they rest on. It takes the direct
-    /// decoder ([`crate::decode_v0_reference_map`]), which is the faster one where there is a map; the decoder in two phases
-    /// gives the same.
+    /// decoder ([`crate::decode_v0_reference_map`]); the one in two phases gives the same samples, and makes no map.
     ///
     /// # Errors
     ///
@@ -70,7 +69,7 @@ impl Decoder {
     /// let mut decoder = razvolk::Decoder::new();
     /// // An empty stream: missing bits are ones, the block is upward, and row 0 has no row above it.
     /// let marks = decoder.decode_v0(&[], &[0], 3, 1, &mut [7, 8, 9])?;
-    /// assert_eq!((marks.bytes(), marks.filler_words()), (&[1, 1, 1][..], 1));
+    /// assert_eq!((marks.bytes(), marks.filler_words()), (&[3, 3, 3][..], 1));
     ///
     /// let refused = decoder.decode_v0(&[], &[], 3, 1, &mut [7, 8, 9]).unwrap_err();
     /// assert_eq!(refused, razvolk::Refusal::ShortSamples, "a row has no offset");
@@ -104,7 +103,7 @@ impl Decoder {
     /// let refused = decoder.decode_v2(&[0; 16], 646, 436, &mut samples).unwrap_err();
     /// assert_eq!(refused, razvolk::Refusal::Overrun { row: 0, filler: 7 });
     /// let marks = decoder.marks().expect("the stream was begun");
-    /// assert_eq!(marks.count(), 646 * 436 - 640);
+    /// assert_eq!((marks.count_old(), marks.count_filler()), (646 * 436 - 640, 640));
     /// ```
     pub fn decode_v2(
         &mut self,

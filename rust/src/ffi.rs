@@ -53,9 +53,6 @@ exports! {
         src: &[u8], offsets: &[u32], width: usize, height: usize, samples: &mut [u16], map: &mut [u8]) -> Answer;
     fn razvolk_decode_v0(
         src: &[u8], offsets: &[u32], width: usize, height: usize, samples: &mut [u16], scratch: &mut [u8]) -> Answer;
-    fn razvolk_decode_v0_map(
-        src: &[u8], offsets: &[u32], width: usize, height: usize, samples: &mut [u16], map: &mut [u8],
-        scratch: &mut [u8]) -> Answer;
     fn razvolk_decode_v0_bands(
         src: &[u8], offsets: &[u32], width: usize, height: usize, samples: &mut [u16], scratch: &mut [u8], bands: usize,
         block_width: usize, steps: &[u32]) -> Answer;

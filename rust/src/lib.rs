@@ -1,5 +1,5 @@
-//! Samsung raw decoders, V0 and V2, proved in Rattle, that tell of every sample whether it rests on the stream or on what the
-//! buffer held before.
+//! Samsung raw decoders, V0 and V2, proved in Rattle, that tell of every sample whether it rests on the stream, on what the
+//! buffer held before, or on words that the stream lacks.
 //!
 //! A worker that decodes frame after frame into one buffer takes a [`Decoder`], which keeps the map:
 //!
@@ -48,7 +48,7 @@ pub use decoder::{Decoder, MAX_SIDE};
 pub use marks::Marks;
 pub use ph1bits::Ph1Bits;
 pub use planes::{from_planes, to_planes};
-pub use v0::{decode_v0, decode_v0_map, decode_v0_reference, decode_v0_reference_map, scratch_len};
+pub use v0::{decode_v0, decode_v0_reference, decode_v0_reference_map, scratch_len};
 pub use v2::{decode_v2, decode_v2_map};
 pub use write::{most_v0_bytes, write_v0, write_v0_to_vecs};
 

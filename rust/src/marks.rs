@@ -2,8 +2,11 @@
 
 use std::fmt;
 
-/// What each sample of a frame rests on, one byte a sample, row by row: 1, on what the buffer held before the call; 0, on the
-/// stream alone. No earlier frame reaches a sample marked 0.
+/// What each sample of a frame rests on, one byte a sample, row by row. A byte has two parts: [`Marks::OLD`], on what the buffer
+/// held before the call, and [`Marks::FILLER`], on words that the stream lacks. Byte 0: on bytes of the stream only.
+///
+/// No earlier frame reaches a sample without the old part. A sample with byte 0 is final: whatever is appended to the stream, it
+/// stays as it is, so that the good part of an upload that broke off can be shown.
 ///
 /// ```
 /// use razvolk::Decoder;
@@ -16,10 +19,15 @@ use std::fmt;
 /// assert_eq!((marks.count(), marks.is_clean()), (2, false));
 /// assert_eq!((marks.row(1), marks.get(1, 0)), (Some(&[1, 0][..]), Some(1)));
 /// assert_eq!(marks.rows().collect::<Vec<_>>(), [(0, 1), (1, 1)]);
+///
+/// // The same, broken off: the samples of row 1 rest on a word that is missing, one of them in row 0 by the exchange.
+/// let marks = decoder.decode_v0(&stream[..8], &[0, 4], 2, 2, &mut [7, 8, 9, 10])?;
+/// assert_eq!(marks.bytes(), [1, 2, 1, 2]);
+/// assert_eq!((marks.count_old(), marks.count_filler(), marks.filler_words()), (2, 2, 1));
 /// # Ok::<(), razvolk::Refusal>(())
 /// ```
 ///
-/// [`Marks::is_clean`] and [`Marks::count`] look at each byte once, many at a time: a millisecond or two for 17.5 megapixels.
+/// [`Marks::is_clean`] and the counts look at each byte once, many at a time: a millisecond or two for 17.5 megapixels.
 #[derive(Clone, Copy, PartialEq, Eq)]
 pub struct Marks<'a> {
     bytes: &'a [u8],
@@ -28,6 +36,13 @@ pub struct Marks<'a> {
 }
 
 impl<'a> Marks<'a> {
+    /// The part of a byte that tells of old values: the sample is what the buffer held, or rests on it.
+    pub const OLD: u8 = 1;
+
+    /// The part of a byte that tells of missing words: the sample's block, or one that it rests on, was read past the stream's
+    /// end.
+    pub const FILLER: u8 = 2;
+
     pub(crate) fn new(bytes: &'a [u8], width: usize) -> Marks<'a> {
         Marks { bytes, width, filler: 0 }
     }
@@ -46,8 +61,9 @@ impl<'a> Marks<'a> {
         self.width
     }
 
-    /// How many words of 4 bytes the stream lacked, over the whole frame: they were read as ones. 0 if it had all that was
-    /// read. After refusals 5 to 8, those up to the refusal.
+    /// How many words of 4 bytes were read past the stream's end, as ones, over the whole frame: 0 if it had all that was read.
+    /// After refusals 5 to 8, those up to the refusal. A stream that was cut may have lost more or less: ones code other lengths
+    /// than what was there.
     ///
     /// ```
     /// let mut decoder = razvolk::Decoder::new();
@@ -70,35 +86,69 @@ impl<'a> Marks<'a> {
         self.row(row)?.get(column).copied()
     }
 
-    /// Whether no sample rests on what the buffer held.
+    /// Whether all samples rest on bytes of the stream only.
     pub fn is_clean(self) -> bool {
         // A part without a way out is looked at in wide loads.
         self.bytes.chunks(4_096).all(|part| part.iter().fold(0, |all, mark| all | mark) == 0)
     }
 
-    /// How many samples rest on what the buffer held.
+    /// How many samples don't rest on bytes of the stream only.
     pub fn count(self) -> usize {
-        marked(self.bytes)
+        having(Marks::OLD | Marks::FILLER, self.bytes)
     }
 
-    /// The rows that have such samples, from the top: the row's number, and how many.
+    /// How many samples rest on what the buffer held, whatever else they rest on.
+    pub fn count_old(self) -> usize {
+        having(Marks::OLD, self.bytes)
+    }
+
+    /// How many samples rest on missing words, whatever else they rest on.
+    pub fn count_filler(self) -> usize {
+        having(Marks::FILLER, self.bytes)
+    }
+
+    /// The rows that have samples with one part or both, from the top: the row's number, and how many.
     pub fn rows(self) -> impl Iterator<Item = (usize, usize)> + 'a {
+        self.rows_having(Marks::OLD | Marks::FILLER)
+    }
+
+    /// The rows that have samples that rest on what the buffer held.
+    pub fn rows_old(self) -> impl Iterator<Item = (usize, usize)> + 'a {
+        self.rows_having(Marks::OLD)
+    }
+
+    /// The rows that have samples that rest on missing words.
+    ///
+    /// ```
+    /// # let mut decoder = razvolk::Decoder::new();
+    /// // Row 1 starts where the stream ends. The exchange at the end puts one of its two samples into row 0.
+    /// let stream = [0x18, 0x20, 0xa0, 0x7f, 0, 0, 0x70, 0];
+    /// let marks = decoder.decode_v0(&stream, &[0, 8], 2, 2, &mut [7, 8, 9, 10])?;
+    /// assert!(marks.rows_filler().eq([(0, 1), (1, 1)]));
+    /// # Ok::<(), razvolk::Refusal>(())
+    /// ```
+    pub fn rows_filler(self) -> impl Iterator<Item = (usize, usize)> + 'a {
+        self.rows_having(Marks::FILLER)
+    }
+
+    fn rows_having(self, parts: u8) -> impl Iterator<Item = (usize, usize)> + 'a {
         // A frame of width 0 has no bytes, and so no rows here.
         let rows = self.bytes.chunks(self.width.max(1)).enumerate();
-        rows.map(|(row, bytes)| (row, marked(bytes))).filter(|&(_, count)| count > 0)
+        rows.map(move |(row, bytes)| (row, having(parts, bytes))).filter(|&(_, count)| count > 0)
     }
 }
 
-/// How many bytes are not 0. The counts of a part fit a byte each, so that it is added up in wide registers.
-fn marked(bytes: &[u8]) -> usize {
-    let of_part = |part: &[u8]| part.iter().map(|&mark| u8::from(mark != 0)).sum::<u8>();
-    bytes.chunks(240).map(|part| usize::from(of_part(part))).sum()
+/// How many bytes have one of the parts. The counts of a chunk fit a byte each, so that it is added up in wide registers.
+fn having(parts: u8, bytes: &[u8]) -> usize {
+    let of_chunk = |chunk: &[u8]| chunk.iter().map(|&mark| u8::from(mark & parts != 0)).sum::<u8>();
+    bytes.chunks(240).map(|chunk| usize::from(of_chunk(chunk))).sum()
 }
 
 impl fmt::Debug for Marks<'_> {
     fn fmt(&self, f: &mut fmt::Formatter<'_>) -> fmt::Result {
-        let (samples, marked) = (self.bytes.len(), self.count());
-        f.debug_struct("Marks").field("samples", &samples).field("marked", &marked).finish_non_exhaustive()
+        let mut fields = f.debug_struct("Marks");
+        fields.field("samples", &self.bytes.len());
+        fields.field("old", &self.count_old()).field("filler", &self.count_filler()).finish_non_exhaustive()
     }
 }
 
@@ -117,7 +167,18 @@ mod tests {
             [Some(1), Some(0), None, None]
         );
         assert_eq!(marks.row(usize::MAX), None);
-        assert_eq!(format!("{marks:?}"), "Marks { samples: 9, marked: 3, .. }");
+        assert_eq!(format!("{marks:?}"), "Marks { samples: 9, old: 3, filler: 0, .. }");
+    }
+
+    #[test]
+    fn both_parts_are_told_apart() {
+        let marks = Marks::new(&[0, 1, 2, 3, 3, 0], 3);
+        assert_eq!((marks.count(), marks.count_old(), marks.count_filler()), (4, 3, 3));
+        assert_eq!(marks.rows().collect::<Vec<_>>(), [(0, 2), (1, 2)]);
+        let apart = Marks::new(&[0, 1, 2, 2], 2);
+        assert!(apart.rows_old().eq([(0, 1)]) && apart.rows_filler().eq([(1, 2)]));
+        assert!(!marks.is_clean() && !Marks::new(&[0, 2], 2).is_clean());
+        assert_eq!(format!("{marks:?}"), "Marks { samples: 6, old: 3, filler: 3, .. }");
     }
 
     #[test]

@@ -35,7 +35,8 @@ pub fn decode_v0_reference(
 }
 
 /// Decodes as [`decode_v0_reference`] does, and tells in the first `width * height` bytes of `map` what each sample rests
-/// on: 1, on what `out` held before; 0, on the stream alone. What `map` holds before does not matter.
+/// on: [`Marks::OLD`](crate::Marks::OLD) if on what `out` held before, plus [`Marks::FILLER`](crate::Marks::FILLER) if on words
+/// that are missing; 0 if on bytes of the stream only. What `map` holds before does not matter.
 ///
 /// On done it tells how many words were missing, as [`decode_v0_reference`] does.
 ///
@@ -90,32 +91,6 @@ pub fn decode_v0(
     ffi::razvolk_decode_v0(src, row_offsets, width, height, out, scratch).result()
 }
 
-/// Decodes as [`decode_v0`] does, with a map as of [`decode_v0_reference_map`].
-///
-/// # Errors
-///
-/// Refusals 1, 3 and 4, in this order; `out`, `map` and `scratch` are unchanged then.
-///
-/// ```
-/// let stream = [0x00, 0x00, 0x00, 0x80, 0x18, 0x20, 0xa0, 0x7f, 0x00, 0x00, 0x70, 0x00];
-/// let (mut samples, mut map) = ([7, 8, 9, 10], [0; 4]);
-/// razvolk::decode_v0_map(&stream, &[0, 4], 2, 2, &mut samples, &mut map, &mut [])?;
-/// assert_eq!(samples, [7, 131, 8, 126]);
-/// assert_eq!(map, [1, 0, 1, 0]);
-/// # Ok::<(), razvolk::Refusal>(())
-/// ```
-pub fn decode_v0_map(
-    src: &[u8],
-    row_offsets: &[u32],
-    width: usize,
-    height: usize,
-    out: &mut [u16],
-    map: &mut [u8],
-    scratch: &mut [u8],
-) -> Result<(), Refusal> {
-    ffi::razvolk_decode_v0_map(src, row_offsets, width, height, out, map, scratch).result()
-}
-
 /// How many bytes of scratch [`decode_v0`] needs: one for each block of 16 columns of rows 2 on. (`usize::MAX` where that is
 /// no `usize`; such a size is refused in any case.)
 ///
@@ -148,13 +123,12 @@ mod tests {
 
     type Entry = fn(&[u8], &[u32], usize, usize, &mut [u16], &mut [u8], &mut [u8]) -> Result<(), Refusal>;
 
-    /// The entries without a map, and those with one.
+    /// The entries without a map, and the one with one.
     const PLAIN: [Entry; 2] = [
         |s, o, w, h, out, _, _| decode_v0_reference(s, o, w, h, out).map(drop),
         |s, o, w, h, out, _, scratch| decode_v0(s, o, w, h, out, scratch),
     ];
-    const MARKED: [Entry; 2] =
-        [|s, o, w, h, out, map, _| decode_v0_reference_map(s, o, w, h, out, map).map(drop), decode_v0_map];
+    const MARKED: Entry = |s, o, w, h, out, map, _| decode_v0_reference_map(s, o, w, h, out, map).map(drop);
 
     #[test]
     fn frames_of_the_document() {
@@ -163,16 +137,26 @@ mod tests {
             assert_eq!(decoded(entry, &SPILL.0, &SPILL.1, (2, 2)), (0, [131, 132, 126, 128], [9; 4]));
             assert_eq!(decoded(entry, &[], &[0], (1, 1)), (0, [7, 8, 9, 10], [9; 4]));
         }
-        for entry in MARKED {
-            assert_eq!(decoded(entry, &SKIPPED.0, &SKIPPED.1, (2, 2)), (0, [7, 131, 8, 126], [1, 0, 1, 0]));
-            assert_eq!(decoded(entry, &SPILL.0, &SPILL.1, (2, 2)), (0, [131, 132, 126, 128], [0; 4]));
-            assert_eq!(decoded(entry, &[], &[0], (1, 1)), (0, [7, 8, 9, 10], [1, 9, 9, 9]));
-        }
+        assert_eq!(decoded(MARKED, &SKIPPED.0, &SKIPPED.1, (2, 2)), (0, [7, 131, 8, 126], [1, 0, 1, 0]));
+        assert_eq!(decoded(MARKED, &SPILL.0, &SPILL.1, (2, 2)), (0, [131, 132, 126, 128], [0; 4]));
+        assert_eq!(decoded(MARKED, &[], &[0], (1, 1)), (0, [7, 8, 9, 10], [3, 9, 9, 9]));
+    }
+
+    #[test]
+    fn missing_words_are_marked_in_their_blocks() {
+        // Row 0 starts at the stream's end, and its block reaches over the whole frame; row 1 has all its words.
+        let mut stream = [0; 12];
+        stream[3] = 0x80;
+        let (_, _, map) = decoded(MARKED, &stream, &[12, 0], (2, 2));
+        assert_eq!(map, [3; 4]);
+        // Row 1 alone lacks a word: the exchange takes one of its samples into row 0.
+        let (_, _, map) = decoded(MARKED, &SPILL.0[..15], &SPILL.1, (2, 2));
+        assert_eq!(map, [0, 2, 0, 2]);
     }
 
     #[test]
     fn sizes_of_the_document() {
-        for entry in PLAIN.into_iter().chain(MARKED) {
+        for entry in PLAIN.into_iter().chain([MARKED]) {
             assert_eq!(decoded(entry, &[], &[], (16_385, 0)), (1, [7, 8, 9, 10], [9; 4]));
             assert_eq!(decoded(entry, &[], &[0; 16_384], (0, 16_384)), (0, [7, 8, 9, 10], [9; 4]));
             assert_eq!(decoded(entry, &[], &[0; 16_383], (0, 16_384)), (3, [7, 8, 9, 10], [9; 4]));
@@ -198,10 +182,6 @@ mod tests {
         let short = decode_v0_reference_map(&[], &[0; 4], 1, 4, &mut out, &mut [9; 3]);
         assert_eq!(short, Err(Refusal::ShortMap));
         let short = decode_v0(&[], &[0; 4], 1, 4, &mut out, &mut [9; 1]);
-        assert_eq!(short, Err(Refusal::ShortMap));
-        let short = decode_v0_map(&[], &[0; 4], 1, 4, &mut out, &mut [9; 3], &mut [9; 2]);
-        assert_eq!(short, Err(Refusal::ShortMap));
-        let short = decode_v0_map(&[], &[0; 4], 1, 4, &mut out, &mut [9; 4], &mut [9; 1]);
         assert_eq!(short, Err(Refusal::ShortMap));
         assert_eq!(out, [7; 4]);
     }

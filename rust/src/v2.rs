@@ -22,8 +22,9 @@ pub fn decode_v2(src: &[u8], width: usize, height: usize, out: &mut [u16]) -> Re
     ffi::razvolk_decode_v2(src, width, height, out).result()
 }
 
-/// Decodes as [`decode_v2`] does, and tells in the first `width * height` bytes of `map` what each sample rests on: 1, on
-/// what `out` held before; 0, on the stream alone. What `map` holds before does not matter. After refusals 5 to 8 it tells
+/// Decodes as [`decode_v2`] does, and tells in the first `width * height` bytes of `map` what each sample rests on:
+/// [`Marks::OLD`](crate::Marks::OLD) if on what `out` held before, plus [`Marks::FILLER`](crate::Marks::FILLER) if on words
+/// that are missing; 0 if on bytes of the stream only. What `map` holds before does not matter. After refusals 5 to 8 it tells
 /// so of `out` as it is left.
 ///
 /// # Errors
@@ -34,7 +35,7 @@ pub fn decode_v2(src: &[u8], width: usize, height: usize, out: &mut [u16]) -> Re
 /// let (mut samples, mut map) = (vec![7; 646 * 436], vec![0; 646 * 436]);
 /// let refused = razvolk::decode_v2_map(&[0; 16], 646, 436, &mut samples, &mut map).unwrap_err();
 /// assert!(refused.has_begun());
-/// assert_eq!([map[639], map[640]], [0, 1], "the last 6 samples of the row are what the buffer held");
+/// assert_eq!([map[639], map[640]], [2, 1], "the row is made of missing words; its last 6 samples are the buffer's");
 /// ```
 pub fn decode_v2_map(src: &[u8], width: usize, height: usize, out: &mut [u16], map: &mut [u8]) -> Result<(), Refusal> {
     ffi::razvolk_decode_v2_map(src, width, height, out, map).result()
@@ -62,7 +63,7 @@ mod tests {
         let (refusal, out, map) = decoded(&[0; 16], 646, 436);
         assert_eq!(refusal, Refusal::Overrun { row: 0, filler: 7 });
         assert!(out[..640].iter().all(|&s| s == 1) && out[640..].iter().all(|&s| s == 7));
-        assert!(map[..640].iter().all(|&m| m == 0) && map[640..].iter().all(|&m| m == 1));
+        assert!(map[..640].iter().all(|&m| m == 2) && map[640..].iter().all(|&m| m == 1));
     }
 
     #[test]

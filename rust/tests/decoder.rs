@@ -1,7 +1,6 @@
-//! A decoder that is kept from frame to frame gives what the functions give with buffers of their own; of V0 it takes one
-//! decoder, and both are held to it.
+//! A decoder that is kept from frame to frame gives what the functions give with buffers of their own.
 
-use razvolk::{Decoder, Marks, Refusal, scratch_len};
+use razvolk::{Decoder, Marks, Refusal};
 use streams::images::{christening, sitting};
 use streams::{Frame, Version, v0, v2};
 
@@ -24,15 +23,13 @@ fn frames() -> Vec<Frame> {
     frames
 }
 
-/// By the functions: the answer with the count of missing words, which the two-phase decoder does not tell, and the marks
-/// where the stream was begun.
-fn by_functions(frame: &Frame, samples: &mut [u16], direct: bool) -> (Result<Option<u64>, Refusal>, Option<Vec<u8>>) {
+/// By the functions: the answer with the count of missing words, and the marks where the stream was begun.
+fn by_functions(frame: &Frame, samples: &mut [u16]) -> (Result<u64, Refusal>, Option<Vec<u8>>) {
     let &Frame { version, width, height, ref stream, ref offsets } = frame;
-    let (mut map, mut scratch) = (vec![7; width * height], vec![7; scratch_len(width, height)]);
-    let answer = match (version, direct) {
-        (Version::V2, _) => razvolk::decode_v2_map(stream, width, height, samples, &mut map).map(|()| Some(0)),
-        (_, true) => razvolk::decode_v0_reference_map(stream, offsets, width, height, samples, &mut map).map(Some),
-        _ => razvolk::decode_v0_map(stream, offsets, width, height, samples, &mut map, &mut scratch).map(|()| None),
+    let mut map = vec![7; width * height];
+    let answer = match version {
+        Version::V2 => razvolk::decode_v2_map(stream, width, height, samples, &mut map).map(|()| 0),
+        Version::V0 => razvolk::decode_v0_reference_map(stream, offsets, width, height, samples, &mut map),
     };
     let begun = answer.map_or_else(Refusal::has_begun, |_| true);
     (answer, begun.then_some(map))
@@ -50,14 +47,11 @@ fn a_kept_decoder_gives_what_the_functions_give() {
             Version::V0 => decoder.decode_v0(stream, offsets, width, height, &mut samples),
         };
         let told = result.map(|marks| marks.bytes().to_vec());
-        let (answer, marks) = by_functions(frame, &mut expected, i % 3 == 0);
+        let (answer, marks) = by_functions(frame, &mut expected);
         assert_eq!(told.as_ref().map(|_| ()).map_err(|refusal| *refusal), answer.map(|_| ()), "frame {i}");
         let filler = decoder.marks().map_or(0, Marks::filler_words);
-        assert!(
-            answer.map_or_else(|r| filler == r.filler_words(), |count| count.is_none_or(|c| c == filler)),
-            "frame {i}"
-        );
-        missing += u64::from(answer.is_ok_and(|count| count > Some(0)));
+        assert_eq!(filler, answer.unwrap_or_else(Refusal::filler_words), "frame {i}");
+        missing += u64::from(answer.is_ok_and(|count| count > 0));
         assert_eq!(decoder.marks().map(|marks| marks.bytes().to_vec()), marks, "frame {i}");
         assert!(told.is_err() || told.ok() == marks, "frame {i}");
         assert!(samples == expected, "frame {i}");

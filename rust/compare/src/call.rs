@@ -146,9 +146,6 @@ pub fn razvolk() -> Vec<Entry> {
         Entry::new("decode_v0", Decoder::TwoPhase, false, |a, l| {
             answer(razvolk::decode_v0(a.src, a.offsets, a.width, a.height, l.samples, l.scratch))
         }),
-        Entry::new("decode_v0_map", Decoder::TwoPhase, true, |a, l| {
-            answer(razvolk::decode_v0_map(a.src, a.offsets, a.width, a.height, l.samples, l.map, l.scratch))
-        }),
         Entry::new("decode_v0_bands", Decoder::Bands, false, |a, l| {
             let Cut { bands, block_width, steps } = a.cut;
             let (samples, scratch) = (&mut *l.samples, &mut *l.scratch);
@@ -181,6 +178,11 @@ pub fn razvolk_of(version: Version) -> Vec<Entry> {
 /// Those that take a cut.
 pub fn razvolk_in_bands() -> Vec<Entry> {
     razvolk().into_iter().filter(|entry| entry.decoder == Decoder::Bands).collect()
+}
+
+/// Those of some that are lent a map.
+pub fn with_map(entries: Vec<Entry>) -> Vec<Entry> {
+    entries.into_iter().filter(|entry| entry.map).collect()
 }
 
 /// A difference that a comparison found, with what is needed to have it again.

@@ -1,7 +1,7 @@
 //! Inputs of the job program with the texts that it must write. Samples come from the Rust, marks from runs of the Rust over
-//! two sets of old values: nothing here comes from the program that is tested.
+//! two sets of old values and from the comparison's own decoder: nothing here comes from the program that is tested.
 
-use crate::v0::compare::{marks, rust};
+use crate::v0::compare::{both_parts, marks, rust};
 use std::fmt::Write as _;
 use std::path::Path;
 use std::{fs, io};
@@ -54,12 +54,13 @@ pub fn text(input: &[u8]) -> String {
 fn rows(frame: &Frame) -> String {
     let n = frame.samples();
     let (zeros, ones) = (rust(frame, &vec![0; n]), rust(frame, &vec![1; n]));
-    let marks = marks(n, &zeros, &ones).expect("a sample rises with the old values or stays");
+    let old = marks(n, &zeros, &ones).expect("a sample rises with the old values or stays");
+    let marks = both_parts(frame, &vec![0; n], &zeros, &old).expect("the decoder of its own is the Rust's equal");
     let mut text = String::from("done\n");
     for row in 0..frame.height {
         write!(text, "{row}:").expect("a string takes all");
         for i in row * frame.width..(row + 1) * frame.width {
-            write!(text, " {}{}", zeros[i], if marks[i] == 1 { "*" } else { "" }).expect("a string takes all");
+            write!(text, " {}{}", zeros[i], if marks[i] != 0 { "*" } else { "" }).expect("a string takes all");
         }
         text.push('\n');
     }

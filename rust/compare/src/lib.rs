@@ -17,6 +17,7 @@ pub mod reader;
 pub mod record;
 pub mod refusals;
 pub mod states;
+pub mod uploads;
 pub mod v0;
 pub mod v2;
 pub mod write;

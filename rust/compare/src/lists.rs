@@ -4,7 +4,7 @@
 
 use crate::bands::Cut;
 use crate::call::{Answer, Ask, Decoder, Difference, Entry, Lent, NUMBERS};
-use crate::v0::compare::{marks, rust};
+use crate::v0::compare::{both_parts, marks, rust};
 use crate::v2::model;
 use std::fmt;
 use streams::random::Random;
@@ -39,7 +39,7 @@ impl fmt::Display for Seen {
         writeln!(f, "lists: {samples} samples, {origins} of them the old value at a position plus an amount")?;
         write!(
             f,
-            "lists: {pairs} pairs of lists ({mixed} with a map lent to one), no earlier frame in a sample marked 0"
+            "lists: {pairs} pairs of lists ({mixed} with a map lent to one), no earlier frame in a sample without an old part"
         )
     }
 }
@@ -182,8 +182,8 @@ struct Rules {
     origins: Vec<(usize, u16)>,
 }
 
-/// V0's are found by runs of the Rust over chosen old values: zeros give the amounts, ones the marks, and each sample's own
-/// place, in two parts of 16 bits, the positions.
+/// V0's are found by runs of the Rust over chosen old values: zeros give the amounts, ones the old parts of the marks, and each
+/// sample's own place, in two parts of 16 bits, the positions. The filler parts are those of the decoder of its own.
 fn rules(asked: &Asked, pool: &Pool) -> Result<Rules, String> {
     let frame = match asked {
         Asked::V2(i) => return Ok(Rules { marks: pool.0[*i].1.clone(), origins: Vec::new() }),
@@ -192,7 +192,7 @@ fn rules(asked: &Asked, pool: &Pool) -> Result<Rules, String> {
     let n = frame.samples();
     let run = |old: &dyn Fn(usize) -> u16| rust(frame, &(0..n).map(old).collect::<Vec<u16>>());
     let (zeros, ones) = (run(&|_| 0), run(&|_| 1));
-    let marks = marks(n, &zeros, &ones)?;
+    let marks = both_parts(frame, &vec![0; n], &zeros, &marks(n, &zeros, &ones)?)?;
     let (low, high) = (run(&|i| i as u16), run(&|i| (i >> 16) as u16));
     let part = |run: &[u16], i: usize| usize::from(run[i].wrapping_sub(zeros[i]));
     let origins = (0..n).map(|i| (part(&low, i) | part(&high, i) << 16, zeros[i])).collect();
@@ -221,7 +221,7 @@ fn pair(entries: &[Entry], random: &mut Random, pool: &Pool, seen: &mut Seen) ->
         if entries[coming.entry].map && after.map[..marks.len()] != marks {
             return Err(format!("{name}: the map is not the rules'"));
         }
-        for (i, &(position, amount)) in origins.iter().enumerate().filter(|&(i, _)| marks[i] == 1) {
+        for (i, &(position, amount)) in origins.iter().enumerate().filter(|&(i, _)| marks[i] & 1 == 1) {
             if position >= marks.len() || after.samples[i] != after.found[position].wrapping_add(amount) {
                 return Err(format!("{name}: sample {i} is not the old value at {position} plus {amount}"));
             }
@@ -231,9 +231,9 @@ fn pair(entries: &[Entry], random: &mut Random, pool: &Pool, seen: &mut Seen) ->
             return Err(format!("{name}: a sample past the frame has changed"));
         }
     }
-    let new = |i: usize| marks[i] == 0 && returned[0].samples[i] != returned[1].samples[i];
+    let new = |i: usize| marks[i] & 1 == 0 && returned[0].samples[i] != returned[1].samples[i];
     if let Some(i) = (0..marks.len()).find(|&i| new(i)) {
-        return Err(format!("{name}: sample {i} is marked 0, and differs"));
+        return Err(format!("{name}: sample {i} has no old part, and differs"));
     }
     seen.samples += marks.len() as u64;
     seen.pairs += 1;

@@ -1,7 +1,7 @@
 //! The comparisons with the Rust, as long as wanted. Each prints its seed, and how much was compared.
 
-use compare::call::{Difference, Entry, razvolk, razvolk_in_bands, razvolk_of};
-use compare::{bands, convert, jobs, lists, missing, planes, reader, record, refusals, states, v0, v2, write};
+use compare::call::{Difference, Entry, razvolk, razvolk_in_bands, razvolk_of, with_map};
+use compare::{bands, convert, jobs, lists, missing, planes, reader, record, refusals, states, uploads, v0, v2, write};
 use std::fmt::Display;
 use std::path::Path;
 use std::process::ExitCode;
@@ -10,7 +10,7 @@ use streams::Version::{V0, V2};
 
 const USAGE: &str = "usage: compare quick [SEED]
        compare long [SEED]
-       compare reader|states|v0|bands|v2|v2-full|missing|refusals|lists|planes|write|convert COUNT [SEED]
+       compare reader|states|v0|bands|v2|v2-full|missing|uploads|refusals|lists|planes|write|convert COUNT [SEED]
        compare record FILE           writes recorded calls of the Rust
        compare record-check FILE     finds them equal
        compare jobs FOLDER           writes the job program's cases
@@ -25,7 +25,7 @@ struct Comparison {
     run: fn(u64, u64) -> Result<String, Difference>,
 }
 
-const COMPARISONS: [Comparison; 12] = [
+const COMPARISONS: [Comparison; 13] = [
     Comparison {
         name: "reader",
         quick: 20_000_000,
@@ -67,6 +67,15 @@ const COMPARISONS: [Comparison; 12] = [
         quick: 65,
         long: 2_000,
         run: |seed, n| of(&razvolk(), |_| missing::compare(&razvolk_of(V0), &razvolk_of(V2), seed, n)),
+    },
+    Comparison {
+        name: "uploads",
+        quick: 64,
+        long: 1_000,
+        run: |seed, n| {
+            let (v0, v2) = (with_map(razvolk_of(V0)), with_map(razvolk_of(V2)));
+            of(&with_map(razvolk()), |_| uploads::compare(&v0, &v2, seed, n))
+        },
     },
     Comparison {
         name: "refusals",

@@ -7,7 +7,7 @@ use std::cell::Cell;
 
 /// Entries of decoders of their own.
 fn own(fault: v0::model::Fault, fault_2: v2::model::Fault) -> Vec<Entry> {
-    let v0 = [(Decoder::Direct, false), (Decoder::Direct, true), (Decoder::TwoPhase, false), (Decoder::TwoPhase, true)];
+    let v0 = [(Decoder::Direct, false), (Decoder::Direct, true), (Decoder::TwoPhase, false)];
     let mut entries: Vec<Entry> = v0.map(|(decoder, map)| v0::model::entry(fault, decoder, map)).into();
     entries.push(bands::model::entry(bands::model::Fault::None));
     entries.extend([false, true].map(|map| v2::model::entry(fault_2, map)));
@@ -15,7 +15,7 @@ fn own(fault: v0::model::Fault, fault_2: v2::model::Fault) -> Vec<Entry> {
 }
 
 #[test]
-fn no_earlier_frame_reaches_a_sample_marked_0() {
+fn no_earlier_frame_reaches_a_sample_without_an_old_part() {
     let entries = razvolk();
     let seen = lists::compare(&entries, 0x5eed, 150).unwrap_or_else(|difference| panic!("{difference}"));
     println!("{seen}");
@@ -50,7 +50,7 @@ fn with_a_memory(change: fn(u64, &Ask, &mut Lent, &mut Answer)) -> Vec<Entry> {
     let entry = Entry::new("with a memory", Decoder::Direct, true, move |ask, lent| {
         let mut answer = right.call(ask, lent);
         calls.set(calls.get() + 1);
-        if answer == Answer::DONE && ask.n() > 0 {
+        if answer.number == 0 && ask.n() > 0 {
             change(calls.get(), ask, lent, &mut answer);
         }
         answer

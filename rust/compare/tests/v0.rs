@@ -1,13 +1,12 @@
 //! V0's comparison, a quick part of it; and decoders that are wrong, each of which it must find out.
 
-use compare::call::{Decoder, Entry, razvolk_of};
+use compare::call::{Decoder, Entry, razvolk_of, with_map};
 use compare::v0::model::{Fault, entry};
-use compare::{missing, refusals, v0};
+use compare::{missing, refusals, uploads, v0};
 use streams::Version;
 
 fn own(fault: Fault) -> Vec<Entry> {
-    let all =
-        [(Decoder::Direct, false), (Decoder::Direct, true), (Decoder::TwoPhase, false), (Decoder::TwoPhase, true)];
+    let all = [(Decoder::Direct, false), (Decoder::Direct, true), (Decoder::TwoPhase, false)];
     all.into_iter().map(|(decoder, map)| entry(fault, decoder, map)).collect()
 }
 
@@ -19,7 +18,7 @@ fn razvolk_decodes_v0_as_the_rust_does() {
     assert_eq!(seen.calls, 4_000 * 2 * entries.len() as u64);
     assert!(seen.upward > 1_000 && seen.operations.iter().all(|&n| n > 10_000), "{seen}");
     assert!(seen.none > 5_000 && seen.long > 100 && seen.missing.rows > 1_000 && seen.missing.words > 10_000, "{seen}");
-    assert!(seen.spill > 1_000 && seen.old > 1_000, "{seen}");
+    assert!(seen.spill > 1_000 && seen.old > 1_000 && seen.filled > 100_000, "{seen}");
 }
 
 #[test]
@@ -28,6 +27,25 @@ fn razvolk_counts_the_missing_words_of_v0() {
     let seen = seen.unwrap_or_else(|difference| panic!("{difference}"));
     println!("{seen}");
     assert!(seen.v0.frames > 1_000 && seen.v0.missing.words > 20_000, "{seen}");
+}
+
+#[test]
+fn what_a_cut_upload_of_v0_shows_is_final() {
+    let seen = uploads::compare(&with_map(razvolk_of(Version::V0)), &[], 0x5eed, 80);
+    let seen = seen.unwrap_or_else(|difference| panic!("{difference}"));
+    println!("{seen}");
+    assert!(seen.pairs[0] > 1_000 && seen.shown > 100_000 && seen.gained > 100_000, "{seen}");
+}
+
+/// Without the part of the rule that it breaks, what is shown would not be final.
+#[test]
+fn marks_that_miss_filler_are_found_out_by_what_they_show() {
+    use Fault::*;
+    for fault in [FillerNotMarked, FillerBeforeTheBlock, FillerNotInherited, FillerNotExchanged] {
+        assert!(uploads::compare(&[entry(fault, Decoder::Direct, true)], &[], 7, 200).is_err(), "{fault:?}");
+    }
+    let own = uploads::compare(&[entry(None, Decoder::Direct, true)], &[], 7, 200);
+    own.unwrap_or_else(|difference| panic!("{difference}"));
 }
 
 #[test]

@@ -1,8 +1,8 @@
 //! V2's comparison, a quick part of it; and decoders that are wrong, each of which it must find out.
 
-use compare::call::{Answer, Ask, Entry, Lent, razvolk_of};
+use compare::call::{Answer, Ask, Entry, Lent, razvolk_of, with_map};
 use compare::v2::model::{Fault, entry};
-use compare::{missing, refusals, v2};
+use compare::{missing, refusals, uploads, v2};
 use streams::bits::Writer;
 use streams::random::Random;
 use streams::v2::any::Header;
@@ -81,6 +81,17 @@ fn razvolk_counts_the_missing_words_of_v2() {
     println!("{seen}");
     assert!(seen.v2.calls > 1_000 && seen.v2.missing > 5_000, "{seen}");
     assert!([5, 7, 8].iter().all(|&i| seen.v2.numbers[i] > 4), "{seen}");
+}
+
+#[test]
+fn what_a_cut_upload_of_v2_shows_is_final() {
+    let seen = uploads::compare(&[], &with_map(razvolk_of(Version::V2)), 0x5eed, 1);
+    let seen = seen.unwrap_or_else(|difference| panic!("{difference}"));
+    println!("{seen}");
+    assert!(seen.pairs[1] >= 436 && seen.rows == 436 && seen.shown > 1_000_000, "{seen}");
+    for fault in [Fault::FillerNotMarked, Fault::FillerBeforeTheBlock] {
+        assert!(uploads::compare(&[], &[entry(fault, true)], 7, 1).is_err(), "{fault:?}");
+    }
 }
 
 /// The first length is too long, and has the last bits of the stream: the other lengths would need a missing word.

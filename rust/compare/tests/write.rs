@@ -8,7 +8,7 @@ use compare::write::plain::{Ask, Fault, write};
 fn razvolk_writes_v0_as_the_plain_writer_does() {
     let seen = compare(&razvolk, 0x5eed, 4_000).unwrap_or_else(|difference| panic!("{difference}"));
     println!("{seen}");
-    assert_eq!((seen.frames, seen.decoded), (4_000, 4_000 * 7));
+    assert_eq!((seen.frames, seen.decoded), (4_000, 4_000 * 6));
     assert!([0, 1, 3, 9, 10].iter().all(|&number| seen.numbers[number] > 100), "{seen}");
     assert!(seen.lengths.iter().all(|&count| count > 1_000) && seen.past > 1_000, "{seen}");
 }

@@ -2,6 +2,7 @@
 //!
 //! - `sitting.srw`: V0, what a worker decoded before;
 //! - `christening.srw`: V0, whose first 24 rows are upward blocks: they show what the buffer held;
+//! - `upload.srw`: V0, a file of a frame that breaks off at half its height;
 //! - `christening-v2.srw`: V2, of a width that 16 does not divide;
 //! - `small.srw`, `small-v2.srw`: a V0 frame of 20 by 5, and a V2 frame that breaks off in row 37, to damage.
 
@@ -24,7 +25,11 @@ fn main() -> io::Result<()> {
     ] {
         fs::write(Path::new(&folder).join(name), file(frame))?;
     }
-    Ok(())
+    let whole = v0::encode(&christening(320, 200), 320, 200);
+    let missing = whole.stream.len() - whole.row(100).start;
+    let mut upload = file(whole);
+    upload.truncate(upload.len() - missing);
+    fs::write(Path::new(&folder).join("upload.srw"), upload)
 }
 
 fn file(frame: Frame) -> Vec<u8> {

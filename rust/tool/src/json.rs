@@ -19,12 +19,19 @@ pub fn frame(path: &Path, frame: &Frame, answer: Result<(), Refusal>, marks: Opt
     write!(line, ",\"answer\":{number},\"row\":{row}").expect("a string");
     write!(line, ",\"text\":{}", string(&text)).expect("a string");
     if let Some(marks) = marks {
-        let run = |Rows { first, last, count }| format!("{{\"first\":{first},\"last\":{last},\"old\":{count}}}");
-        let runs: Vec<String> = alike(marks).into_iter().map(run).collect();
-        let (samples, old) = (marks.bytes().len(), marks.count());
-        write!(line, ",\"samples\":{samples},\"old\":{old},\"rows\":[{}]", runs.join(",")).expect("a string");
+        write!(line, ",\"samples\":{}", marks.bytes().len()).expect("a string");
+        write!(line, ",\"old\":{},\"old_rows\":{}", marks.count_old(), runs(marks.rows_old())).expect("a string");
+        write!(line, ",\"filler\":{},\"filler_rows\":{}", marks.count_filler(), runs(marks.rows_filler()))
+            .expect("a string");
     }
     line + "}\n"
+}
+
+/// Runs of rows that have as many such samples each.
+fn runs(rows: impl Iterator<Item = (usize, usize)>) -> String {
+    let run = |Rows { first, last, count }| format!("{{\"first\":{first},\"last\":{last},\"samples\":{count}}}");
+    let runs: Vec<String> = alike(rows).into_iter().map(run).collect();
+    format!("[{}]", runs.join(","))
 }
 
 /// A file that has no frame, or can't be read or written.

@@ -4,7 +4,7 @@ use crate::form::{self, Decoded, Form, Picture};
 use crate::report;
 use crate::worker::Worker;
 use razvolk::srw::{self, Fault, Frame};
-use razvolk::{MAX_SIDE, Marks, Refusal};
+use razvolk::{MAX_SIDE, Refusal};
 
 /// What came of a frame.
 pub struct Look<'a> {
@@ -32,8 +32,7 @@ impl<'a> Look<'a> {
 
     /// The exit status of a frame by itself: 1 refused, 3 something old or missing, 0 clean.
     pub fn status(&self) -> u8 {
-        let clean = |marks: Marks| marks.is_clean() && marks.filler_words() == 0;
-        let clean = self.missing == 0 && self.decoded.is_none_or(|decoded| clean(decoded.marks));
+        let clean = self.missing == 0 && self.decoded.is_none_or(|decoded| decoded.marks.is_clean());
         match self.answer {
             Err(_) => 1,
             Ok(()) if clean => 0,

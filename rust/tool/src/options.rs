@@ -23,7 +23,7 @@ usage: razvolk [OPTIONS] FILE.srw|FOLDER|- ...
 
  to write, each with a FILE, or with a FOLDER that is there, in which outputs are named after their frames:
   --pgm FILE       the samples, 16 bits each
-  --png FILE       a picture in which samples that rest on old values are tinted red
+  --png FILE       a picture in which samples that rest on old values are tinted red, on missing words blue, on both violet
   --planes FILE    such a picture of the four colour planes, side by side: even rows and even columns, even and odd, odd and
                    even, odd and odd
   --write-v0 FILE  the samples as V0, none above 16,383, in a file that this tool reads again
@@ -42,7 +42,7 @@ exit status, of several frames the first that there is of 2, 1, 3, 0:
   0  all frames are done, and clean
   1  a frame is refused by the decoder
   2  bad options, or a file that can't be read or written, or that has no frame
-  3  a frame is done, and samples of it rest on old values, or bytes of it are missing
+  3  a frame is done, and samples of it rest on old values or missing words, or bytes of it are missing
 ";
 
 /// A bare stream.

@@ -1,8 +1,16 @@
-//! A picture: greys, and the samples that rest on old values tinted red. A PNG file with a palette of 128 greys and the same
-//! 128 tinted.
+//! A picture: greys, and the samples that rest on old values tinted red, on missing words blue, on both violet. A PNG file with a
+//! palette of 128 greys, and 42 of each tint.
 
 use crate::deflate;
 use crate::form::Picture;
+
+/// How many shades a tint has: three of them and 128 greys are a palette.
+const SHADES: u8 = 42;
+
+/// The shade of a tint for a grey.
+fn shade(grey: u8) -> u8 {
+    (u16::from(grey) * u16::from(SHADES) / 128) as u8
+}
 
 /// The picture of a frame that has samples.
 pub fn file(samples: &[u16], marks: &[u8], width: usize, picture: Picture) -> Vec<u8> {
@@ -11,7 +19,7 @@ pub fn file(samples: &[u16], marks: &[u8], width: usize, picture: Picture) -> Ve
     let greys = greys(&samples, picture);
     let colour = |(&sample, &mark): (&u16, &u8)| {
         let grey = greys.partition_point(|&least| least <= sample) as u8;
-        if mark == 0 { grey } else { 128 + grey }
+        if mark == 0 { grey } else { 128 + SHADES * (mark - 1).min(2) + shade(grey) }
     };
     let pixels: Vec<u8> = samples.iter().zip(&marks).map(colour).collect();
     let mut head = Vec::new();
@@ -60,9 +68,15 @@ fn exceeded_by_few(samples: &[u16]) -> u16 {
 }
 
 fn palette() -> Vec<u8> {
-    let grey = |i: u32| (i * 255 / 127) as u8;
-    let tinted = |i: u32| [128 + grey(i) / 2, grey(i) / 3, grey(i) / 3];
-    (0..128).map(|i| [grey(i); 3]).chain((0..128).map(tinted)).flatten().collect()
+    let grey = |i: u8, of: u8| (u32::from(i) * 255 / u32::from(of - 1)) as u8;
+    let light = |i: u8| 128 + grey(i, SHADES) / 2;
+    let dark = |i: u8| grey(i, SHADES) / 3;
+    let greys = (0..128).map(|i| [grey(i, 128); 3]);
+    // In the order of the map's bytes: 1, 2 and 3.
+    let red = (0..SHADES).map(|i| [light(i), dark(i), dark(i)]);
+    let blue = (0..SHADES).map(|i| [dark(i), grey(i, SHADES) / 2, light(i)]);
+    let violet = (0..SHADES).map(|i| [light(i), dark(i), light(i)]);
+    greys.chain(red).chain(blue).chain(violet).flatten().collect()
 }
 
 /// Each row as what it differs by from what the filter expects, with the filter's number before it: of the five filters the
@@ -165,10 +179,22 @@ mod tests {
     fn marked_samples_are_tinted() {
         let file = file(&[0, 50, 100, 200, 100, 0], &[0, 0, 0, 1, 1, 1], 3, LINEAR);
         assert_eq!(&file[16..29], [0, 0, 0, 3, 0, 0, 0, 2, 8, 3, 0, 0, 0]);
-        assert_eq!(pixels(&file), (3, vec![0, 63, 127, 255, 255, 128]));
+        assert_eq!(pixels(&file), (3, vec![0, 63, 127, 169, 169, 128]));
         let palette = palette();
         assert_eq!(&palette[3 * 127..3 * 129], [255, 255, 255, 128, 0, 0]);
-        assert_eq!(palette.len(), 768);
+        assert_eq!(palette.len(), 3 * (128 + 3 * 42));
+    }
+
+    #[test]
+    fn each_byte_of_a_map_has_a_tint_of_its_own() {
+        let file = file(&[100, 100, 100, 100, 0, 0, 0, 0], &[0, 1, 2, 3, 0, 1, 2, 3], 4, LINEAR);
+        let (_, pixels) = pixels(&file);
+        assert_eq!(pixels, [127, 169, 211, 253, 0, 128, 170, 212]);
+        let palette = palette();
+        let colours: Vec<&[u8]> = pixels.iter().map(|&i| &palette[3 * usize::from(i)..][..3]).collect();
+        let light = [[255, 255, 255], [255, 85, 85], [85, 127, 255], [255, 85, 255]];
+        assert_eq!(colours[..4], light);
+        assert_eq!(colours[4..], [[0, 0, 0], [128, 0, 0], [0, 0, 128], [128, 0, 128]]);
     }
 
     #[test]
@@ -192,7 +218,7 @@ mod tests {
         let halved = half(&samples, &marks, 3);
         assert_eq!(halved.2, 2);
         assert_eq!(halved.0, [(20 + 100 + 20) / 4, (40 + 40) / 2, (60 + 100 + 9 + 10) / 4, (8 + 100) / 2]);
-        assert_eq!(pixels(&file(&samples, &marks, 4, Picture { half: true, ..LINEAR })), (2, vec![153, 95, 10, 197]));
+        assert_eq!(pixels(&file(&samples, &marks, 4, Picture { half: true, ..LINEAR })), (2, vec![136, 95, 10, 192]));
     }
 
     /// A picture with noise of some greys, as pixels and by every filter.

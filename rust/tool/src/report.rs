@@ -43,24 +43,26 @@ pub fn answer(answer: Result<(), Refusal>) -> String {
     }
 }
 
-/// How many samples rest on old values, and in which rows; and how much of the stream was missing. That all the others rest on
-/// the stream is not said: what is made of missing words is not marked.
+/// That all samples rest on the stream; or how many rest on old values, and in which rows, and where words were missing, how
+/// many rest on those.
 pub fn marks(marks: Option<Marks>) -> String {
     let Some(marks) = marks else { return "nothing was decoded\n".into() };
-    let (all, old) = (marks.bytes().len(), marks.count());
-    let mut text = match old {
-        0 => format!("none of {all} samples rests on what the buffer held before\n"),
-        _ => format!("{old} of {all} samples rest on what the buffer held before\n"),
-    };
-    text += &listing(&alike(marks), marks.width());
+    let all = marks.bytes().len();
     let words = marks.filler_words();
+    if marks.is_clean() && words == 0 {
+        return format!("all {all} samples rest on the stream\n");
+    }
+    let rest = |count: usize| match count {
+        0 => format!("none of {all} samples rests"),
+        _ => format!("{count} of {all} samples rest"),
+    };
+    let mut text = format!("{} on what the buffer held before\n", rest(marks.count_old()));
+    text += &listing(&alike(marks.rows_old()), marks.width());
     if words > 0 {
-        let bytes = words.saturating_mul(4);
-        writeln!(
-            text,
-            "missing: {words} words, {bytes} bytes; they read as ones, and what is made of them is not marked"
-        )
-        .expect("a string");
+        let (filler, bytes) = (rest(marks.count_filler()), words.saturating_mul(4));
+        writeln!(text, "{filler} on missing words: {words} words ({bytes} bytes) were read past the end")
+            .expect("a string");
+        text += &listing(&alike(marks.rows_filler()), marks.width());
     }
     text
 }
@@ -89,8 +91,9 @@ pub fn stored(path: &Path, answer: Result<(), Refusal>, marks: Option<Marks>) ->
     match (answer, marks.map_or(0, Marks::count)) {
         (Err(_), _) => format!("{path}: not written, since the frame is refused\n"),
         (Ok(()), 0) => String::new(),
-        (Ok(()), old) => {
-            format!("{path}: {old} samples that rest on what the buffer held are stored, and not marked\n")
+        (Ok(()), marked) => {
+            let rest = "rest on what the buffer held or on missing words";
+            format!("{path}: {marked} samples that {rest} are stored, and not marked\n")
         }
     }
 }
@@ -102,10 +105,10 @@ pub struct Rows {
     pub count: usize,
 }
 
-/// All rows with marked samples.
-pub fn alike(marks: Marks) -> Vec<Rows> {
+/// Rows with how many samples each, as runs of them.
+pub fn alike(rows: impl Iterator<Item = (usize, usize)>) -> Vec<Rows> {
     let mut runs: Vec<Rows> = Vec::new();
-    for (row, count) in marks.rows() {
+    for (row, count) in rows {
         match runs.last_mut() {
             Some(run) if run.last + 1 == row && run.count == count => run.last = row,
             _ => runs.push(Rows { first: row, last: row, count }),

@@ -1,6 +1,8 @@
-//! V0's entries against the Rust: samples over the whole buffer, marks against runs over two sets of old values, scratch and
-//! the count of missing words against the frame's blocks read on their own.
+//! V0's entries against the Rust: samples over the whole buffer, the old part of marks against runs over two sets of old
+//! values, its filler part against the decoder of its own, scratch and the count of missing words against the frame's blocks
+//! read on their own.
 
+use super::model::{self, Fault};
 use super::parse::{self, Missing};
 use crate::bands::Cut;
 use crate::call::{Answer, Ask, Decoder, Difference, Entry, Lent, first_difference};
@@ -22,22 +24,24 @@ pub struct Seen {
     /// Lengths of 0 and below, and above 32.
     pub none: u64,
     pub long: u64,
-    /// Rows in which the stream ended and words missing there, frames with spill, frames with old samples.
+    /// Rows in which the stream ended and words missing there, frames with spill, frames with old samples, samples with an old
+    /// part and with a filler part.
     pub missing: Missing,
     pub spill: u64,
     pub old: u64,
     pub marked: u64,
+    pub filled: u64,
 }
 
 impl fmt::Display for Seen {
     fn fmt(&self, f: &mut fmt::Formatter<'_>) -> fmt::Result {
         let Seen { seed, frames, calls, samples, blocks, upward, operations, none, long, .. } = self;
-        let Seen { missing, spill, old, marked, .. } = self;
+        let Seen { missing, spill, old, marked, filled, .. } = self;
         writeln!(f, "V0, seed {seed}: {frames} frames, {samples} samples, {calls} calls, {blocks} blocks")?;
         writeln!(f, "V0: {upward} upward blocks in rows 0 and 1, operations 0 to 3: {operations:?}")?;
         writeln!(f, "V0: {none} lengths of 0 or below, {long} above 32")?;
         writeln!(f, "V0: {} rows past the stream's end, {} words missing", missing.rows, missing.words)?;
-        writeln!(f, "V0: {spill} frames with spill, {old} with samples marked 1, {marked} samples marked 1")?;
+        writeln!(f, "V0: {spill} frames with spill, {old} with old samples, {marked} samples old, {filled} of filler")?;
         write!(f, "V0: {frames} frames compared with the Rust, no difference")
     }
 }
@@ -55,7 +59,7 @@ pub fn one_higher(old: &[u16]) -> Vec<u16> {
     old.iter().map(|s| s.wrapping_add(1)).collect()
 }
 
-/// The marks, found by runs of the Rust alone: samples over old values and over old values that are one higher differ by 1
+/// The old parts of the marks, found by runs of the Rust alone: samples over old values and over old values that are one higher differ by 1
 /// where they rest on an old value, else not at all.
 pub fn marks(n: usize, over_old: &[u16], over_higher: &[u16]) -> Result<Vec<u8>, String> {
     let rise = |(i, (a, b)): (usize, (&u16, &u16))| match b.wrapping_sub(*a) {
@@ -69,9 +73,25 @@ pub fn marks(n: usize, over_old: &[u16], over_higher: &[u16]) -> Result<Vec<u8>,
 struct Expected {
     old: [Vec<u16>; 2],
     samples: [Vec<u16>; 2],
+    /// The map's bytes, both parts.
     marks: Vec<u8>,
     directions: Vec<u8>,
     missing: Missing,
+}
+
+/// The map's bytes by the decoder of its own, whose samples must be the Rust's and whose old parts those of runs of the Rust.
+pub fn both_parts(frame: &Frame, old: &[u16], samples: &[u16], old_parts: &[u8]) -> Result<Vec<u8>, String> {
+    let (mut own, mut map) = (old.to_vec(), vec![9; frame.samples()]);
+    let mut lent = Lent { samples: &mut own, map: &mut map, scratch: &mut [] };
+    model::decode(Fault::None, Decoder::Direct, true, &Ask::of(frame), &mut lent);
+    if let Some(what) = first_difference(&own, samples) {
+        return Err(format!("the decoder of its own, samples: {what}"));
+    }
+    let own_old: Vec<u8> = map.iter().map(|byte| byte & 1).collect();
+    match first_difference(&own_old, old_parts) {
+        Some(what) => Err(format!("the decoder of its own, old parts: {what}")),
+        None => Ok(map),
+    }
 }
 
 fn expected(frame: &Frame, old: Vec<u16>) -> Result<Expected, String> {
@@ -83,7 +103,7 @@ fn expected(frame: &Frame, old: Vec<u16>) -> Result<Expected, String> {
     if let Some(what) = first_difference(&other, &samples[1]) {
         return Err(format!("the Rust's decode_v0 and decode_v0_reference: {what}"));
     }
-    let marks = marks(width * height, &samples[1], &samples[0])?;
+    let marks = both_parts(frame, &old[1], &samples[1], &marks(width * height, &samples[1], &samples[0])?)?;
     let (directions, missing) = (parse::directions(frame), parse::heads(frame, |_| {}));
     Ok(Expected { old, samples, marks, directions, missing })
 }
@@ -128,8 +148,10 @@ pub fn frame(entries: &[Entry], frame: &Frame, random: &mut Random, seen: &mut S
 fn note(frame: &Frame, expected: &Expected, seen: &mut Seen) {
     seen.frames += 1;
     seen.samples += frame.samples() as u64;
-    let marked = expected.marks.iter().map(|&mark| u64::from(mark)).sum::<u64>();
+    let having = |part: u8| expected.marks.iter().filter(|&&mark| mark & part != 0).count() as u64;
+    let marked = having(1);
     seen.marked += marked;
+    seen.filled += having(2);
     seen.old += u64::from(marked > 0);
     seen.spill += u64::from(!frame.width.is_multiple_of(16) && frame.height > 1);
     parse::heads(frame, |head| {

@@ -1,4 +1,5 @@
-//! A V0 decoder of its own, written from the rules, with a fault where wanted: the comparisons must find each fault out.
+//! A V0 decoder of its own, written from the rules: it gives what the Rust does not tell, which samples rest on missing words.
+//! With a fault where wanted: the comparisons must find each fault out.
 
 use crate::call::{Answer, Ask, Decoder, Entry, Lent};
 use crate::refusals;
@@ -44,6 +45,17 @@ crate::faults::faults!(
     CountsInTwoPhases,
     NoSkipBound,
     ConstantSkipped,
+    FillerNotMarked,
+    FillerBeforeTheBlock,
+    FillerOfTheRow,
+    FillerOfTheFrame,
+    FillerAtItsOwnSamples,
+    SkippedGainsNoFiller,
+    SkippedGainsOldToo,
+    FillerNotInherited,
+    FillerNotExchanged,
+    SpillWithoutFiller,
+    FillerKeptAtAWrite,
 );
 
 /// The entry of a decoder with a fault.
@@ -51,8 +63,12 @@ pub fn entry(fault: Fault, decoder: Decoder, map: bool) -> Entry {
     Entry::new("a decoder of its own", decoder, map, move |ask, lent| decode(fault, decoder, map, ask, lent))
 }
 
-/// A sample and its mark.
+/// A sample and its map byte.
 type Cell = (u16, u8);
+
+/// The parts of a map byte.
+const OLD: u8 = 1;
+const FILLER: u8 = 2;
 
 /// The frame while it is decoded.
 struct Work<'a> {
@@ -62,6 +78,8 @@ struct Work<'a> {
     cells: Vec<Cell>,
     /// One for each block read.
     directions: Vec<u8>,
+    /// How many words were missing in the rows before.
+    filler: u64,
 }
 
 pub fn decode(fault: Fault, decoder: Decoder, map: bool, ask: &Ask, lent: &mut Lent) -> Answer {
@@ -73,9 +91,9 @@ pub fn decode(fault: Fault, decoder: Decoder, map: bool, ask: &Ask, lent: &mut L
     if fault == Fault::ClearsTheBuffer {
         lent.samples[..n].fill(0);
     }
-    let mark = |i: usize| if map && fault == Fault::MapKeptFromEntry { lent.map[i] } else { 1 };
+    let mark = |i: usize| if map && fault == Fault::MapKeptFromEntry { lent.map[i] } else { OLD };
     let cells = lent.samples.iter().enumerate().map(|(i, &s)| (s, if i < n { mark(i) } else { 0 })).collect();
-    let mut work = Work { fault, ask, cells, directions: Vec::new() };
+    let mut work = Work { fault, ask, cells, directions: Vec::new(), filler: 0 };
     let filler = work.rows(decoder);
     if fault == Fault::RefusesOverrun && filler > 0 {
         return Answer::refused(8);
@@ -86,8 +104,7 @@ pub fn decode(fault: Fault, decoder: Decoder, map: bool, ask: &Ask, lent: &mut L
         *sample = cell.0;
     }
     if map || fault == Fault::TouchesAMapNotLent && lent.map.len() >= n {
-        let cells = if fault == Fault::MapNotExchanged { &before } else { &work.cells };
-        leave_marks(fault, &cells[..n], lent.map);
+        leave_marks(fault, &work.cells[..n], &before, lent.map);
     }
     if decoder.in_phases() {
         leave_directions(fault, ask, &work.directions, lent.scratch);
@@ -96,11 +113,14 @@ pub fn decode(fault: Fault, decoder: Decoder, map: bool, ask: &Ask, lent: &mut L
     Answer::done_with(if told { filler } else { 0 })
 }
 
-fn leave_marks(fault: Fault, cells: &[Cell], map: &mut [u8]) {
-    for (byte, cell) in map.iter_mut().zip(cells) {
+fn leave_marks(fault: Fault, cells: &[Cell], before: &[Cell], map: &mut [u8]) {
+    for (byte, (cell, before)) in map.iter_mut().zip(cells.iter().zip(before)) {
         *byte = match fault {
-            Fault::MapAllOld => 1,
+            Fault::MapAllOld => OLD,
             Fault::MapAllNew => 0,
+            Fault::MapNotExchanged => before.1,
+            Fault::FillerNotExchanged => cell.1 & OLD | before.1 & FILLER,
+            Fault::FillerNotMarked => cell.1 & OLD,
             _ => cell.1,
         };
     }
@@ -139,6 +159,7 @@ impl Work<'_> {
         let mut filler = 0;
         for row in 0..self.ask.height {
             let words = self.row(row, decoder.in_phases() && row >= 2);
+            self.filler += words;
             filler = match self.fault {
                 Fault::CountsNothing => 0,
                 Fault::CountsRows => filler + words.min(1),
@@ -159,6 +180,7 @@ impl Work<'_> {
         let fresh = if row < 2 && self.fault != Fault::OneFreshLength { 7 } else { 4 };
         let mut lengths = [fresh; 4];
         for col in (0..self.ask.width).step_by(16) {
+            let before = reader.filler();
             let direction = reader.get(1);
             self.directions.push(direction as u8);
             let operations = [0; 4].map(|_| reader.get(2));
@@ -175,10 +197,37 @@ impl Work<'_> {
                 let j = if self.fault == Fault::LengthsMixedUp { [0, 2, 1, 3][j] } else { j };
                 self.sample(Place { row, col, c, direction, late }, lengths[j], &mut reader);
             }
+            let filler = match self.fault {
+                Fault::FillerBeforeTheBlock => before,
+                Fault::FillerOfTheFrame => self.filler + reader.filler(),
+                Fault::FillerAtItsOwnSamples => 0,
+                _ => reader.filler(),
+            };
+            if filler > 0 && !late {
+                (0..16).for_each(|c| self.fill(Place { row, col, c, direction, late }));
+            }
+        }
+        if self.fault == Fault::FillerOfTheRow && reader.filler() > 0 {
+            (0..self.ask.width).for_each(|col| self.fill(Place { row, col, c: 0, direction: 0, late }));
         }
         // Where some bytes of a word are left, that word is not counted.
         let leftover = self.fault == Fault::CountsNoLeftover && !self.ask.src.len().is_multiple_of(4);
         reader.filler().saturating_sub(leftover.into())
+    }
+
+    /// A sample of a block by whose end a word was missing, written or skipped.
+    fn fill(&mut self, place: Place) {
+        let Ask { width, height, .. } = *self.ask;
+        let at = place.row * width + place.col + place.c;
+        let skips = skipped(width, height, place.row, place.col, place.c, place.direction);
+        let kept = match self.fault {
+            Fault::SkippedGainsNoFiller => skips,
+            Fault::SpillWithoutFiller => place.col + place.c >= width,
+            _ => false,
+        };
+        if at < self.ask.n() && !kept {
+            self.cells[at].1 |= if skips && self.fault == Fault::SkippedGainsOldToo { FILLER | OLD } else { FILLER };
+        }
     }
 
     fn sample(&mut self, place: Place, length: i32, reader: &mut Reader) {
@@ -214,6 +263,9 @@ impl Work<'_> {
         if !dropped && at < end {
             let keeps_mark = outside && fault == Fault::MapWithoutSpill;
             self.write(at, self.predicted(place), residual, keeps_mark);
+            if fault == Fault::FillerAtItsOwnSamples && reader.filler() > 0 {
+                self.fill(place);
+            }
         }
     }
 
@@ -222,7 +274,14 @@ impl Work<'_> {
             Fault::SaturatingSum => (i64::from(value) + residual).clamp(0, 65_535) as u16,
             _ => value.wrapping_add(residual as u16),
         };
-        self.cells[at] = (sum, if keeps_mark { self.cells[at].1 } else { mark });
+        let old = self.cells[at].1;
+        let mark = match self.fault {
+            _ if keeps_mark => old,
+            Fault::FillerNotInherited => mark & OLD,
+            Fault::FillerKeptAtAWrite => mark | old & FILLER,
+            _ => mark,
+        };
+        self.cells[at] = (sum, mark);
     }
 
     /// The cell that a sample is predicted from. One that lies past the frame counts as 0; so does the sample then, which is
@@ -235,7 +294,7 @@ impl Work<'_> {
             _ if direction == 1 => first + c - (1 + odd) * self.ask.width,
             Fault::PredictsInsideTheBlock if c >= 2 => first + c - 2,
             Fault::NoConstant if col == 0 => return (0, 0),
-            Fault::MarkedConstant if col == 0 => return (128, 1),
+            Fault::MarkedConstant if col == 0 => return (128, OLD),
             _ if col == 0 => return (128, 0),
             _ => first + odd - 2,
         };

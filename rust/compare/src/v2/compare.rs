@@ -16,13 +16,14 @@ pub struct Seen {
     pub streams: u64,
     pub calls: u64,
     pub samples: u64,
-    /// How many calls got number 0 to 12, how many were done or refused after row 2, and how many samples were marked 1 of
+    /// How many calls got number 0 to 12, how many were done or refused after row 2, and how many samples had an old part, of
     /// those that were written or not.
     pub numbers: [u64; NUMBERS],
     pub deep: u64,
     pub marked: u64,
-    /// How many words were missing.
+    /// How many words were missing, and how many samples have a filler part.
     pub missing: u64,
+    pub filled: u64,
     /// How often each row was the one in which the stream ended.
     pub ends: Vec<u64>,
     pub used: Used,
@@ -30,14 +31,11 @@ pub struct Seen {
 
 impl fmt::Display for Seen {
     fn fmt(&self, f: &mut fmt::Formatter<'_>) -> fmt::Result {
-        let Seen { name, seed, streams, calls, samples, numbers, deep, marked, missing, ends, used } = self;
-        writeln!(
-            f,
-            "{name}, seed {seed}: {streams} streams, {calls} calls, {samples} samples, {marked} of them marked 1"
-        )?;
+        let Seen { name, seed, streams, calls, samples, numbers, deep, marked, missing, filled, ends, used } = self;
+        writeln!(f, "{name}, seed {seed}: {streams} streams, {calls} calls, {samples} samples, {marked} of them old")?;
         let rows = ends.iter().filter(|&&n| n > 0).count();
         writeln!(f, "{name}: answers 0 to 12: {numbers:?}; done or refused after row 2: {deep}")?;
-        writeln!(f, "{name}: ends in {rows} rows, {missing} words missing")?;
+        writeln!(f, "{name}: ends in {rows} rows, {missing} words missing, {filled} samples of filler")?;
         let Used { motions, flags, none, scales, held } = used;
         writeln!(f, "{name}: motions 0 to 7: {motions:?}, flags 0 to 3: {flags:?}, blocks without lengths: {none}")?;
         writeln!(f, "{name}: scales from {} to {}, samples held to 0 and to the top: {held:?}", scales[0], scales[1])?;
@@ -79,8 +77,8 @@ struct Expected {
 }
 
 /// The Rust's number and samples. The rows of 5 to 7, the count of missing words and the marks are those of the decoder of its
-/// own, which must give the Rust's number and samples, and whose samples marked 0 must be the Rust's over other old values,
-/// too.
+/// own, which must give the Rust's number and samples, and whose samples without an old part must be the Rust's over other old
+/// values, too.
 fn expected(frame: &Frame, old: &[u16], other: &[u16]) -> Result<Expected, String> {
     let (told, samples) = rust(frame, old);
     let mut own = old.to_vec();
@@ -95,12 +93,15 @@ fn expected(frame: &Frame, old: &[u16], other: &[u16]) -> Result<Expected, Strin
     drop(own);
     let (_, over_other) = rust(frame, other);
     let n = marks.len();
-    if let Some(i) = (0..n).find(|&i| marks[i] == 0 && over_other[i] != samples[i]) {
-        return Err(format!("sample {i} is marked 0, and is {} or {} by its old values", samples[i], over_other[i]));
+    if let Some(i) = (0..n).find(|&i| marks[i] & 1 == 0 && over_other[i] != samples[i]) {
+        return Err(format!(
+            "sample {i} has no old part, and is {} or {} by its old values",
+            samples[i], over_other[i]
+        ));
     }
     let unwritten = |i: usize| i % frame.width >= frame.width / 16 * 16;
-    if let Some(i) = (0..n).find(|&i| unwritten(i) && marks[i] == 0) {
-        return Err(format!("sample {i} is not written, and marked 0"));
+    if let Some(i) = (0..n).find(|&i| unwritten(i) && marks[i] != 1) {
+        return Err(format!("sample {i} is not written, and not marked 1"));
     }
     Ok(Expected { answer, samples, marks, used })
 }
@@ -138,7 +139,9 @@ impl Seen {
         self.samples += n as u64;
         self.numbers[answer.number as usize] += 1;
         self.deep += u64::from(answer == Answer::DONE || answer.row > 2);
-        self.marked += expected.marks.iter().map(|&mark| u64::from(mark)).sum::<u64>();
+        let having = |part: u8| expected.marks.iter().filter(|&&mark| mark & part != 0).count() as u64;
+        self.marked += having(1);
+        self.filled += having(2);
         self.missing += answer.filler;
         self.used.add(&expected.used);
         if answer.number == 8 {

@@ -48,12 +48,21 @@ crate::faults::faults!(
     HeaderNotCounted,
     LengthsReadAhead,
     OverrunOfOneWord,
+    FillerNotMarked,
+    FillerBeforeTheBlock,
+    FillerOfTheRow,
+    FaultyBlockFilled,
+    TailFilled,
 );
 
 /// The entry of a decoder with a fault.
 pub fn entry(fault: Fault, map: bool) -> Entry {
     Entry::new("a decoder of its own", Decoder::V2, map, move |ask, lent| decode(fault, map, ask, lent))
 }
+
+/// The parts of a map byte.
+const OLD: u8 = 1;
+const FILLER: u8 = 2;
 
 const OFFSETS: [i64; 7] = [-4, -2, -2, 0, 0, 2, 4];
 
@@ -114,7 +123,7 @@ pub fn marked(fault: Fault, ask: &Ask, samples: &mut [u16]) -> (Answer, Vec<u8>,
     header.get(26);
     let initial = header.get(14) as u16;
     let filler = if fault == Fault::HeaderNotCounted { 0 } else { header.filler() };
-    let (marks, used) = (vec![1; ask.n()], Used::default());
+    let (marks, used) = (vec![OLD; ask.n()], Used::default());
     let mut work = Work { fault, ask, depth, options, initial, samples, marks, filler, used };
     let answer = work.rows();
     (Answer { filler: told(fault, answer), ..answer }, work.marks, work.used)
@@ -149,7 +158,7 @@ pub fn decode(fault: Fault, map: bool, ask: &Ask, lent: &mut Lent) -> Answer {
             *byte = match fault {
                 Fault::MapAllOld => 1,
                 Fault::MapAllNew => 0,
-                Fault::MapKeptFromEntry if mark == 1 => *byte,
+                Fault::MapKeptFromEntry if mark == OLD => *byte,
                 _ => mark,
             };
         }
@@ -168,19 +177,15 @@ impl Work<'_> {
                 Fault::LastRowWithheld => self.samples[row * self.ask.width..][..self.ask.width].to_vec(),
                 _ => Vec::new(),
             };
-            for col in (0..self.ask.width / 16).map(|block| 16 * block) {
-                if let Err(number) = self.block(&mut state, col, &mut reader) {
-                    let row = row as u32 + u32::from(self.fault == Fault::WrongRow);
-                    let filler = self.filler + reader.filler();
-                    let number = if self.fault == Fault::OverrunFirst && filler > 0 { 8 } else { number };
-                    return Answer { number, row, filler };
-                }
+            if let Err(refused) = self.blocks(&mut state, &mut reader) {
+                return refused;
             }
             if self.fault == Fault::TailPainted {
                 let tail = self.ask.width / 16 * 16;
                 self.samples[row * self.ask.width..][tail..self.ask.width].fill(0);
             }
             self.filler += reader.filler();
+            self.fill_wrongly(row);
             if self.filler > 0 && (self.filler == 1 || self.fault != Fault::OverrunOfOneWord) {
                 self.samples[row * self.ask.width..][..before.len()].copy_from_slice(&before);
                 return Answer { number: 8, row: row as u32, filler: self.filler };
@@ -190,6 +195,43 @@ impl Work<'_> {
             scale = if self.fault == Fault::ScaleKept { state.scale } else { 0 };
         }
         Answer::DONE
+    }
+
+    /// A row's blocks, up to a refusal. Those by whose end a word was missing, in the header or since, get a filler part.
+    fn blocks(&mut self, state: &mut Row, reader: &mut Reader) -> Result<(), Answer> {
+        for col in (0..self.ask.width / 16).map(|block| 16 * block) {
+            let before = self.filler + reader.filler();
+            let outcome = self.block(state, col, reader);
+            let filler = self.filler + reader.filler();
+            let marked = match self.fault {
+                Fault::FillerBeforeTheBlock => before,
+                Fault::FillerNotMarked => 0,
+                _ => filler,
+            };
+            if marked > 0 && (outcome.is_ok() || self.fault == Fault::FaultyBlockFilled) {
+                let first = state.row * self.ask.width + col;
+                self.marks[first..first + 16].iter_mut().for_each(|mark| *mark |= FILLER);
+            }
+            outcome.map_err(|number| {
+                let row = state.row as u32 + u32::from(self.fault == Fault::WrongRow);
+                let number = if self.fault == Fault::OverrunFirst && filler > 0 { 8 } else { number };
+                Answer { number, row, filler }
+            })?;
+        }
+        Ok(())
+    }
+
+    /// Filler parts for more of a row than its blocks, by a fault.
+    fn fill_wrongly(&mut self, row: usize) {
+        let from = match self.fault {
+            Fault::FillerOfTheRow => 0,
+            Fault::TailFilled => self.ask.width / 16 * 16,
+            _ => return,
+        };
+        if self.filler > 0 {
+            let row = &mut self.marks[row * self.ask.width..][from..self.ask.width];
+            row.iter_mut().for_each(|mark| *mark |= FILLER);
+        }
     }
 
     fn block(&mut self, state: &mut Row, col: usize, reader: &mut Reader) -> Result<(), u32> {

@@ -84,7 +84,7 @@ fn a_file_broken_off_is_decoded_as_far_as_it_goes() {
     assert!(
         text.starts_with(&format!("file: V0, 20 by 5, {} bytes of stream, 9 more are missing", made.stream.len() - 9))
     );
-    assert!(text.contains("\nmissing: 10 words, 40 bytes; "), "{text}");
+    assert!(text.contains(" samples rest on missing words: 10 words (40 bytes) were read past the end\n"), "{text}");
 }
 
 #[test]

@@ -25,18 +25,24 @@ fn a_frame_over_another() {
     }
 }
 
-/// The README shows the picture and the text that `make picture` makes.
+/// The README shows the pictures and the texts that `make picture` makes.
 #[test]
 fn the_readme_shows_what_the_tool_does() {
     let folder = Folder::new("readme");
     folder.put("sitting.srw", srw(&v0::encode(&sitting(320, 200), 320, 200)));
     folder.put("christening.srw", srw(&with_band(&christening(320, 200), 320, 200, 24)));
-    let (status, text, _) = folder.run("--over sitting.srw christening.srw --png marked.png");
+    let whole = v0::encode(&christening(320, 200), 320, 200);
+    let missing = whole.stream.len() - whole.row(100).start;
+    let file = srw(&whole);
+    folder.put("upload.srw", &file[..file.len() - missing]);
     let top = PathBuf::from(env!("CARGO_MANIFEST_DIR")).join("../..");
-    assert!(status == 3 && folder.get("marked.png") == fs::read(top.join("docs/marked.png")).ok());
     let readme = fs::read_to_string(top.join("README.md")).expect("README.md");
-    let shown: String = text.lines().map(|line| format!("    {line}\n")).collect();
-    assert!(readme.contains(&shown), "the README has\n{shown}");
+    for (frames, picture) in [("--over sitting.srw christening.srw", "marked.png"), ("upload.srw", "upload.png")] {
+        let (status, text, _) = folder.run(&format!("{frames} --png {picture}"));
+        assert!(status == 3 && folder.get(picture) == fs::read(top.join("docs").join(picture)).ok(), "{picture}");
+        let shown: String = text.lines().map(|line| format!("    {line}\n")).collect();
+        assert!(readme.contains(&shown), "the README has\n{shown}");
+    }
 }
 
 #[test]
@@ -50,12 +56,12 @@ fn bare_streams() {
     assert_eq!(folder.get("v0.pgm").expect("samples"), b"P5\n2 2\n16383\n\0\0\0\x83\0\0\0\x7e");
     folder.put("v0", [0x18, 0x20, 0xa0, 0x7f, 0, 0, 0x70, 0, 0x08, 0, 0xa0, 0xff, 0, 0, 0, 0]);
     folder.put("offsets", "0,8");
-    let text = "v0: V0, 2 by 2, 16 bytes of stream\ndone\nnone of 4 samples rests on what the buffer held before\n";
+    let text = "v0: V0, 2 by 2, 16 bytes of stream\ndone\nall 4 samples rest on the stream\n";
     assert_eq!(folder.run("--v0 2x2 --offsets offsets v0"), done(text));
     folder.put("v2", [0; 16]);
     let text = "v2: V2, 646 by 436, 16 bytes of stream\nrefused 8, row 0: the stream ends in row 0\n\
         281016 of 281656 samples rest on what the buffer held before\n  row 0: 6 of 646\n  rows 1 to 435: 646 of 646 each\n\
-        missing: 7 words, 28 bytes; they read as ones, and what is made of them is not marked\n";
+        640 of 281656 samples rest on missing words: 7 words (28 bytes) were read past the end\n  row 0: 640 of 646\n";
     assert_eq!(folder.run("--v2 646x436 v2 --png v2.png"), refused(text));
     assert!(folder.get("v2.png").is_some(), "what was decoded before the refusal can be looked at");
 }
@@ -76,10 +82,8 @@ fn a_frame_written_as_v0_is_read_again() {
         let file = folder.get("stored.srw").expect("a file");
         let len = razvolk::srw::frame(&file).expect("a frame").stream.len();
         let n = width * height;
-        let text = format!(
-            "stored.srw: V0, {width} by {height}, {len} bytes of stream\ndone\nnone of {n} samples rests on what the buffer held \
-             before\n"
-        );
+        let heading = format!("stored.srw: V0, {width} by {height}, {len} bytes of stream");
+        let text = format!("{heading}\ndone\nall {n} samples rest on the stream\n");
         assert_eq!(again, done(&text));
         assert!(folder.get("again.pgm") == folder.get("first.pgm") && folder.get("again.pgm").is_some());
     }
@@ -114,9 +118,8 @@ fn a_frame_of_no_samples_is_written_as_v0() {
     for size in ["5x0", "0x3"] {
         let (status, ..) = folder.run(&format!("--v0 {size} --offsets offsets none --write-v0 stored.srw --force"));
         let (width, height) = size.split_once('x').expect("a size");
-        let text = format!(
-            "stored.srw: V0, {width} by {height}, 0 bytes of stream\ndone\nnone of 0 samples rests on what the buffer held before\n"
-        );
+        let text =
+            format!("stored.srw: V0, {width} by {height}, 0 bytes of stream\ndone\nall 0 samples rest on the stream\n");
         assert_eq!((status, folder.run("stored.srw")), (0, done(&text)));
     }
 }
@@ -127,9 +130,10 @@ fn samples_that_rest_on_old_values_are_stored_and_told_of() {
     folder.put("v2.srw", srw(&v2::encode(&christening(646, 436), 646, 436)));
     let ((status, text, fault), again) = stored(&folder, "v2.srw");
     assert!(status == 3 && fault.is_empty());
-    let told = "stored.srw: 2616 samples that rest on what the buffer held are stored, and not marked";
+    let told = "stored.srw: 2616 samples that rest on what the buffer held or on missing words are stored, and \
+        not marked";
     assert_eq!(text.lines().last(), Some(told));
-    assert!(again.1.ends_with("done\nnone of 281656 samples rests on what the buffer held before\n"), "{again:?}");
+    assert!(again.1.ends_with("done\nall 281656 samples rest on the stream\n"), "{again:?}");
     assert!(folder.get("again.pgm") == folder.get("first.pgm"));
 }
 
@@ -140,7 +144,7 @@ fn what_cannot_be_written_as_v0() {
     let bright: Vec<u16> = (0..240).map(|i| if i == 77 { 16_384 } else { 1_000 }).collect();
     folder.put("bright.srw", srw(&v0::encode(&bright, 40, 6)));
     let (status, text, fault) = folder.run("bright.srw --pgm x.pgm --write-v0 x.srw");
-    assert_eq!((status, text.lines().last()), (2, Some("none of 240 samples rests on what the buffer held before")));
+    assert_eq!((status, text.lines().last()), (2, Some("all 240 samples rest on the stream")));
     assert_eq!(fault, "razvolk: x.srw: can't be written as V0: a sample is above 16,383\n");
     assert_eq!(folder.names(), ["bright.srw"]);
     // A frame that is refused: its picture is written, and no frame that would pass for a whole one.
@@ -170,7 +174,7 @@ fn refusals() {
     assert_eq!(folder.run("--v0 5x5 --offsets offsets stream"), refused(text));
     let text = "stream: V2, 646 by 436, 0 bytes of stream\nrefused 5, row 0: row 0 predicts from rows that do not exist\n\
         281656 of 281656 samples rest on what the buffer held before\n  rows 0 to 435: 646 of 646 each\n\
-        missing: 5 words, 20 bytes; they read as ones, and what is made of them is not marked\n";
+        none of 281656 samples rests on missing words: 5 words (20 bytes) were read past the end\n";
     assert_eq!(folder.run("--v2 646x436 stream"), refused(text));
 }
 
@@ -200,7 +204,7 @@ fn output_that_cannot_be_written() {
     assert_eq!((status, fault.as_str()), (2, "razvolk: gone/x.pgm: No such file or directory (os error 2)\n"));
     folder.put("offsets", "");
     let (status, text, fault) = folder.run("--v0 5x0 --offsets offsets offsets --png x.png");
-    assert_eq!((status, text.lines().last()), (2, Some("none of 0 samples rests on what the buffer held before")));
+    assert_eq!((status, text.lines().last()), (2, Some("all 0 samples rest on the stream")));
     assert_eq!(fault, "razvolk: x.png: a frame of no samples makes no picture\n");
 }
 
@@ -231,7 +235,7 @@ fn damaged_files_end_with_an_answer() {
     }
 }
 
-/// A V0 frame that is cut at two thirds is not called clean, though no sample of it is marked.
+/// A V0 frame that is cut at two thirds is not called clean: its lower rows are made of missing words.
 #[test]
 fn a_frame_that_is_cut_is_not_clean() {
     let folder = Folder::new("cut");
@@ -240,7 +244,9 @@ fn a_frame_that_is_cut_is_not_clean() {
     let (status, text, fault) = folder.run("cut.srw");
     assert_eq!((status, fault.as_str()), (3, ""));
     assert!(text.lines().next().is_some_and(|line| line.ends_with("more are missing")), "{text}");
-    assert!(!text.contains("rest on the stream") && text.contains("\nmissing: "), "{text}");
+    assert!(text.contains("\nnone of 64000 samples rests on what the buffer held before\n"), "{text}");
+    assert!(text.contains(" samples rest on missing words: "), "{text}");
+    assert!(text.ends_with(" to 199: 320 of 320 each\n"), "{text}");
 }
 
 #[test]
@@ -267,7 +273,8 @@ fn an_object_for_each_frame() {
     assert_eq!((status, fault.as_str()), (2, ""));
     let lines: Vec<&str> = text.lines().collect();
     let a = "{\"file\":\"a.srw\",\"version\":\"V0\",\"width\":40,\"height\":6,\"stream_bytes\":200,\"missing_bytes\":0,\
-        \"missing_words\":0,\"answer\":0,\"row\":0,\"text\":\"done\",\"samples\":240,\"old\":80,\"rows\":[{\"first\":0,\"last\":1,\"old\":40}]}";
+        \"missing_words\":0,\"answer\":0,\"row\":0,\"text\":\"done\",\"samples\":240,\"old\":80,\"old_rows\":[{\"first\":0,\"last\":1,\"samples\":40}],\
+        \"filler\":0,\"filler_rows\":[]}";
     assert_eq!(lines[..2], [a, "{\"file\":\"b\",\"error\":\"b: not a TIFF file\"}"]);
     assert!(
         lines[2].contains("\"missing_words\":7,\"answer\":8,\"row\":0,\"text\":\"the stream ends in row 0\""),
@@ -341,7 +348,7 @@ fn standard_input() {
     folder.put("a.srw", srw(&v0::encode(&sitting(40, 6), 40, 6)));
     let tool = env!("CARGO_BIN_EXE_razvolk");
     let by_shell = |line: &str| folder.ran(Command::new("sh").args(["-c", &line.replace("razvolk", tool)]));
-    let text = "-: V0, 40 by 6, 408 bytes of stream\ndone\nnone of 240 samples rests on what the buffer held before\n";
+    let text = "-: V0, 40 by 6, 408 bytes of stream\ndone\nall 240 samples rest on the stream\n";
     assert_eq!(by_shell("cat a.srw | razvolk -"), done(text));
     assert_eq!(by_shell("razvolk - --pgm . < a.srw"), done(text));
     assert_eq!(folder.names(), ["a.srw", "stdin.pgm"]);
