@@ -3,3 +3,4 @@ pub mod MovedLaws
 pub mod WriterLaws
 pub mod ConvertLaws
 pub mod Converted
+pub mod ConvertExamples

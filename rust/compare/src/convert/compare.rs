@@ -19,7 +19,10 @@ pub fn razvolk(ask: &call::Ask, lent: &mut Buffers) -> Written {
     let Buffers { samples, map, stream } = lent;
     match razvolk::v0_to_v2(ask.src, ask.offsets, ask.width, ask.height, samples, map, stream) {
         Ok(length) => Written { answer: Answer::DONE, length },
-        Err(refusal) => Written { answer: Answer { number: refusal.number(), row: refusal.row() }, length: 0 },
+        Err(refusal) => {
+            let (number, row, filler) = (refusal.number(), refusal.row(), refusal.filler_words());
+            Written { answer: Answer { number, row, filler }, length: 0 }
+        }
     }
 }
 
