@@ -15,7 +15,7 @@ fn razvolk_converts_as_the_plain_converter_does() {
 
 /// The comparison of a converter with a fault.
 fn compared(fault: Fault) -> Result<Seen, Difference> {
-    compare(&|ask, lent| convert(fault, ask, lent), 7, 400, 10)
+    compare(&|ask, lent| convert(fault, ask, lent), 7, 300, 10)
 }
 
 #[test]

@@ -70,11 +70,11 @@ fn size(random: &mut Random, i: u64, every: u64) -> (usize, usize) {
 fn frame(random: &mut Random, width: usize, height: usize) -> Frame {
     let n = width * height;
     match random.below(8) {
-        0..4 => {
+        0..3 => {
             let (stream, offsets) = v0(&image(random, width, height), width, height);
             Frame { stream, offsets, ..Frame::new(Version::V0, width, height) }
         }
-        4..7 => {
+        3..5 => {
             let mut image = photo(width, height, [0.0, 16.0, 260.0][random.index(3)], random.number());
             if n > 0 && random.once_in(2) {
                 image[random.index(n)] = 16_383 + random.below(3) as u16;
@@ -156,7 +156,7 @@ fn one(
     }
     // Whatever the frame: 10 comes last.
     called(converter, ask, (n, n, random.index(32)), random, seen)?;
-    if n > 0 && random.once_in(4) {
+    if n > 0 && (random.once_in(4) || !frame.width.is_multiple_of(16)) {
         called(converter, ask, (n - 1, n, most), random, seen)?;
         called(converter, ask, (n, n - 1, most), random, seen)?;
         let rows = &ask.offsets[..random.index(frame.height)];
