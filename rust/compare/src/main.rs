@@ -1,7 +1,9 @@
 //! The comparisons with the Rust, as long as wanted. Each prints its seed, and how much was compared.
 
 use compare::call::{Difference, Entry, razvolk, razvolk_in_bands, razvolk_of, with_map};
-use compare::{bands, blank, convert, jobs, lists, missing, planes, reader, record, refusals, states, uploads, v0, v2, write};
+use compare::{
+    bands, blank, convert, jobs, lists, missing, planes, reader, record, refusals, states, uploads, v0, v2, write,
+};
 use std::fmt::Display;
 use std::path::Path;
 use std::process::ExitCode;
