@@ -39,10 +39,13 @@ extern "C" {
  *  12  in bands: the list is too short or too long, or a step is no block's number or is not ready  every buffer as it was
  *  13  blanking: the list is too short for all runs                      every buffer as it was
  *  14  blanking: one of the first N map bytes is above 3                 every buffer as it was
+ *  15  V0 into V2: the width is not a multiple of 16                      every buffer as it was
+ *  16  V0 into V2: a sample of the decoded frame is marked                the frame is decoded, the stream as it was
  *
  * 1 to 4 are tested in this order, then in bands 11 and 12; then the stream decides. 9 and 10 are a writer's, which tests 1, 3, 9
- * and 10. Blanking tests 1, 3, 4, 14 and 13; the export goes on to 9 and 10, which leave the frame blanked. `row` is the row at
- * fault of 5 to 8, else 0. Samples and map bytes from N on never change.
+ * and 10. Blanking tests 1, 3, 4, 14 and 13; the export goes on to 9 and 10, which leave the frame blanked. V0 into V2 tests 1 to 4
+ * and 15, and when the frame is decoded 16, 9 and 10. `row` is the row at fault of 5 to 8, else 0. Samples and map bytes from N on
+ * never change.
  *
  * `filler` is how many words of 4 bytes were missing: fetched where fewer than 4 bytes of the stream remained, and read as ones.
  * The direct V0 decoder tells it when it is done, as the sum over its rows, and V2 with 5 to 8, up to the refusal and from the
@@ -69,6 +72,8 @@ typedef struct {
 #define RAZVOLK_BAD_STEPS       12u
 #define RAZVOLK_SHORT_RUNS      13u
 #define RAZVOLK_BAD_MAP         14u
+#define RAZVOLK_BAD_WIDTH       15u
+#define RAZVOLK_MARKED          16u
 
 /* The limits that they speak of. */
 #define RAZVOLK_MOST_SIDE 16384u       /* 1 */
@@ -205,6 +210,22 @@ razvolk_blanked razvolk_blank_with(uint16_t *samples, size_t samples_len, const 
 razvolk_exported razvolk_export_v0(uint16_t *samples, size_t samples_len, const uint8_t *map, size_t map_len, size_t width,
                                    size_t height, uint32_t *runs, size_t runs_len, uint8_t *stream, size_t stream_len,
                                    uint32_t *offsets, size_t offsets_len);
+
+/* The most bytes of stream that a V2 frame within the limits can take: 16 of header, and of each row 265 bits a block of 16
+ * columns, in whole lines of 16 bytes. A buffer of so many bytes is always long enough. */
+#define RAZVOLK_V2_MOST(width, height) (16 + (((size_t)(width) + 15) / 16 * 265 + 127) / 128 * 16 * (size_t)(height))
+
+/* V0 into V2: decodes a V0 frame as razvolk_decode_v0_reference_map does, and writes it as V2, from byte 0 of the stream on.
+ * razvolk_decode_v2 gives the samples back, over any buffer, and razvolk_decode_v2_map no map byte other than 0, whatever lies
+ * past the stream. 2 is V2's; width must be a multiple of 16.
+ * 0                  the first N samples and map bytes are the frame's, and the first `length` bytes of stream its V2; those past
+ *                    them are as before
+ * 1, 2, 3, 4, 15     nothing is written, and `length` is 0
+ * 16, 9, 10          samples and map as of 0; the stream is as before, and `length` is 0. 16 if one of the first N map bytes
+ *                    is not 0, then 9, then 10 */
+razvolk_written razvolk_v0_to_v2(const uint8_t *src, size_t src_len, const uint32_t *offsets, size_t offsets_len, size_t width,
+                                 size_t height, uint16_t *samples, size_t samples_len, uint8_t *map, size_t map_len,
+                                 uint8_t *stream, size_t stream_len);
 
 /* A bit reader's state. The stream is words of 4 bytes, lowest byte first, and a word's highest bit is read first. A reader
  * that starts at a byte position is { position, 0, 0, 0 }. */

@@ -237,6 +237,38 @@ static void blank(void) {
     expect(answer.number == 0 && memcmp(back, frame, sizeof back) == 0, "decoded, it is the blanked frame");
 }
 
+/* V0 into V2, of the smallest frame that V2 takes. */
+static void v0_to_v2(void) {
+    enum { WIDTH = 656, HEIGHT = 436, N = WIDTH * HEIGHT };
+    static uint16_t frame[N], back[N];
+    static uint8_t v0[RAZVOLK_V0_MOST(WIDTH, HEIGHT)], v2[RAZVOLK_V2_MOST(WIDTH, HEIGHT)], marks[N];
+    static uint32_t table[HEIGHT];
+    for (size_t i = 0; i < N; i++)
+        frame[i] = (uint16_t)(i * 7 % 16384);
+    razvolk_written written = razvolk_write_v0(frame, N, WIDTH, HEIGHT, v0, sizeof v0, table, HEIGHT);
+    size_t length = (size_t)written.length;
+    memset(v2, 9, sizeof v2);
+    memset(marks, 9, sizeof marks);
+    written = razvolk_v0_to_v2(v0, length, table, HEIGHT, 640, HEIGHT, back, N, marks, N, v2, sizeof v2);
+    expect(written.answer.number == RAZVOLK_TOO_SMALL && written.length == 0, "640 columns are refused by 2");
+    written = razvolk_v0_to_v2(v0, length, table, HEIGHT, 655, HEIGHT, back, N, marks, N, v2, sizeof v2);
+    expect(written.answer.number == RAZVOLK_BAD_WIDTH && marks[0] == 9, "655 columns are refused by 15");
+    written = razvolk_v0_to_v2(v0, length, table, HEIGHT, WIDTH, HEIGHT, back, N, marks, N, v2, 15);
+    expect(written.answer.number == RAZVOLK_SHORT_OUTPUT && v2[0] == 9, "15 bytes are refused by 10");
+    expect(memcmp(back, frame, sizeof frame) == 0 && marks[0] == 0, "the frame is decoded under 10");
+    written = razvolk_v0_to_v2(v0, length, table, HEIGHT, WIDTH, HEIGHT, back, N, marks, N, v2, sizeof v2);
+    expect(written.answer.number == RAZVOLK_DONE && v2[1] == 13 && v2[9] == 7, "v0_to_v2");
+    expect(written.length < sizeof v2 && v2[written.length] == 9, "what lies past the stream is as it was");
+    memset(back, 9, sizeof back);
+    razvolk_answer answer = razvolk_decode_v2_map(v2, (size_t)written.length, WIDTH, HEIGHT, back, N, marks, N);
+    expect(answer.number == RAZVOLK_DONE && memcmp(back, frame, sizeof frame) == 0, "decoded, it is the frame again");
+    v0[3] |= 0x80; /* The first block predicts from the row above. */
+    memset(v2, 9, sizeof v2);
+    written = razvolk_v0_to_v2(v0, length, table, HEIGHT, WIDTH, HEIGHT, back, N, marks, N, v2, sizeof v2);
+    expect(written.answer.number == RAZVOLK_MARKED && v2[0] == 9, "a marked sample is refused by 16");
+    expect(RAZVOLK_V2_MOST(16, 1) == 64 && RAZVOLK_V2_MOST(16384, 16384) == 555745296, "RAZVOLK_V2_MOST");
+}
+
 /* NULL with length 0, wherever a slice may have no elements. */
 static void null(void) {
     static const uint32_t one[1] = {0};
@@ -266,6 +298,8 @@ static void null(void) {
     expect(blanked.answer.number == RAZVOLK_SHORT_MAP && sample[0] == 7, "blank_with of NULL");
     razvolk_exported exported = razvolk_export_v0(NULL, 0, NULL, 0, 0, 0, NULL, 0, NULL, 0, NULL, 0);
     expect(exported.answer.number == RAZVOLK_DONE && exported.length == 0, "export_v0 of NULL");
+    written = razvolk_v0_to_v2(NULL, 0, NULL, 0, 16, 1, NULL, 0, NULL, 0, NULL, 0);
+    expect(written.answer.number == RAZVOLK_TOO_SMALL && written.length == 0, "v0_to_v2 of NULL");
     razvolk_got got = razvolk_get(NULL, 0, state, 8);
     expect(got.value == 255 && got.bits.filler == 1, "get of NULL");
 }
@@ -296,6 +330,7 @@ int main(void) {
     planes();
     write_v0();
     blank();
+    v0_to_v2();
     null();
     named();
     puts(failed ? "header: FAILED" : "header: ok");

@@ -3,7 +3,8 @@
  * decoder and all V0 decoders agree, that a sample without an old part is the same over any old samples, and that one of a cut
  * stream with map byte 0 is final. Calls the writer with any samples, sizes and buffers, and holds it to its refusal, to the
  * length that is worked out apart, and to the decoders, which must give the samples back. Blanks frames by any map, and holds
- * what is set, listed and exported to a plain loop.
+ * what is set, listed and exported to a plain loop. Calls V0 into V2 likewise, and holds it to the V0 decoder, whose samples and
+ * map it must leave, and to the V2 decoder.
  *
  *     hostile [pages|heap [COUNT[s] [SEED]]]      COUNT rounds, or COUNT seconds; by itself: pages, 300 rounds
  *
@@ -22,7 +23,7 @@
 #include <unistd.h>
 
 /* The highest number that is answered. */
-#define MOST_NUMBER 14
+#define MOST_NUMBER 16
 
 static bool heap = false;
 static unsigned long rounds = 0, calls = 0, numbers[MOST_NUMBER + 1];
@@ -895,8 +896,100 @@ static void play_blanking(void) {
         give_back(all[i]);
 }
 
+/* The refusal of V0 into V2 before decoding, or 0: 1 to 4, with V2's 2, and 15. */
+static uint32_t unconvertible(const ask *a) {
+    if (a->width > 16384 || a->height > 16384)
+        return 1;
+    if (a->width < RAZVOLK_V2_LEAST_WIDTH || a->height < RAZVOLK_V2_LEAST_HEIGHT)
+        return 2;
+    if (a->samples < cells(a) || a->offsets.bytes / 4 < a->height)
+        return 3;
+    if (a->map < cells(a))
+        return 4;
+    return a->width % 16 > 0 ? 15 : 0;
+}
+
+/* The refusal of a decoded frame, or 0: 16 and 9. */
+static uint32_t unclean(const uint16_t *samples, const uint8_t *map, size_t n) {
+    uint32_t refused = 0;
+    for (size_t i = 0; i < n; i++) {
+        if (map[i] > 0)
+            return 16;
+        if (samples[i] > 16383)
+            refused = 9;
+    }
+    return refused;
+}
+
+/* A frame that V2 takes, its samples written as V0; now and then with a bit of the stream turned, or a first block that predicts
+ * from the row above. */
+static ask convertible(void) {
+    ask a = {false, {0}, {0}, 656 + 16 * below(2), 436 + below(2), 0, 0, 0, 0, 0, {0}};
+    size_t n = cells(&a), most = RAZVOLK_V0_MOST(a.width, a.height);
+    slice samples = lend(2 * n);
+    uint16_t least = (uint16_t)below(12000), range = (uint16_t)(1 << below(13));
+    for (size_t i = 0; i < n; i++) {
+        uint16_t sample = (uint16_t)(least + below(range));
+        memcpy(samples.data + 2 * i, &sample, 2);
+    }
+    slice stream = lend(most);
+    a.offsets = lend(4 * a.height), a.samples = n, a.map = n;
+    size_t length = (size_t)razvolk_write_v0(READ_SAMPLES(samples), a.width, a.height, BYTES(stream), WRITTEN_OFFSETS(a.offsets)).length;
+    if (below(2) == 0)
+        stream.data[below(length)] ^= (uint8_t)(1 << below(8));
+    else if (below(3) == 0)
+        stream.data[3] |= 0x80;
+    a.src = copy(stream.data, length);
+    give_back(samples);
+    give_back(stream);
+    return a;
+}
+
+/* What was converted gives the samples back as V2, with no map byte other than 0. */
+static void decodes_as_v2(const ask *a, slice stream, size_t length, const uint8_t *samples) {
+    size_t n = cells(a);
+    slice back = lend(2 * n), map = lend(n);
+    scatter(back.data, back.bytes);
+    razvolk_answer answer = razvolk_decode_v2_map(stream.data, length, a->width, a->height, SAMPLES(back), BYTES(map));
+    expect(answer.number == 0 && same(back.data, samples, 2 * n), "what is converted decodes to the samples");
+    for (size_t i = 0; i < n; i++)
+        expect(map.data[i] == 0, "what is converted decodes with no map byte other than 0");
+    give_back(back);
+    give_back(map);
+}
+
+/* Converts a frame, mostly one that is refused at once, and holds the call to the direct decoder's. */
+static void play_converter(void) {
+    bool large = below(12) == 0;
+    ask a = large ? convertible() : any_v0();
+    if (!large)
+        any_lengths(&a);
+    uint32_t refused = unconvertible(&a);
+    slice samples = lend(2 * a.samples), map = lend(a.map), stream = lend(large ? RAZVOLK_V2_MOST(a.width, a.height) : below(99));
+    scatter(samples.data, samples.bytes);
+    slice old = copy(samples.data, samples.bytes), left = lend(a.map);
+    filled(map, 0), filled(left, 0), filled(stream, 0);
+    razvolk_written out = razvolk_v0_to_v2(V0(&a), SAMPLES(samples), BYTES(map), BYTES(stream));
+    calls++;
+    if (refused == 0) {
+        razvolk_decode_v0_reference_map(V0(&a), SAMPLES(old), BYTES(left));
+        refused = unclean((const uint16_t *)(const void *)old.data, left.data, cells(&a));
+    }
+    numbers[refused]++;
+    expect(out.answer.number == refused && out.answer.row == 0, "the converter's refusal");
+    expect(same(samples.data, old.data, old.bytes), "the converter leaves the decoder's samples");
+    expect(same(map.data, left.data, left.bytes), "the converter leaves the decoder's map");
+    expect((out.length == 0) == (refused > 0), "the converter's length");
+    for (size_t i = (size_t)out.length; i < stream.bytes; i++)
+        expect(stream.data[i] == 9, "bytes past what is converted stay");
+    if (refused == 0)
+        decodes_as_v2(&a, stream, (size_t)out.length, samples.data);
+    give_back(samples), give_back(old), give_back(map), give_back(left), give_back(stream);
+    give_back(a.src), give_back(a.offsets), give_back(a.steps);
+}
+
 /* What is played in each round. Functions of a new kind are a row here. */
-static void (*const plays[])(void) = {play_decoders, play_reader, play_planes, play_writer, play_blanking};
+static void (*const plays[])(void) = {play_decoders, play_reader, play_planes, play_writer, play_blanking, play_converter};
 
 int main(int argc, char **argv) {
     const char *count = argc > 2 ? argv[2] : "300";

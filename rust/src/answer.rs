@@ -197,11 +197,14 @@ refusals! {
     /// | 12 | in bands: the list is too short or too long, or a step is no block's number or is not ready | every buffer as it was |
     /// | 13 | blanking: the list is too short for all runs | every buffer as it was |
     /// | 14 | blanking: one of the first N map bytes is above 3 | every buffer as it was |
+    /// | 15 | V0 into V2: the width is not a multiple of 16 | every buffer as it was |
+    /// | 16 | V0 into V2: a sample of the decoded frame is marked | the frame is decoded, the stream as it was |
     ///
     /// A decoder tests 1 to 4 in this order, in bands then 11 and 12, a writer 1, 3, 9 and 10, blanking 1, 3, 4, 14 and 13; the
-    /// export goes on to 9 and 10, which leave the frame blanked and write nothing. After 5 to 8 the map describes the samples as
-    /// they are left; the row in which the stream ended has ones in place of the missing bits. 5 to 8 carry how many words were
-    /// missing up to there, from the header on: [`Refusal::filler_words`].
+    /// export goes on to 9 and 10, which leave the frame blanked and write nothing. V0 into V2 tests 1 to 4 and 15, and when the
+    /// frame is decoded 16, 9 and 10. After 5 to 8 the map describes the samples as they are left; the row in which the stream
+    /// ended has ones in place of the missing bits. 5 to 8 carry how many words were missing up to there, from the header on:
+    /// [`Refusal::filler_words`].
     ///
     /// ```
     /// use razvolk::Refusal;
@@ -225,6 +228,8 @@ refusals! {
     12 BadSteps "the steps don't do each block of the frame once, each when it is ready";
     13 ShortRuns "the list is too short for all runs";
     14 BadMap "a map byte is above 3";
+    15 BadWidth "the width is no multiple of 16";
+    16 Marked "a sample of the decoded frame is marked";
 }
 
 impl Refusal {

@@ -69,6 +69,9 @@ exports! {
     fn razvolk_export_v0(
         samples: &mut [u16], map: &[u8], width: usize, height: usize, runs: &mut [u32], stream: &mut [u8],
         offsets: &mut [u32]) -> Exported;
+    fn razvolk_v0_to_v2(
+        src: &[u8], offsets: &[u32], width: usize, height: usize, samples: &mut [u16], map: &mut [u8],
+        stream: &mut [u8]) -> Written;
     fn razvolk_get(src: &[u8], state: Bits, n: u32) -> Got;
     fn razvolk_reset_at(state: Bits, pos: u64) -> Bits;
 }

@@ -4,3 +4,6 @@ pub mod WriterLaws
 pub mod BlankLaws
 pub mod ExportLaws
 pub mod ExportedFrames
+pub mod ConvertLaws
+pub mod Converted
+pub mod ConvertExamples

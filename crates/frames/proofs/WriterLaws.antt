@@ -19,11 +19,13 @@ use Rattle.refusals.specs.Lending.{short}
 use Rattle.refusals.specs.declared.Lending.the-variants.{Nothing}
 use Rattle.refusals.proofs.RefusalLaws.{room}
 use Rattle.writers.specs.declared.Written.{Written}
-use Rattle.writers.specs.Writer.{offsets-for}
+use Rattle.writers.specs.Writer.{residuals, offsets-for}
 use Rattle.writers.specs.Calls.{Call, call, frame-of, stream-of, offsets-of, too-bright, short-output, write-refusal, refused, written, write-answer, unless-refused, stream-after, offsets-after, Yields}
 use Rattle.writers.proofs.CallLaws.{not-bright}
-use Rattle.writers.proofs.V0RoundTrip.{offsets-length}
-use Rattle.v0_writer.specs.Frames.{Writable}
+use Rattle.writers.proofs.Rows.{offsets-length}
+use Rattle.frame_writer.specs.declared.format.Format.the-variants.{V0}
+use Rattle.frame_writer.specs.Frames.{Writable}
+use Rattle.frame_writer.proofs.CodingLaws.{whole-v0}
 
 -- The test of 1 and 3.
 abbrev pub early : Size → ℕ → ℕ
@@ -31,12 +33,13 @@ early z n = first-of (too-large z) false (ltb n (cells z) || short Nothing (z .h
 
 -- A frame without a sample above 16,383 can be written.
 pub writable : (w h : ℕ) (samples : List ℕ) (k : ℕ) (b : Bool) → k ≡ early (record { width = w; height = h }) (length samples) → k ≡ 0
-    → b ≡ too-bright (take (w * h) samples) → b ≡ false → Writable w h (take (w * h) samples)
+    → b ≡ too-bright (take (w * h) samples) → b ≡ false → Writable V0 w h (take (w * h) samples)
 writable w h samples k b e q t f =
     let p = room (record { width = w; height = h }) false (length samples) Nothing Nothing Nothing k e q in
     record {
       wide = p .wide;
       high = p .high;
+      blocks = whole-v0 w;
       whole = length-take-le (w * h) samples (p .samples-enough);
       dim = λ i. all-get (λ a. a < 16_384) (not-bright (take (w * h) samples) (sym t ∙ f)) i 0 (lit< tt);
     }
@@ -90,14 +93,14 @@ module _ (samples : List ℕ) (w h : ℕ) (stream offsets : List ℕ) where
       pub stream-room : s ≡ false → length (stream-of c) ≤ length stream
       stream-room q = rw is at (ltb-false (length stream) n (neither (ltb (length stream) n) (ltb (length offsets) h) (sym test ∙ q) .0))
 
-      pub table-room : s ≡ false → h ≤ length offsets
+      table-room : s ≡ false → h ≤ length offsets
       table-room q = ltb-false (length offsets) h (neither (ltb (length stream) n) (ltb (length offsets) h) (sym test ∙ q) .1)
 
       pub done-yields : (r : Written) (st ot : List ℕ) → s ≡ false → r ≡ written n → st ≡ sets stream 0 (stream-of c) → ot ≡ sets offsets 0 (offsets-of c) → Yields c r st ot
       unfolding write-answer stream-after offsets-after unless-refused offsets-for
       done-yields r st ot q e p p′ =
           let ok : write-refusal c ≡ 0 = last ∙ rw q in
-          let rows = offsets-length w (exchange sample-kind (c .size) (frame-of c)) h 0 0 in
+          let rows = offsets-length (residuals w (exchange sample-kind (c .size) (frame-of c))) h 0 0 in
           record {
             answered = rw ok (e ∙ ap written is);
             stream-left =

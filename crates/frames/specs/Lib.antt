@@ -1,3 +1,5 @@
 -- What the calls answer, and what they leave.
 pub mod Moved
 pub mod Export
+pub mod Convert
+pub mod ConvertExamples

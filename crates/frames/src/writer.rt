@@ -3,12 +3,12 @@ ghost use mathlib.Core.Path.{_≡_};
 ghost use mathlib.Core.Bool.{_||_};
 ghost use lib.Dec.{ltb};
 ghost use Rattle.writers.specs.Calls.{call, Yields};
+use frame_writer::measure::v0_length;
+use frame_writer::write;
 use refusals::Lending;
 use refusals::refuse;
 use rules::Answer;
 use rules::Size;
-use v0_writer::measure::stream_length;
-use v0_writer::write::write_frame;
 use writers::Written;
 use writers::is_too_bright;
 
@@ -49,10 +49,10 @@ pub fn write_v0(
     if is_too_bright(&samples[..n]) {
         return Written::refused(Answer::TOO_BRIGHT);
     }
-    let length = stream_length(&samples[..n], width, height);
+    let length = v0_length(&samples[..n], width, height);
     if is_short(stream.len(), length, offsets.len(), height) {
         return Written::refused(Answer::SHORT_OUTPUT);
     }
-    write_frame(stream, offsets, &samples[..n], width, height);
+    write::write_v0(stream, offsets, &samples[..n], width, height);
     Written::done(length as u64)
 }

@@ -1,11 +1,11 @@
 -- Laws of the packer, over plain numbers and lists.
 use Prim.Native.Nat.{ℕ, zero, suc, _+_, _-_, _*_, _/_, _%_, _^_, _<_, _≤_, max}
-use mathlib.Core.Bool.{Bool, false}
+use mathlib.Core.Bool.{Bool}
 use mathlib.Core.Path.{_≡_, refl, sym, ap, ap₂, _∙_}
 use mathlib.Core.List.{List, [], _∷_, _++_, append-nil, append-assoc}
 use native.Mathlib.Omega.{arith}
-use native.Mathlib.Nat.{mod-eq-of-lt, mod-lt, div-eq-of-lt, one-mul, mul-le-mul-left}
-use lib.ListN.{length, getD, set, replicate, length-append, length-replicate}
+use native.Mathlib.Nat.{mod-eq-of-lt, mod-lt, one-mul, mul-le-mul-left}
+use lib.ListN.{length, getD, set, length-append}
 use lib.Seq.{sets}
 use lib.Arith.{digits-lt}
 use lib.Count.{leadingZeros, leading-length}
@@ -15,14 +15,14 @@ use borrow.Author.Tests.{lt-ltb, le-ltb}
 use Rattle.rules.specs.Frame.{tabulate}
 use Rattle.rules.proofs.Cells.{all-get}
 use Rattle.writers.specs.declared.Pending.{Pending}
-use Rattle.writers.specs.Writer.{bits-of, fields-bits, run, padding, padded, word-bytes, words-bytes, bytes, smallest, lengths-for, length-for, block-bits}
-use Rattle.writers.specs.Pending.{joined, put-state, put-out, finished, Wrote}
+use Rattle.writers.specs.Writer.{bits-of, fields-bits, run, word-bytes, smallest, lengths-for, length-for, block-bits}
+use Rattle.writers.specs.Pending.{joined, put-state, put-out, Wrote}
 use Rattle.writers.specs.Weight.{weight, Short}
 use Rattle.writers.proofs.Ahead.{bits-low}
 use Rattle.writers.proofs.BitLists.{bits-length, bits-join}
 use Rattle.writers.proofs.BlockLength.{block-length-is}
 use Rattle.writers.proofs.Blocks.{opening-widths, opening, lengths-most}
-use Rattle.writers.proofs.PendingLaws.{put-law, put-wrote, wrote-none, wrote-both}
+use Rattle.writers.proofs.PendingLaws.{put-wrote, wrote-none, wrote-both}
 use Rattle.writers.proofs.Smallest.{smallest-most}
 use Rattle.writers.proofs.WeightLaws.{heaviest, weight-short, smallest-by-weight}
 use Rattle.pack.specs.Block.{numbers, number-bits, numbers-bits, opening-number, Shorts, Lengths}
@@ -81,52 +81,6 @@ put-full p n x v l e = rw (le-ltb (p .count + n) 32 l, e)
 pub out-full : (f f′ : List ℕ) (p : Pending) (n x v : ℕ) → 32 ≤ p .count + n → v ≡ joined p n x / 2 ^ (p .count + n - 32) % 2 ^ 32 → f′ ≡ sets f (p .pos) (word-bytes v) → f′ ≡ put-out f p n x
 unfolding put-out
 out-full f f′ p n x v l e k = k ∙ rw (le-ltb (p .count + n) 32 l, e)
-
--- ── Finishing ──
-
-zero-bits : (n : ℕ) → bits-of n 0 ≡ replicate n false
-unfolding bits-of
-zero-bits zero = refl
-zero-bits (suc n) = rw (div-eq-of-lt (pow-pos n), zero-bits n)
-
--- Where nothing waits, nothing is left to write.
-pub finished-none : (out : List ℕ) (p : Pending) → p .count ≡ 0 → finished out p [] ≡ out
-unfolding finished bits-of bytes padded words-bytes
-finished-none out p e = ap (λ n. sets out (p .pos) (bytes (padded 32 (bits-of n (p .word) ++ [])))) e
-
-padded-with : (bs : List Bool) (n : ℕ) → (32 - length bs % 32) % 32 ≡ n → padded 32 bs ≡ bs ++ replicate n false
-unfolding padded
-padded-with bs n e = ap (λ m. bs ++ replicate m false) e
-
--- Zero bits to the word's end are its padding.
-pub zeros-finish : (out : List ℕ) (p : Pending) (n : ℕ) → 0 < p .count → p .count + n ≡ 32 → finished out p (bits-of n 0 ++ []) ≡ finished out p []
-unfolding finished
-zeros-finish out p n some e =
-    ap (λ l. sets out (p .pos) (bytes l))
-    (ap (λ l. padded 32 (waiting ++ l)) (append-nil (bits-of n 0) ∙ zero-bits n) ∙ pads waiting n (rw bits-length some) (rw bits-length e) ∙ ap (padded 32) (sym (append-nil waiting)))
-  where
-    waiting : List Bool
-    waiting = bits-of (p .count) (p .word)
-
-    pads : (bs : List Bool) (n : ℕ) → 0 < length bs → length bs + n ≡ 32 → padded 32 (bs ++ replicate n false) ≡ padded 32 bs
-    pads bs n some e =
-        let a : length (bs ++ replicate n false) ≡ 32 = length-append bs (replicate n false) ∙ ap (λ m. length bs + m) (length-replicate n false) ∙ e in
-        let b : (32 - length bs % 32) % 32 ≡ n = omega arith in
-        padded-with (bs ++ replicate n false) 0 (rw a) ∙ append-nil (bs ++ replicate n false) ∙ sym (padded-with bs n b)
-
--- From p, with n zero bits to the word's end.
-pub finish-law : (f f′ : List ℕ) (p q : Pending) (n : ℕ) → p .count < 32 → 0 < p .count → n ≡ 32 - p .count → q ≡ put-state p n 0 → f′ ≡ put-out f p n 0
-    → (q .pos ≡ p .pos + 4 * ((p .count + 31) / 32)) × (f′ ≡ finished f p [])
-finish-law f f′ p q n small some e s o = (
-  omega (arith, ap (λ x. x .pos) full, ap (λ x. x .pos) s),
-  sym (finished-none f′ q (ap (λ x. x .count) s ∙ ap (λ x. x .count) full ∙ omega arith))
-      ∙ ap₂ (λ x y. finished x y []) o s
-      ∙ put-law f p n 0 [] small (omega arith)
-      ∙ zeros-finish f p n some (omega arith),
-)
-  where
-    full : put-state p n 0 ≡ record { pos = p .pos + 4; word = joined p n 0 % 2 ^ 32; count = p .count + n - 32 }
-    full = sym (put-full p n 0 (joined p n 0 % 2 ^ 32) (omega arith) refl)
 
 -- ── Lengths ──
 

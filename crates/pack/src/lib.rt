@@ -2,11 +2,12 @@
 ghost use mathlib.Core.Path.{_≡_};
 ghost use mathlib.Core.List.{[], _∷_, _++_};
 ghost use Prim.Native.Nat.{ℕ, _+_, _*_, _-_, _/_, _%_, _^_, _≤_, _<_, max};
-ghost use lib.ListN.{length, getD};
+ghost use mathlib.Core.Bool.{false};
+ghost use lib.ListN.{length, getD, replicate};
 ghost use lib.Seq.{sets};
-ghost use Rattle.writers.specs.Writer.{bits-of, word-bytes, smallest, lengths-for, block-bits};
+ghost use Rattle.writers.specs.Writer.{bits-of, gap, Unit, word-bytes, smallest, lengths-for, block-bits};
 ghost use Rattle.writers.specs.Weight.{weight, Short};
-ghost use Rattle.writers.specs.Pending.{joined, put-state, put-out, finished, Wrote};
+ghost use Rattle.writers.specs.Pending.{joined, put-state, put-out, Wrote};
 ghost use Rattle.pack.specs.Block.{numbers, numbers-bits, opening-number, Shorts, Lengths};
 pub use writers::Pending;
 
@@ -28,7 +29,7 @@ fn byte(x: u32) -> u8
 }
 
 // Stores a word's four bytes, lowest first.
-fn store(out: &mut [u8], at: usize, x: u32)
+pub fn store(out: &mut [u8], at: usize, x: u32)
     requires { ⌜ at + 4 ≤ length (now out) ⌝ }
     ensures { λ q. ⌜ now (out .exit) ≡ sets (now (out .entry)) at (word-bytes x) ⌝ }
 {
@@ -79,17 +80,28 @@ pub fn put(out: &mut [u8], p: Pending, n: u32, x: u32) -> Pending
     }
 }
 
-// Writes zero bits up to a whole word, and says where the next word stands.
-pub fn finish(out: &mut [u8], p: Pending) -> usize
-    requires { ⌜ (p .count < 32) × (p .pos + 4 * ((p .count + 31) / 32) ≤ length (now out)) ⌝ }
-    ensures { λ r. ⌜ (r ≡ p .pos + 4 * ((p .count + 31) / 32)) × (now (out .exit) ≡ finished (now (out .entry)) p []) ⌝ }
+// Writes zero bits up to a whole word.
+fn to_word(out: &mut [u8], p: Pending) -> Pending
+    requires { ⌜ (p .count < 32) × (8 * p .pos + p .count + gap 32 (p .count) ≤ 8 * length (now out)) ⌝ }
+    ensures { λ q. ⌜ (q .count ≡ 0) × Wrote (now (out .entry)) p (replicate (gap 32 (p .count)) false) (now (out .exit)) q ⌝ }
 {
     if p.count == 0 {
-        return p.pos;
+        return p;
     }
     let n = 32 - p.count;
-    let q = put(out, p, n, 0);
-    q.pos
+    put(out, p, n, 0)
+}
+
+// Writes zero bits up to a whole number of `unit` bytes.
+pub fn finish(out: &mut [u8], p: Pending, unit: usize) -> Pending
+    requires { ⌜ Unit unit × (p .count < 32) × (p .pos % 4 ≡ 0) × (8 * p .pos + p .count + gap (8 * unit) (8 * p .pos + p .count) ≤ 8 * length (now out)) ⌝ }
+    ensures { λ q. ⌜ (q .count ≡ 0) × Wrote (now (out .entry)) p (replicate (gap (8 * unit) (8 * p .pos + p .count)) false) (now (out .exit)) q ⌝ }
+{
+    let mut q = to_word(out, p);
+    while q.pos % unit != 0 {
+        q = put(out, q, 32, 0);
+    }
+    q
 }
 
 // ── Lengths ──

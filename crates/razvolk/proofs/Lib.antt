@@ -3,3 +3,4 @@ pub mod AtWork
 pub mod Isolation
 pub mod RoundTrip
 pub mod BlankedFrames
+pub mod Converted

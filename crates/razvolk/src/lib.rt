@@ -2,6 +2,7 @@
 // contract; every slice is a pointer and then a length in elements.
 pub mod blanks;
 pub mod colour;
+pub mod convert;
 pub mod direct;
 pub mod in_bands;
 pub mod reader;

@@ -53,6 +53,12 @@ impl Answer {
     // Blanking: a map byte above 3.
     pub const BAD_MAP: u32 = 14;
 
+    // V0 into V2: the width is not a multiple of 16.
+    pub const BAD_WIDTH: u32 = 15;
+
+    // V0 into V2: a sample of the decoded frame is marked.
+    pub const MARKED: u32 = 16;
+
     // Done, and so many words were missing.
     pub fn done_with(filler: u64) -> Answer
         ensures { λ r. ⌜ r ≡ done-with filler ⌝ }

@@ -10,41 +10,44 @@ use lib.Dec.{ltb, lit<}
 use borrow.Author.Tests.{ltb-true, ltb-false, lt-ltb, le-ltb}
 use Rattle.rules.specs.Frame.{cells}
 use Rattle.rules.specs.Answer.{too-large}
-use Rattle.rules.proofs.Cells.{All, nil, more, all-append, all-drop, all-get}
+use Rattle.rules.proofs.Cells.{All, nil, more, all-map, all-append, all-drop, all-get}
 use Rattle.rules.proofs.Tests.{neither}
-use Rattle.writers.specs.Calls.{Call, frame-of, stream-of, offsets-of, too-bright, short-output, write-refusal, unless-refused, stream-after, offsets-after}
+use Rattle.writers.specs.Calls.{Call, frame-of, stream-of, offsets-of, any-above, too-bright, short-output, write-refusal, unless-refused, stream-after, offsets-after}
 use Rattle.writers.proofs.Ahead.{Stream}
 use Rattle.writers.proofs.V0RoundTrip.{Holds, written-holds, stream-below}
 
 -- ── Tests that were passed ──
 
-pub not-bright : (f : List ℕ) → too-bright f ≡ false → All (λ a. a < 16_384) f
-unfolding too-bright
-not-bright [] e = nil
-not-bright (a ∷ f) e = let q = neither _ _ e in let l = ltb-false 16_383 a (q .0) in let l′ : a < 16_384 = omega arith in more l′ (not-bright f (q .1))
+pub none-above : (most : ℕ) (f : List ℕ) → any-above most f ≡ false → All (λ a. a ≤ most) f
+unfolding any-above
+none-above most [] e = nil
+none-above most (a ∷ f) e = let q = neither _ _ e in more (ltb-false most a (q .0)) (none-above most f (q .1))
 
--- The greatest sample before place i, and then those from there on: one step, and the end.
-pub bright-on : (f : List ℕ) (i most next : ℕ) → i < length f → next ≡ max most (getD f i 0)
-    → (ltb 16_383 most || too-bright (drop i f)) ≡ (ltb 16_383 next || too-bright (drop (i + 1) f))
-unfolding too-bright
-bright-on f i most next l e =
+pub not-bright : (f : List ℕ) → too-bright f ≡ false → All (λ a. a < 16_384) f
+not-bright f e = all-map (λ a. a ≤ 16_383) (λ a. a < 16_384) (λ a l. omega arith) (none-above 16_383 f e)
+
+-- The greatest number before place i, and then those from there on: one step, and the end.
+pub above-on : (most : ℕ) (f : List ℕ) (i top next : ℕ) → i < length f → next ≡ max top (getD f i 0)
+    → (ltb most top || any-above most (drop i f)) ≡ (ltb most next || any-above most (drop (i + 1) f))
+unfolding any-above
+above-on most f i top next l e =
     let one : i + 1 ≡ suc i = omega arith in
-    ap (λ l. ltb 16_383 most || too-bright l) (drop-cons f i 0 l ∙ ap (λ j. getD f i 0 ∷ drop j f) (sym one))
-    ∙ go (ltb 16_383 most) refl (ltb 16_383 (getD f i 0)) refl
-    ∙ ap (λ m. ltb 16_383 m || too-bright (drop (i + 1) f)) (sym e)
+    ap (λ l. ltb most top || any-above most l) (drop-cons f i 0 l ∙ ap (λ j. getD f i 0 ∷ drop j f) (sym one))
+    ∙ go (ltb most top) refl (ltb most (getD f i 0)) refl
+    ∙ ap (λ m. ltb most m || any-above most (drop (i + 1) f)) (sym e)
   where
     rest : Bool
-    rest = too-bright (drop (i + 1) f)
+    rest = any-above most (drop (i + 1) f)
 
-    go : (t : Bool) → ltb 16_383 most ≡ t → (u : Bool) → ltb 16_383 (getD f i 0) ≡ u
-        → (t || (u || rest)) ≡ (ltb 16_383 (max most (getD f i 0)) || rest)
-    go true p u q = rw (lt-ltb 16_383 (max most (getD f i 0)) (omega (arith, ltb-true 16_383 most p)))
-    go false p true q = rw (lt-ltb 16_383 (max most (getD f i 0)) (omega (arith, ltb-true 16_383 (getD f i 0) q)))
-    go false p false q = rw (le-ltb 16_383 (max most (getD f i 0)) (omega (arith, ltb-false 16_383 most p, ltb-false 16_383 (getD f i 0) q)))
+    go : (t : Bool) → ltb most top ≡ t → (u : Bool) → ltb most (getD f i 0) ≡ u
+        → (t || (u || rest)) ≡ (ltb most (max top (getD f i 0)) || rest)
+    go true p u q = rw (lt-ltb most (max top (getD f i 0)) (omega (arith, ltb-true most top p)))
+    go false p true q = rw (lt-ltb most (max top (getD f i 0)) (omega (arith, ltb-true most (getD f i 0) q)))
+    go false p false q = rw (le-ltb most (max top (getD f i 0)) (omega (arith, ltb-false most top p, ltb-false most (getD f i 0) q)))
 
-pub bright-gone : (f : List ℕ) (i most : ℕ) → length f ≤ i → (ltb 16_383 most || too-bright (drop i f)) ≡ ltb 16_383 most
-unfolding too-bright
-bright-gone f i most l = rw (drop-of-length-le f {i = i} l) (go (ltb 16_383 most))
+pub above-gone : (most : ℕ) (f : List ℕ) (i top : ℕ) → length f ≤ i → (ltb most top || any-above most (drop i f)) ≡ ltb most top
+unfolding any-above
+above-gone most f i top l = rw (drop-of-length-le f {i = i} l) (go (ltb most top))
   where
     go : (t : Bool) → (t || false) ≡ t
     go true = refl
@@ -87,7 +90,7 @@ passed c e =
 -- ── The round trip ──
 
 -- Bytes over a buffer of bytes are a stream.
-over-stream : (xs buffer : List ℕ) → All (λ b. b < 256) xs → All (λ b. b < 256) buffer → length xs ≤ length buffer → length buffer < 2 ^ 64
+pub over-stream : (xs buffer : List ℕ) → All (λ b. b < 256) xs → All (λ b. b < 256) buffer → length xs ≤ length buffer → length buffer < 2 ^ 64
     → Stream (xs ++ drop (length xs) buffer)
 over-stream xs buffer p q l h =
     record {

@@ -1,15 +1,20 @@
 -- What follows from the definitions: the worked examples; bits and the reader that finds them; blocks; the round trip; and what
 -- code needs.
 pub mod WrittenFrames
+pub mod V2Frames
 pub mod BitLists
 pub mod Ahead
 pub mod Packed
 pub mod Smallest
 pub mod Blocks
+pub mod Rows
 pub mod Exchange
 pub mod V0Seen
 pub mod V0Written
 pub mod V0RoundTrip
+pub mod V2Seen
+pub mod V2Written
+pub mod V2RoundTrip
 pub mod ExchangeAt
 pub mod WeightLaws
 pub mod BlockLength

@@ -24,76 +24,31 @@ use Rattle.rules.proofs.V0Cells.{apply-append, exchange-length, write-all-plain
 use Rattle.rules.proofs.V0NoMarks.{NoUpward}
 use Rattle.rules.proofs.Missing.{frame-none}
 use Rattle.rules.proofs.NoFiller.{v0-all-0}
-use Rattle.writers.specs.Writer.{padding, padded, bytes, block-bits, residual, blocks-bits, row-bytes, rows-bytes, offsets-from, stream-for, offsets-for}
+use Rattle.writers.specs.Writer.{padding, padded, bytes, Coding, Unit, word, blocks-bits, row-bytes, rows-bytes, offsets-from, residuals, stream-for, offsets-for}
 use Rattle.writers.proofs.Ahead.{Stream}
-use Rattle.writers.proofs.Blocks.{block-length}
 use Rattle.writers.proofs.Exchange.{exchange-twice, exchange-all}
-use Rattle.writers.proofs.Packed.{Found, bytes-found, bytes-length, bytes-below, padded-length}
+use Rattle.writers.proofs.Packed.{Found, bytes-found, padded-length}
+use Rattle.writers.proofs.Rows.{rows-below, offsets-length, row-fourth, rows-most, offsets-most}
 use Rattle.writers.proofs.V0Written.{WrittenBlock, SeesBlocks, sees-blocks}
 
 -- ── How long a stream gets ──
 
-module _ (w : ℕ) (f : List ℕ) where
-  pub blocks-length : (row n col : ℕ) → length (blocks-bits w f row n col) ≤ 265 * n
-  unfolding blocks-bits
-  blocks-length row zero col = omega arith
-  blocks-length row (suc n) col =
-      let d : ℕ → ℕ = λ k. residual w f row col (getD order k 0) in
-      omega (arith, length-append (block-bits d) (blocks-bits w f row n (col + 16)), block-length d, blocks-length row n (col + 16))
-
-  pub row-is : (row : ℕ) → length (row-bytes w f row) ≡ 4 * ((length (blocks-bits w f row (blocks-in w) 0) + 31) / 32)
-  unfolding row-bytes
-  row-is row =
-      let bs = blocks-bits w f row (blocks-in w) 0 in
-      let e = padded-length 32 bs in
-      bytes-length (padded 32 bs) ∙ omega arith
-
-  row-whole : (row : ℕ) → length (row-bytes w f row) % 4 ≡ 0
-  row-whole row = omega (arith, row-is row)
-
-  rows-below : (n row : ℕ) → All (λ b. b < 256) (rows-bytes w f n row)
-  unfolding rows-bytes row-bytes
-  rows-below zero row = nil
-  rows-below (suc n) row = all-append (λ b. b < 256) (bytes-below (padded 32 (blocks-bits w f row (blocks-in w) 0))) (rows-below n (suc row))
-
-  pub offsets-length : (n row at : ℕ) → length (offsets-from w f n row at) ≡ n
-  unfolding offsets-from
-  offsets-length zero row at = refl
-  offsets-length (suc n) row at = ap suc (offsets-length n (suc row) (at + length (row-bytes w f row)))
-
-  module _ (wide : w ≤ 16_384) where
-    -- A row takes at most 33,920 bytes.
-    pub row-most : (row : ℕ) → length (row-bytes w f row) ≤ 33_920
-    row-most row = omega (arith, row-is row, blocks-length row (blocks-in w) 0)
-
-    pub rows-most : (n row : ℕ) → length (rows-bytes w f n row) ≤ 33_920 * n
-    unfolding rows-bytes
-    rows-most zero row = omega arith
-    rows-most (suc n) row = omega (arith, length-append (row-bytes w f row) (rows-bytes w f n (suc row)), row-most row, rows-most n (suc row))
-
-    offsets-most : (n row at m : ℕ) → at + 33_920 * n ≤ m → All (λ o. o ≤ m) (offsets-from w f n row at)
-    unfolding offsets-from
-    offsets-most zero row at m l = nil
-    offsets-most (suc n) row at m l =
-        let a : at ≤ m = omega arith in
-        more a (offsets-most n (suc row) (at + length (row-bytes w f row)) m (omega (arith, row-most row)))
-
 -- A stream is bytes.
 pub stream-below : (z : Size) (f : List ℕ) → All (λ b. b < 256) (stream-for z f)
 unfolding stream-for
-stream-below z f = rows-below (z .width) (exchange sample-kind z f) (z .height) 0
+stream-below z f = rows-below (residuals (z .width) (exchange sample-kind z f)) (z .height) 0
 
 module _ (z : Size) (f : List ℕ) (wide : z .width ≤ 16_384) (high : z .height ≤ 16_384) where
   pub stream-most : length (stream-for z f) ≤ 555_745_280
   unfolding stream-for
-  stream-most = omega (arith, rows-most (z .width) (exchange sample-kind z f) wide (z .height) 0)
+  stream-most = omega (arith, rows-most (residuals (z .width) (exchange sample-kind z f)) word wide (z .height) 0)
 
   -- Every offset fits 32 bits.
   pub offsets-below : All (λ o. o < 2 ^ 32) (offsets-for z f)
   unfolding offsets-for
   offsets-below =
       all-map (λ o. o ≤ 555_745_280) (λ o. o < 2 ^ 32) (λ o l. omega arith)
-      (offsets-most (z .width) (exchange sample-kind z f) wide (z .height) 0 0 555_745_280 (omega arith))
+      (offsets-most (residuals (z .width) (exchange sample-kind z f)) word wide (z .height) 0 0 555_745_280 (omega arith))
 
   pub stream-bytes : Stream (stream-for z f)
   stream-bytes = record { bytes = λ i. all-get (λ b. b < 256) (stream-below z f) i 0 (lit< tt); fewer = omega (arith, stream-most) }
@@ -101,29 +56,29 @@ module _ (z : Size) (f : List ℕ) (wide : z .width ≤ 16_384) (high : z .heigh
 -- ── Where each row stands ──
 
 -- Row k of n from a row on: what stands before it and after it, and its offset.
-record Placed (w : ℕ) (f : List ℕ) (n row at k : ℕ) : Type 0 where
+record Placed (x : Coding) (n row at k : ℕ) : Type 0 where
   before : List ℕ
   after : List ℕ
-  stream-is : rows-bytes w f n row ≡ before ++ (row-bytes w f (row + k) ++ after)
-  offset-is : getD (offsets-from w f n row at) k 0 ≡ at + length before
+  stream-is : rows-bytes x n row ≡ before ++ (row-bytes x (row + k) ++ after)
+  offset-is : getD (offsets-from x n row at) k 0 ≡ at + length before
   whole : length before % 4 ≡ 0
 
-placed : (w : ℕ) (f : List ℕ) (n row at k : ℕ) → k < n → Placed w f n row at k
+placed : (x : Coding) → Unit (x .unit) → (n row at k : ℕ) → k < n → Placed x n row at k
 unfolding rows-bytes offsets-from
-placed w f zero row at k l = absurd (omega arith)
-placed w f (suc n) row at zero l =
+placed x u zero row at k l = absurd (omega arith)
+placed x u (suc n) row at zero l =
     let e : row + 0 ≡ row = omega arith in
-    record { before = []; after = rows-bytes w f n (suc row); stream-is = rw e; offset-is = omega arith; whole = refl }
-placed w f (suc n) row at (suc k) l =
-    let p = placed w f n (suc row) (at + length (row-bytes w f row)) k (omega arith) in
+    record { before = []; after = rows-bytes x n (suc row); stream-is = rw e; offset-is = omega arith; whole = refl }
+placed x u (suc n) row at (suc k) l =
+    let p = placed x u n (suc row) (at + length (row-bytes x row)) k (omega arith) in
     let e : row + suc k ≡ suc row + k = omega arith in
-    let e′ = length-append (row-bytes w f row) (p .before) in
+    let e′ = length-append (row-bytes x row) (p .before) in
     record {
-      before = row-bytes w f row ++ p .before;
+      before = row-bytes x row ++ p .before;
       after = p .after;
-      stream-is = rw e (ap (λ l. row-bytes w f row ++ l) (p .stream-is) ∙ sym (append-assoc (row-bytes w f row) (p .before) (row-bytes w f (suc row + k) ++ p .after)));
+      stream-is = rw e (ap (λ l. row-bytes x row ++ l) (p .stream-is) ∙ sym (append-assoc (row-bytes x row) (p .before) (row-bytes x (suc row + k) ++ p .after)));
       offset-is = p .offset-is ∙ omega arith;
-      whole = omega (arith, e′, row-whole w f row, p .whole);
+      whole = omega (arith, e′, row-fourth x u row, p .whole);
     }
 
 -- ── Rows ──
@@ -137,7 +92,7 @@ unfolding fresh-row
 fresh-bits row offset = refl
 
 module _ (s offsets : List ℕ) (st : Stream s) (w h : ℕ) (g : List ℕ) (small : All (λ a. a < 16_384) g) (long : length g ≡ w * h)
-    (found : (row : ℕ) → row < h → Found s (getD offsets row 0) (blocks-bits w g row (blocks-in w) 0)) where
+    (found : (row : ℕ) → row < h → Found s (getD offsets row 0) (blocks-bits (residuals w g) row (blocks-in w) 0)) where
   abbrev size : Size
   size = record { width = w; height = h }
 
@@ -209,16 +164,16 @@ module _ (z : Size) (f : List ℕ) (e : length f ≡ cells z) (small : All (λ a
     unfolding padded
     cut bs t i F = record { rest = padding 32 bs ++ F .rest; sees = rw (← append-assoc bs (padding 32 bs) (F .rest)) (F .sees) }
 
-    found : (row : ℕ) → row < z .height → Found s (getD o row 0) (blocks-bits (z .width) g row (blocks-in (z .width)) 0)
+    found : (row : ℕ) → row < z .height → Found s (getD o row 0) (blocks-bits (residuals (z .width) g) row (blocks-in (z .width)) 0)
     unfolding stream-for offsets-for row-bytes
     found row l =
         let w = z .width in
-        let bs = blocks-bits w g row (blocks-in w) 0 in
-        let p = placed w g (z .height) 0 0 row l in
+        let bs = blocks-bits (residuals w g) row (blocks-in w) 0 in
+        let p = placed (residuals w g) word (z .height) 0 0 row l in
         let at : getD o row 0 ≡ length (p .before)
-        = List·getD-append (offsets-from w g (z .height) 0 0) others 0 row (rw (offsets-length w g (z .height) 0 0) l) ∙ p .offset-is ∙ zero-add (length (p .before)) in
+        = List·getD-append (offsets-from (residuals w g) (z .height) 0 0) others 0 row (rw (offsets-length (residuals w g) (z .height) 0 0) l) ∙ p .offset-is ∙ zero-add (length (p .before)) in
         let is : s ≡ p .before ++ (bytes (padded 32 bs) ++ (p .after ++ post))
-        = ap (λ l. l ++ post) (rw (zero-add row) at (p .stream-is)) ∙ regroup (p .before) (row-bytes w g row) (p .after) post in
+        = ap (λ l. l ++ post) (rw (zero-add row) at (p .stream-is)) ∙ regroup (p .before) (row-bytes (residuals w g) row) (p .after) post in
         let words : length (padded 32 bs) % 32 ≡ 0 = let q = padded-length 32 bs in omega arith in
         subst₂ (λ t i. Found t i bs) (sym is) (sym at)
         (cut bs _ _ (bytes-found (padded 32 bs) (p .before) (p .after ++ post) words (p .whole)))

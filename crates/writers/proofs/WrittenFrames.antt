@@ -10,5 +10,5 @@ use Rattle.writers.specs.Calls as Calls
 use Rattle.writers.specs.WrittenFrames.{defined, examples}
 
 pub examples-hold : map defined examples ≡ examples
-unfolding examples Reader.signed Reader.modulo Frame.tabulate V0.swap V0.exchange-columns V0.exchange-rows V0.exchange Answer.too-large Writer.bits-of Writer.number-of Writer.fields-bits Writer.run Writer.padded Writer.words-bytes Writer.bytes Writer.holds Writer.holds-all Writer.first-from Writer.smallest Writer.predicted Writer.residual Writer.lengths-for Writer.length-for Writer.block-bits Writer.blocks-bits Writer.row-bytes Writer.rows-bytes Writer.offsets-from Writer.stream-for Writer.offsets-for Calls.too-bright Calls.short-output Calls.write-refusal Calls.write-answer Calls.unless-refused Calls.stream-after Calls.offsets-after
+unfolding examples Reader.signed Reader.modulo Frame.tabulate V0.swap V0.exchange-columns V0.exchange-rows V0.exchange Answer.too-large Writer.bits-of Writer.number-of Writer.fields-bits Writer.run Writer.padded Writer.words-bytes Writer.bytes Writer.holds Writer.holds-all Writer.first-from Writer.smallest Writer.predicted Writer.residual Writer.lengths-for Writer.length-for Writer.block-bits Writer.blocks-bits Writer.row-bytes Writer.rows-bytes Writer.offsets-from Writer.stream-for Writer.offsets-for Calls.any-above Calls.short-output Calls.write-refusal Calls.write-answer Calls.unless-refused Calls.stream-after Calls.offsets-after
 examples-hold = refl

@@ -35,10 +35,14 @@ offsets-of c = offsets-for (c .size) (frame-of c)
 
 -- ── Refusals ──
 
+-- Whether a number of a list is above a bound.
+unfoldable pub any-above : ℕ → List ℕ → Bool
+any-above most [] = false
+any-above most (a ∷ f) = ltb most a || any-above most f
+
 -- 9: a sample is above 16,383.
-unfoldable pub too-bright : List ℕ → Bool
-too-bright [] = false
-too-bright (a ∷ f) = ltb 16_383 a || too-bright f
+abbrev pub too-bright : List ℕ → Bool
+too-bright f = any-above 16_383 f
 
 -- 10: the stream or the offsets do not fit their buffer.
 unfoldable pub short-output : Call → Bool

@@ -2,6 +2,7 @@
 //! itself under it, once with a contender and once without.
 
 use crate::contenders::{self, Buffers};
+use crate::converters::Converted;
 use crate::measure::Contender;
 use crate::writers::Written;
 use std::env;
@@ -12,20 +13,23 @@ use streams::{Frame, v0, v2};
 const V0: (usize, usize) = (1_000, 400);
 const V2: (usize, usize) = (992, 440);
 
-/// How what is worked on is made: a frame that is decoded, or an image of V0's size that is written.
+/// How what is worked on is made: a frame that is decoded, an image of V0's size that is written, or one of V2's that is turned from
+/// V0 into V2.
 #[derive(Clone, Copy)]
 enum Make {
     Frame(fn() -> Frame),
     Image(fn() -> Vec<u16>),
+    Converted(fn() -> Vec<u16>),
 }
 
 /// What instructions are counted on: small, since a program runs some fifty times as long under valgrind.
-const FRAMES: [(&str, Make); 5] = [
+const FRAMES: [(&str, Make); 6] = [
     ("V0, like a photograph", Make::Frame(|| v0::encode(&photo(V0.0, V0.1, 16.0, 1), V0.0, V0.1))),
     ("V0, noisy", Make::Frame(|| v0::encode(&photo(V0.0, V0.1, 260.0, 1), V0.0, V0.1))),
     ("V0, lengths to 32 bits", Make::Frame(|| v0::hostile::long_lengths(V0.0, V0.1))),
     ("V2, like a photograph", Make::Frame(|| v2::encode(&photo(V2.0, V2.1, 90.0, 2), V2.0, V2.1))),
     ("V0 written, like a photograph", Make::Image(|| photo(V0.0, V0.1, 16.0, 1))),
+    ("into V2, like a photograph", Make::Converted(|| photo(V2.0, V2.1, 16.0, 1))),
 ];
 
 /// Makes a frame, and hands on who works on it and how many samples it has.
@@ -39,6 +43,10 @@ fn on(make: Make, then: impl FnOnce(&mut [Contender], usize)) {
         Make::Image(image) => {
             let written = Written::new(image(), V0.0, V0.1);
             then(&mut written.contenders(), written.frame.samples());
+        }
+        Make::Converted(image) => {
+            let converted = Converted::new(image(), V2.0, V2.1);
+            then(&mut converted.contenders(), converted.frame.samples());
         }
     }
 }

@@ -2,6 +2,7 @@
 
 pub mod blank;
 pub mod contenders;
+pub mod converters;
 pub mod count;
 pub mod measure;
 pub mod planes;

@@ -1,8 +1,9 @@
-//! `bench [V0 | V2 | planes | write | blank] [RUNS [PART]]`: Razvolk and the Rust in turn on the same frames, in one process, the best of
+//! `bench [V0 | V2 | planes | write | blank | into] [RUNS [PART]]`: Razvolk and the Rust in turn on the same frames, in one process, the best of
 //! RUNS runs each (20); then the instructions that they take, where valgrind is installed. PART divides each side of the frames, for
 //! a quick look; a name leaves out the others.
 
 use bench::contenders::{self, Buffers, alike};
+use bench::converters::Converted;
 use bench::count;
 use bench::measure::{best, print};
 use bench::writers::Written;
@@ -12,14 +13,20 @@ use streams::random::Random;
 use streams::v0::hostile;
 use streams::{Frame, Version, v0, v2};
 
-const USAGE: &str = "usage: bench [V0 | V2 | planes | write | blank] [RUNS [PART]]";
+const USAGE: &str = "usage: bench [V0 | V2 | planes | write | blank | into] [RUNS [PART]]";
 
 /// Times some frames, with so many runs, their sides divided by a number.
 type Time = fn(usize, usize);
 
 /// What is timed, by name.
-const TIMED: [(&str, Time); 5] =
-    [("V0", time_v0), ("V2", time_v2), ("planes", time_planes), ("write", time_writers), ("blank", time_blanking)];
+const TIMED: [(&str, Time); 6] = [
+    ("V0", time_v0),
+    ("V2", time_v2),
+    ("planes", time_planes),
+    ("write", time_writers),
+    ("blank", time_blanking),
+    ("into", time_converters),
+];
 
 fn main() {
     let mut words = std::env::args().skip(1).peekable();
@@ -49,7 +56,7 @@ fn tell_how(runs: usize) {
     );
     println!(
         "ratio: time divided by the Rust's, decode_v0_reference for direct and for writers, decode_v0_with(.., false) for \
-         two-phase; of decode_v0_bands, with 8 bands and blocks of 256 columns, by decode_v0's"
+         two-phase, decode_v0_reference and decode_v2 together for v0_to_v2; of decode_v0_bands, with 8 bands and blocks of 256 columns, by decode_v0's"
     );
 }
 
@@ -99,6 +106,20 @@ fn time_written(name: &str, (width, height): (usize, usize), noise: f64, runs: u
     written.check(&mut contenders);
     let best = best(&mut contenders, runs);
     print(&heading(name, &written.frame), Some(written.frame.samples()), &contenders, &best);
+}
+
+fn time_converters(runs: usize, part: usize) {
+    for part in [part, 2 * part] {
+        let (width, height) = (V0.0 / part / 16 * 16, V0.1 / part);
+        if width >= 646 && height >= 436 {
+            let converted = Converted::new(photo(width, height, 16.0, 1), width, height);
+            let mut contenders = converted.contenders();
+            converted.check(&mut contenders);
+            let best = best(&mut contenders, runs);
+            let name = heading("into V2, like a photograph", &converted.frame);
+            print(&name, Some(converted.frame.samples()), &contenders, &best);
+        }
+    }
 }
 
 fn time(name: &str, frame: &Frame, runs: usize) {

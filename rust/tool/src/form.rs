@@ -1,8 +1,9 @@
 //! What a frame is written as.
 
 use crate::planes::side_by_side;
-use crate::{pgm, png, v0};
+use crate::{pgm, png, v0, v2};
 use razvolk::Marks;
+use razvolk::srw::Frame;
 
 /// The forms of an output.
 #[derive(Clone, Copy, Debug, PartialEq, Eq)]
@@ -15,9 +16,16 @@ pub enum Form {
     Planes,
     /// The samples as V0, to be decoded again.
     V0,
+    /// A V0 frame as V2, to be decoded again.
+    V2,
 }
 
 impl Form {
+    /// Whether it stores the frame, to be decoded again: a refused one would pass for a whole one.
+    pub fn is_stored(self) -> bool {
+        matches!(self, Form::V0 | Form::V2)
+    }
+
     /// How the name of such an output ends in a folder, after the name of its frame.
     pub fn ending(self) -> &'static str {
         match self {
@@ -25,6 +33,7 @@ impl Form {
             Form::Png => ".png",
             Form::Planes => "-planes.png",
             Form::V0 => "-v0.srw",
+            Form::V2 => "-v2.srw",
         }
     }
 }
@@ -43,6 +52,8 @@ pub struct Picture {
 /// A decoded frame.
 #[derive(Clone, Copy)]
 pub struct Decoded<'a> {
+    /// The frame as it is coded.
+    pub coded: &'a Frame<'a>,
     pub samples: &'a [u16],
     pub marks: Marks<'a>,
     /// Whether the marked samples are blanked: there is nothing to show of them then.
@@ -59,7 +70,7 @@ pub struct Decoded<'a> {
 pub fn file(form: Form, frame: Decoded, picture: Picture) -> Result<Vec<u8>, String> {
     let Decoded { samples, marks, blanked, width, .. } = frame;
     let tinted = || if blanked { vec![0; samples.len()] } else { marks.bytes().to_vec() };
-    if form != Form::V0 && samples.is_empty() {
+    if !form.is_stored() && samples.is_empty() {
         return Err("a frame of no samples makes no picture".into());
     }
     Ok(match form {
@@ -71,5 +82,6 @@ pub fn file(form: Form, frame: Decoded, picture: Picture) -> Result<Vec<u8>, Str
             png::file(&side_by_side(samples, width), &marks, 2 * width, picture)
         }
         Form::V0 => v0::file(frame).map_err(|refusal| format!("can't be written as V0: {refusal}"))?,
+        Form::V2 => v2::file(frame)?,
     })
 }

@@ -23,7 +23,7 @@ impl<'a> Look<'a> {
     /// blanked, with a stated fill or none, nothing of what the buffer held before is left in it.
     pub fn at(
         worker: &'a mut Worker,
-        frame: &Frame<'a>,
+        frame: &'a Frame<'a>,
         over: Option<&Frame>,
         blank: Option<Option<u16>>,
     ) -> Result<Look<'a>, String> {
@@ -34,6 +34,7 @@ impl<'a> Look<'a> {
         let depth = frame.v2_header().map(|header| header.depth).or(frame.bits);
         let &Frame { width, height, model, missing, .. } = frame;
         let decoded = worker.frame().map(|(samples, marks)| Decoded {
+            coded: frame,
             samples,
             marks,
             blanked: blank.is_some(),

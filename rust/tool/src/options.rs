@@ -30,6 +30,8 @@ usage: razvolk [OPTIONS] FILE.srw|FOLDER|- ...
   --planes FILE    such a picture of the four colour planes, side by side: even rows and even columns, even and odd, odd and
                    even, odd and odd
   --write-v0 FILE  the samples as V0, none above 16,383, in a file that this tool reads again
+  --to-v2 FILE     a V0 frame as V2, of a width that is a multiple of 16, with no sample marked or above 16,383, in a file that
+                   this tool reads again
   --force          replace files of these names; a file that is read is never written over
 
  pictures:
@@ -67,6 +69,7 @@ pub struct Options {
     pub png: Option<PathBuf>,
     pub planes: Option<PathBuf>,
     pub write_v0: Option<PathBuf>,
+    pub to_v2: Option<PathBuf>,
     pub force: bool,
     pub picture: Picture,
     pub json: bool,
@@ -81,8 +84,13 @@ impl Options {
 
     /// What is to be written, and where: a file, or a folder.
     pub fn outputs(&self) -> Vec<(Form, &Path)> {
-        let all =
-            [(Form::Pgm, &self.pgm), (Form::Png, &self.png), (Form::Planes, &self.planes), (Form::V0, &self.write_v0)];
+        let all = [
+            (Form::Pgm, &self.pgm),
+            (Form::Png, &self.png),
+            (Form::Planes, &self.planes),
+            (Form::V0, &self.write_v0),
+            (Form::V2, &self.to_v2),
+        ];
         all.into_iter().filter_map(|(form, path)| Some((form, path.as_deref()?))).collect()
     }
 }
@@ -128,6 +136,7 @@ pub fn read(words: impl IntoIterator<Item = OsString>) -> Result<Asked, String> 
             "--png" => once(&name, &mut options.png, value()?.into())?,
             "--planes" => once(&name, &mut options.planes, value()?.into())?,
             "--write-v0" => once(&name, &mut options.write_v0, value()?.into())?,
+            "--to-v2" => once(&name, &mut options.to_v2, value()?.into())?,
             "--white" => once(&name, &mut options.picture.white, number(&value()?, "number up to 65535")?)?,
             "--jobs" => {
                 let jobs: u8 = number(&value()?, "number of workers, 1 to 255")?;
@@ -214,12 +223,13 @@ mod tests {
             png: Some("e=f".into()),
             planes: Some("g".into()),
             write_v0: Some("h".into()),
+            to_v2: Some("i".into()),
             force: true,
             picture: Picture { white: Some(4_095), linear: true, half: true },
             json: true,
             jobs: Some(3),
         };
-        let line = "--over=c.srw --blank 512 a.srw --force --pgm d --png=e=f b=.srw --planes g --write-v0 h - --white 4095 --json \
+        let line = "--over=c.srw --blank 512 a.srw --force --pgm d --png=e=f b=.srw --planes g --write-v0 h --to-v2 i - --white 4095 --json \
             --linear --half --jobs 3";
         assert_eq!(asked(line), Ok(Asked::Look(options.into())));
         let blank = |blank| Ok(Asked::Look(Options { files: vec!["a".into()], blank, ..Options::default() }.into()));

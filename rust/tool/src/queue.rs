@@ -163,9 +163,11 @@ fn decode(worker: &mut Worker, job: &Job, shared: &Shared, text: &mut String) ->
             *text += &format!("over {}\n{}\n", report::heading(name, over), report::answer(answer));
         }
         *text += &look.text(&file.name(), &frame);
-        let stored = job.outputs.iter().filter(|(form, _)| *form == Form::V0);
-        stored.for_each(|(_, place)| {
-            *text += &report::stored(place.name(), look.answer, marks.filter(|_| look.blanked.is_none()))
+        let stored = job.outputs.iter().filter(|(form, _)| form.is_stored());
+        stored.for_each(|(form, place)| {
+            // As V2 a frame with marks is refused, and of a blanked one nothing old is left.
+            let told = marks.filter(|_| *form == Form::V0 && look.blanked.is_none());
+            *text += &report::stored(place.name(), look.answer, told);
         });
     }
     write(job, &look, options)?;
@@ -179,8 +181,8 @@ fn write(job: &Job, look: &Look, options: &Options) -> Result<(), String> {
         let bytes = form::file(*form, decoded, options.picture).map_err(|what| place.fault(what))?;
         place.stage(&bytes)
     };
-    // A picture shows what there is of a refused frame; stored as V0 it would pass for a whole one.
-    let written = job.outputs.iter().filter(|(form, _)| *form != Form::V0 || look.answer.is_ok());
+    // A picture shows what there is of a refused frame; stored it would pass for a whole one.
+    let written = job.outputs.iter().filter(|(form, _)| !form.is_stored() || look.answer.is_ok());
     let staged = written.map(stage).collect::<Result<Vec<Staged>, String>>()?;
     staged.into_iter().try_for_each(Staged::put)
 }

@@ -108,7 +108,7 @@ pub fn blanked(runs: &[Run], fill: Option<u16>) -> String {
     text
 }
 
-/// What is to be known of a frame that is to be written as V0: one that was refused isn't, and marks are not stored.
+/// What is to be known of a frame that is to be stored: one that was refused isn't, and marks are not stored.
 pub fn stored(path: &Path, answer: Result<(), Refusal>, marks: Option<Marks>) -> String {
     let path = shown(path);
     match (answer, marks.map_or(0, Marks::count)) {

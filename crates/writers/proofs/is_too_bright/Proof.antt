@@ -7,7 +7,7 @@ use lib.Dec.{ltb}
 use lib.ListN.{length, drop}
 use borrow.Author.Needs.{needs}
 use Rattle.writers.specs.Calls.{too-bright}
-use Rattle.writers.proofs.CallLaws.{bright-on, bright-gone}
+use Rattle.writers.proofs.CallLaws.{above-on, above-gone}
 use Rattle.writers.proofs.is_too_bright.Statement.{statement}
 use Rattle.writers.proofs.is_too_bright.Tie as tie
 
@@ -39,13 +39,13 @@ loop-again : tie.Need-loop-again Inv-loop μ-loop
 loop-again c =
     let l = c .before .before .before .loop in
     let f = c .before .before .before .before .before .args .samples .now in
-    (omega arith, l .inv .1 ∙ bright-on f (l .i) (l .most) (c .brighter .result) (omega arith) (c .brighter .ensures))
+    (omega arith, l .inv .1 ∙ above-on 16_383 f (l .i) (l .most) (c .brighter .result) (omega arith) (c .brighter .ensures))
 
 returns : tie.Need-returns Inv-loop μ-loop
 returns c =
     let l = c .before .loop in
     let f = c .before .before .before .args .samples .now in
-    sym (l .inv .1 ∙ bright-gone f (l .i) (l .most) (omega arith))
+    sym (l .inv .1 ∙ above-gone 16_383 f (l .i) (l .most) (omega arith))
 
 pub is-too-bright-spec : {M : Type 1} → statement M
 is-too-bright-spec =

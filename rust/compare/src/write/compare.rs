@@ -64,7 +64,7 @@ fn size(random: &mut Random, i: u64) -> (usize, usize) {
 }
 
 /// Samples of 0 to 16,383: smooth ones with noise, random, extreme, about one value, and steps whose sizes lie about powers of 2.
-fn frame(random: &mut Random, width: usize, height: usize) -> Vec<u16> {
+pub fn frame(random: &mut Random, width: usize, height: usize) -> Vec<u16> {
     let n = width * height;
     let low = |random: &mut Random, n, bits: u32| -> Vec<u16> {
         random.samples(n).into_iter().map(|sample| sample >> (16 - bits)).collect()

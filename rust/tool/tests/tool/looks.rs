@@ -90,6 +90,27 @@ fn a_frame_written_as_v0_is_read_again() {
 }
 
 #[test]
+fn a_v0_frame_written_as_v2_is_read_again() {
+    let folder = Folder::new("to_v2");
+    folder.put("a.srw", srw(&v0::encode(&sitting(656, 436), 656, 436)));
+    let (status, _, fault) = folder.run("a.srw --pgm first.pgm --to-v2 b.srw");
+    assert_eq!((status, fault.as_str()), (0, ""));
+    let (status, text, fault) = folder.run("b.srw --pgm again.pgm");
+    assert_eq!((status, fault.as_str()), (0, ""));
+    assert!(text.starts_with("b.srw: V2, 656 by 436, "), "{text}");
+    let samples = |name| folder.get(name).expect("a file").split_off(15);
+    assert!(samples("first.pgm").ends_with(&samples("again.pgm")[9..]), "the samples are the same");
+
+    let (status, _, fault) = folder.run("b.srw --to-v2 c.srw");
+    assert_eq!((status, fault.as_str()), (2, "razvolk: c.srw: is V2 already\n"));
+    folder.put("odd.srw", srw(&v0::encode(&sitting(655, 436), 655, 436)));
+    let (status, _, fault) = folder.run("odd.srw --to-v2 c.srw");
+    let said = "razvolk: c.srw: can't be written as V2: the width is no multiple of 16\n";
+    assert_eq!((status, fault.as_str()), (2, said));
+    assert!(folder.get("c.srw").is_none());
+}
+
+#[test]
 fn a_frame_of_no_samples_is_written_as_v0() {
     let folder = Folder::new("stored_none");
     folder.put("none", []);

@@ -70,7 +70,7 @@ fn an_input_is_never_written_over() {
     symlink("link", folder.0.join("link to a link")).expect("a link");
     fs::hard_link(&own, folder.0.join("second")).expect("a second name");
     for name in ["a.srw", "./a.srw", &own.display().to_string(), "link", "second"] {
-        for output in ["--pgm", "--png", "--planes", "--write-v0"] {
+        for output in ["--pgm", "--png", "--planes", "--write-v0", "--to-v2"] {
             let fault = format!("{name}: {READ}");
             refused(&folder, &format!("a.srw {output} {name}"), &fault);
             refused(&folder, &format!("a.srw {output} {name} --force"), &fault);

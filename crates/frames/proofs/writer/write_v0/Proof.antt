@@ -5,7 +5,7 @@ use denote.Ref.{now}
 use borrow.Author.Needs.{needs}
 use lib.Seq.{length-take-le}
 use Rattle.refusals.proofs.RefusalLaws.{cells-most, room}
-use Rattle.frames.proofs.WriterLaws.{writable, early-yields, bright-yields, short-yields, stream-room, table-room, done-yields}
+use Rattle.frames.proofs.WriterLaws.{writable, early-yields, bright-yields, short-yields, stream-room, done-yields}
 use Rattle.frames.proofs.writer.write_v0.Statement.{statement}
 use Rattle.frames.proofs.writer.write_v0.Tie as tie
 
@@ -33,11 +33,11 @@ refused-requires-2 c κs = search needs
 returns-2 : tie.Need-returns-2
 returns-2 c = let a = c .before .before .before .before .before .before .before .before .before .args in bright-yields (now (a .samples)) (a .width) (a .height) (now (a .stream)) (now (a .offsets)) _ (c .before .before .before .before .before .refuse .ensures) (c .before .before .before .before .if1 .left) _ (c .before .before .is-too-bright .ensures) _ (c .before .if2 .taken) (c .refused2 .ensures)
 
-slice-aggregate-stream-length : tie.Need-slice-aggregate-stream-length
-slice-aggregate-stream-length c = sym (length-take-le _ _ (room _ _ _ _ _ _ _ (c .before .before .before .before .before .refuse .ensures) (c .before .before .before .before .if1 .left) .samples-enough))
+slice-aggregate-v0-length : tie.Need-slice-aggregate-v0-length
+slice-aggregate-v0-length c = sym (length-take-le _ _ (room _ _ _ _ _ _ _ (c .before .before .before .before .before .refuse .ensures) (c .before .before .before .before .if1 .left) .samples-enough))
 
-stream-length-requires : tie.Need-stream-length-requires
-stream-length-requires c κs = let a = c .before .before .before .before .before .before .before .before .before .args in writable (a .width) (a .height) (now (a .samples)) _ _ (c .before .before .before .before .before .refuse .ensures) (c .before .before .before .before .if1 .left) (c .before .before .is-too-bright .ensures) (c .before .if2 .left)
+v0-length-requires : tie.Need-v0-length-requires
+v0-length-requires c κs = let a = c .before .before .before .before .before .before .before .before .before .args in writable (a .width) (a .height) (now (a .samples)) _ _ (c .before .before .before .before .before .refuse .ensures) (c .before .before .before .before .if1 .left) (c .before .before .is-too-bright .ensures) (c .before .if2 .left)
 
 is-short-requires : tie.Need-is-short-requires
 is-short-requires c κs = search needs
@@ -46,13 +46,13 @@ refused-requires-3 : tie.Need-refused-requires-3
 refused-requires-3 c κs = search needs
 
 returns-3 : tie.Need-returns-3
-returns-3 c = let a = c .before .before .before .before .before .before .before .before .before .before .before .before .before .args in short-yields (now (a .samples)) (a .width) (a .height) (now (a .stream)) (now (a .offsets)) _ (c .before .before .before .before .before .before .before .before .before .refuse .ensures) (c .before .before .before .before .before .before .before .before .if1 .left) _ (c .before .before .before .before .before .before .is-too-bright .ensures) (c .before .before .before .before .before .if2 .left) _ (c .before .before .before .stream-length .ensures) _ (c .before .before .is-short .ensures) _ (c .before .if3 .taken) (c .refused3 .ensures)
+returns-3 c = let a = c .before .before .before .before .before .before .before .before .before .before .before .before .before .args in short-yields (now (a .samples)) (a .width) (a .height) (now (a .stream)) (now (a .offsets)) _ (c .before .before .before .before .before .before .before .before .before .refuse .ensures) (c .before .before .before .before .before .before .before .before .if1 .left) _ (c .before .before .before .before .before .before .is-too-bright .ensures) (c .before .before .before .before .before .if2 .left) _ (c .before .before .before .v0-length .ensures) _ (c .before .before .is-short .ensures) _ (c .before .if3 .taken) (c .refused3 .ensures)
 
-slice-aggregate-write-frame : tie.Need-slice-aggregate-write-frame
-slice-aggregate-write-frame c = sym (length-take-le _ _ (room _ _ _ _ _ _ _ (c .before .before .before .before .before .before .before .before .before .before .before .refuse .ensures) (c .before .before .before .before .before .before .before .before .before .before .if1 .left) .samples-enough))
+slice-aggregate-write-v0 : tie.Need-slice-aggregate-write-v0
+slice-aggregate-write-v0 c = sym (length-take-le _ _ (room _ _ _ _ _ _ _ (c .before .before .before .before .before .before .before .before .before .before .before .refuse .ensures) (c .before .before .before .before .before .before .before .before .before .before .if1 .left) .samples-enough))
 
-write-frame-requires : tie.Need-write-frame-requires
-write-frame-requires c κs = let a = c .before .before .before .before .before .before .before .before .before .before .before .before .before .before .before .args in (writable (a .width) (a .height) (now (a .samples)) _ _ (c .before .before .before .before .before .before .before .before .before .before .before .refuse .ensures) (c .before .before .before .before .before .before .before .before .before .before .if1 .left) (c .before .before .before .before .before .before .before .before .is-too-bright .ensures) (c .before .before .before .before .before .before .before .if2 .left), stream-room (now (a .samples)) (a .width) (a .height) (now (a .stream)) (now (a .offsets)) _ (c .before .before .before .before .before .before .before .before .before .before .before .refuse .ensures) (c .before .before .before .before .before .before .before .before .before .before .if1 .left) _ (c .before .before .before .before .before .before .before .before .is-too-bright .ensures) (c .before .before .before .before .before .before .before .if2 .left) _ (c .before .before .before .before .before .stream-length .ensures) _ (c .before .before .before .before .is-short .ensures) (c .before .before .before .if3 .left), table-room (now (a .samples)) (a .width) (a .height) (now (a .stream)) (now (a .offsets)) _ (c .before .before .before .before .before .before .before .before .before .before .before .refuse .ensures) (c .before .before .before .before .before .before .before .before .before .before .if1 .left) _ (c .before .before .before .before .before .before .before .before .is-too-bright .ensures) (c .before .before .before .before .before .before .before .if2 .left) _ (c .before .before .before .before .before .stream-length .ensures) _ (c .before .before .before .before .is-short .ensures) (c .before .before .before .if3 .left))
+write-v0-requires : tie.Need-write-v0-requires
+write-v0-requires c κs = let a = c .before .before .before .before .before .before .before .before .before .before .before .before .before .before .before .args in (writable (a .width) (a .height) (now (a .samples)) _ _ (c .before .before .before .before .before .before .before .before .before .before .before .refuse .ensures) (c .before .before .before .before .before .before .before .before .before .before .if1 .left) (c .before .before .before .before .before .before .before .before .is-too-bright .ensures) (c .before .before .before .before .before .before .before .if2 .left), stream-room (now (a .samples)) (a .width) (a .height) (now (a .stream)) (now (a .offsets)) _ (c .before .before .before .before .before .before .before .before .before .before .before .refuse .ensures) (c .before .before .before .before .before .before .before .before .before .before .if1 .left) _ (c .before .before .before .before .before .before .before .before .is-too-bright .ensures) (c .before .before .before .before .before .before .before .if2 .left) _ (c .before .before .before .before .before .v0-length .ensures) _ (c .before .before .before .before .is-short .ensures) (c .before .before .before .if3 .left))
 
 done-requires : tie.Need-done-requires
 done-requires c κs = search needs
@@ -64,7 +64,7 @@ same-length-2 : tie.Need-same-length-2
 same-length-2 c = search needs
 
 returns-4 : tie.Need-returns-4
-returns-4 c = let a = c .before .before .before .before .before .before .before .before .before .before .before .before .before .before .before .before .before .before .before .before .before .args in done-yields (now (a .samples)) (a .width) (a .height) (now (a .stream)) (now (a .offsets)) _ (c .before .before .before .before .before .before .before .before .before .before .before .before .before .before .before .before .before .refuse .ensures) (c .before .before .before .before .before .before .before .before .before .before .before .before .before .before .before .before .if1 .left) _ (c .before .before .before .before .before .before .before .before .before .before .before .before .before .before .is-too-bright .ensures) (c .before .before .before .before .before .before .before .before .before .before .before .before .before .if2 .left) _ (c .before .before .before .before .before .before .before .before .before .before .before .stream-length .ensures) _ (c .before .before .before .before .before .before .before .before .before .before .is-short .ensures) _ _ _ (c .before .before .before .before .before .before .before .before .before .if3 .left) (c .done .ensures) (c .before .before .before .before .before .write-frame .ensures .0) (c .before .before .before .before .before .write-frame .ensures .1)
+returns-4 c = let a = c .before .before .before .before .before .before .before .before .before .before .before .before .before .before .before .before .before .before .before .before .before .args in done-yields (now (a .samples)) (a .width) (a .height) (now (a .stream)) (now (a .offsets)) _ (c .before .before .before .before .before .before .before .before .before .before .before .before .before .before .before .before .before .refuse .ensures) (c .before .before .before .before .before .before .before .before .before .before .before .before .before .before .before .before .if1 .left) _ (c .before .before .before .before .before .before .before .before .before .before .before .before .before .before .is-too-bright .ensures) (c .before .before .before .before .before .before .before .before .before .before .before .before .before .if2 .left) _ (c .before .before .before .before .before .before .before .before .before .before .before .v0-length .ensures) _ (c .before .before .before .before .before .before .before .before .before .before .is-short .ensures) _ _ _ (c .before .before .before .before .before .before .before .before .before .if3 .left) (c .done .ensures) (c .before .before .before .before .before .write-v0 .ensures .0) (c .before .before .before .before .before .write-v0 .ensures .1)
 
 pub write-v0-spec : {M : Type 1} → statement M
 write-v0-spec =
@@ -78,13 +78,13 @@ write-v0-spec =
     is-too-bright-requires
     refused-requires-2
     returns-2
-    slice-aggregate-stream-length
-    stream-length-requires
+    slice-aggregate-v0-length
+    v0-length-requires
     is-short-requires
     refused-requires-3
     returns-3
-    slice-aggregate-write-frame
-    write-frame-requires
+    slice-aggregate-write-v0
+    write-v0-requires
     done-requires
     same-length
     same-length-2

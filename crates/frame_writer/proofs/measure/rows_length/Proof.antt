@@ -1,0 +1,50 @@
+-- The loop: the bytes of the rows before a row have been counted.
+use Prim.Native.Nat.{_-_}
+use native.Mathlib.Omega.{arith}
+use borrow.Author.Needs.{needs}
+use Rattle.frame_writer.specs.Frames.{coding}
+use Rattle.frame_writer.proofs.CodingLaws.{width-is, coding-unit}
+use Rattle.frame_writer.proofs.FrameLaws.{Measuring, measure-begun, measure-next, measure-on, measure-gone}
+use Rattle.frame_writer.proofs.measure.rows_length.Statement.{statement}
+use Rattle.frame_writer.proofs.measure.rows_length.Tie as tie
+
+abbrev Inv-loop : tie.InvT-loop
+Inv-loop samples format width height bytes₀ row₀ bytes row = Measuring (coding format width height samples) height bytes row
+
+abbrev μ-loop : tie.MeasureT-loop
+μ-loop samples format width height bytes₀ row₀ bytes row = height - row
+
+loop-holds : tie.Need-loop-holds Inv-loop μ-loop
+loop-holds c = let a = c .before .args in measure-begun (coding (a .format) (a .width) (a .height) (a .samples .now)) (a .height)
+
+row-length-requires : tie.Need-row-length-requires Inv-loop μ-loop
+row-length-requires c κs = (c .before .before .before .pre, omega arith)
+
+add-bytes : tie.Need-add-bytes Inv-loop μ-loop
+add-bytes c = let s = c .before .before .before .before in let a = s .args in let l = c .before .before .loop in record { fits = measure-next (coding (a .format) (a .width) (a .height) (a .samples .now)) (a .height) (l .bytes) (l .row) (l .inv) (coding-unit (a .width) (a .height) (a .samples .now) (a .format)) (rw (width-is (a .width) (a .height) (a .samples .now) (a .format)) (s .pre .wide)) (s .pre .high) _ (omega arith) (c .row-length .ensures) }
+
+add-row : tie.Need-add-row Inv-loop μ-loop
+add-row c = search needs
+
+loop-less : tie.Need-loop-less Inv-loop μ-loop
+loop-less c = omega arith
+
+loop-again : tie.Need-loop-again Inv-loop μ-loop
+loop-again c = let a = c .before .before .before .before .args in let l = c .before .before .loop in measure-on (coding (a .format) (a .width) (a .height) (a .samples .now)) (a .height) (l .bytes) (l .row) (l .inv) _ (omega arith) (c .row-length .ensures)
+
+returns : tie.Need-returns Inv-loop μ-loop
+returns c = let a = c .before .before .before .args in let l = c .before .loop in measure-gone (coding (a .format) (a .width) (a .height) (a .samples .now)) (a .height) (l .bytes) (l .row) (l .inv) (omega arith)
+
+pub rows-length-spec : {M : Type 1} → statement M
+rows-length-spec =
+    tie.close
+    (tie.spec
+    Inv-loop
+    μ-loop
+    loop-holds
+    row-length-requires
+    add-bytes
+    add-row
+    loop-less
+    loop-again
+    returns)

@@ -1,0 +1,79 @@
+-- The loop: the rows before a row have been written, and their offsets.
+use mathlib.Core.Path.{sym, _∙_}
+use Prim.Native.Nat.{_-_}
+use native.Mathlib.Omega.{arith}
+use borrow.Author.Needs.{needs}
+use Rattle.frame_writer.specs.Frames.{coding}
+use Rattle.frame_writer.proofs.CodingLaws.{unit-is, width-is, coding-unit}
+use Rattle.frame_writer.proofs.FrameLaws.{Framing, frame-begun, stream-length, table-length, row-room, offset-fits, frame-on, frame-gone}
+use Rattle.frame_writer.proofs.write.write_rows.Statement.{statement}
+use Rattle.frame_writer.proofs.write.write_rows.Tie as tie
+
+abbrev Inv-loop : tie.InvT-loop
+Inv-loop out₀ start offsets₀ samples format width height at₀ row₀ out offsets at row = Framing (coding format width height samples) height start out₀ offsets₀ out offsets at row
+
+abbrev μ-loop : tie.MeasureT-loop
+μ-loop out₀ start offsets₀ samples format width height at₀ row₀ out offsets at row = height - row
+
+loop-holds : tie.Need-loop-holds Inv-loop μ-loop
+loop-holds c = let s = c .before .before .before in let a = s .args in frame-begun (coding (a .format) (a .width) (a .height) (a .samples .now)) (a .height) (a .start) (a .out .now) (a .offsets .now) (rw (unit-is (a .width) (a .height) (a .samples .now) (a .format)) (s .pre .1))
+
+put-offset-requires : tie.Need-put-offset-requires Inv-loop μ-loop
+put-offset-requires c κs = let s = c .before .before .before .before .before .before in let a = s .args in let l = c .before .before .loop in offset-fits (coding (a .format) (a .width) (a .height) (a .samples .now)) (coding-unit (a .width) (a .height) (a .samples .now) (a .format)) (a .height) (a .start) (a .out .now) (a .offsets .now) (l .out) (l .offsets) (l .at) (l .row) (l .inv) (rw (width-is (a .width) (a .height) (a .samples .now) (a .format)) (s .pre .0 .wide)) (s .pre .0 .high) (s .pre .2)
+
+write-row-requires : tie.Need-write-row-requires Inv-loop μ-loop
+write-row-requires c κs =
+    let s = c .before .before .before .before .before .before .before .before .before .before in
+    let a = s .args in
+    let l = c .before .before .before .before .before .before .loop in
+    (s .pre .0, omega arith, rw (← unit-is (a .width) (a .height) (a .samples .now) (a .format)) (l .inv .whole), row-room (coding (a .format) (a .width) (a .height) (a .samples .now)) (coding-unit (a .width) (a .height) (a .samples .now) (a .format)) (a .height) (a .start) (a .out .now) (a .offsets .now) (l .out) (l .offsets) (l .at) (l .row) (l .inv) (omega arith) (s .pre .3))
+
+add-row : tie.Need-add-row Inv-loop μ-loop
+add-row c = search needs
+
+loop-less : tie.Need-loop-less Inv-loop μ-loop
+loop-less c = omega arith
+
+loop-again : tie.Need-loop-again Inv-loop μ-loop
+loop-again c =
+    let s = c .before .before .before .before .before .before .before .before .before .before .before .before .before in
+    let a = s .args in
+    let l = c .before .before .before .before .before .before .before .before .before .loop in
+    frame-on (coding (a .format) (a .width) (a .height) (a .samples .now)) (coding-unit (a .width) (a .height) (a .samples .now) (a .format)) (a .height) (a .start) (a .out .now) (a .offsets .now) (l .out) (l .offsets) (l .at) (l .row) (l .inv) _ _ _ (omega arith) (c .before .before .before .before .before .before .put-offset .ensures) (c .before .before .write-row .ensures .0) (c .before .before .write-row .ensures .1)
+
+same-length : tie.Need-same-length Inv-loop μ-loop
+same-length c =
+    let s = c .before .before .before .before .before in
+    let a = s .args in
+    let l = c .before .loop in
+    stream-length (coding (a .format) (a .width) (a .height) (a .samples .now)) (coding-unit (a .width) (a .height) (a .samples .now) (a .format)) (a .height) (a .start) (a .out .now) (a .offsets .now) (l .out) (l .offsets) (l .at) (l .row) (l .inv)
+
+same-length-2 : tie.Need-same-length-2 Inv-loop μ-loop
+same-length-2 c =
+    let s = c .before .before .before .before .before in
+    let a = s .args in
+    let l = c .before .loop in
+    table-length (coding (a .format) (a .width) (a .height) (a .samples .now)) (coding-unit (a .width) (a .height) (a .samples .now) (a .format)) (a .height) (a .start) (a .out .now) (a .offsets .now) (l .out) (l .offsets) (l .at) (l .row) (l .inv)
+
+returns : tie.Need-returns Inv-loop μ-loop
+returns c =
+    let s = c .before .before .before .before .before in
+    let a = s .args in
+    let l = c .before .loop in
+    frame-gone (coding (a .format) (a .width) (a .height) (a .samples .now)) (coding-unit (a .width) (a .height) (a .samples .now) (a .format)) (a .height) (a .start) (a .out .now) (a .offsets .now) (l .out) (l .offsets) (l .at) (l .row) (l .inv) (omega arith)
+
+pub write-rows-spec : {M : Type 1} → statement M
+write-rows-spec =
+    tie.close
+    (tie.spec
+    Inv-loop
+    μ-loop
+    loop-holds
+    put-offset-requires
+    write-row-requires
+    add-row
+    loop-less
+    loop-again
+    same-length
+    same-length-2
+    returns)

@@ -1,0 +1,33 @@
+-- The header, and the rows from byte 16 on.
+use native.Mathlib.Omega.{arith}
+use lib.Dec.{lit≤}
+use denote.Ref.{now}
+use borrow.Author.Needs.{needs}
+use Rattle.frame_writer.proofs.FrameLaws.{v2-length-is, v2-wrote, v2-start, header-kept}
+use Rattle.frame_writer.proofs.write.write_v2.Statement.{statement}
+use Rattle.frame_writer.proofs.write.write_v2.Tie as tie
+
+write-header-requires : tie.Need-write-header-requires
+write-header-requires c κs = let s = c .before .before .before in let a = s .args in omega (arith, v2-length-is (a .width) (a .height) (a .samples .now), s .pre .1)
+
+slice-aggregate-write-rows : tie.Need-slice-aggregate-write-rows
+slice-aggregate-write-rows c = search needs
+
+write-rows-requires : tie.Need-write-rows-requires
+write-rows-requires c κs = let s = c .before .before .before .before .before .before .before .before in let a = s .args in (s .pre .0, v2-start, lit≤ tt, omega (arith, v2-length-is (a .width) (a .height) (a .samples .now), header-kept (now (a .out)) _ (c .before .before .before .before .write-header .ensures), s .pre .1))
+
+same-length : tie.Need-same-length
+same-length c = search needs
+
+returns : tie.Need-returns
+returns c = let a = c .before .before .before .before .before .before .before .before .before .before .before .before .args in v2-wrote (a .width) (a .height) (a .samples .now) (now (a .out)) _ _ (c .before .before .before .before .before .before .before .before .write-header .ensures) (c .before .before .before .write-rows .ensures .0)
+
+pub write-v2-spec : {M : Type 1} → statement M
+write-v2-spec =
+    tie.close
+    (tie.spec
+    write-header-requires
+    slice-aggregate-write-rows
+    write-rows-requires
+    same-length
+    returns)

@@ -1,0 +1,40 @@
+// The two formats that a frame is written in: what its blocks are written from, and what its rows are padded to.
+ghost use mathlib.Core.Path.{_≡_};
+ghost use Prim.Native.Nat.{_%_};
+ghost use lib.ListN.{length};
+ghost use Rattle.frame_writer.specs.Frames.{InFrame, Lent, Whole, unit, block-numbers};
+use super::differences::differences_of;
+use super::residuals::residuals_of;
+
+pub enum Format {
+    V0,
+    V2,
+}
+
+// The bytes that a row is padded to.
+pub fn unit_of(format: Format) -> usize
+    ensures { λ r. ⌜ r ≡ unit format ⌝ }
+{
+    match format {
+        Format::V0 => 4,
+        Format::V2 => 16,
+    }
+}
+
+// The numbers of the block at a column of a row, in the order of the stream.
+pub fn numbers_of(
+    samples: &[u16],
+    format: Format,
+    width: usize,
+    height: usize,
+    row: usize,
+    col: usize,
+) -> [u16; 16]
+    requires { ⌜ InFrame width height row col × (col % 16 ≡ 0) × Whole format width × Lent width height (length (now samples)) ⌝ }
+    ensures { λ r. ⌜ r ≡ block-numbers format width height (now (samples .entry)) row col ⌝ }
+{
+    match format {
+        Format::V0 => residuals_of(samples, width, height, row, col),
+        Format::V2 => differences_of(samples, width, height, row, col),
+    }
+}

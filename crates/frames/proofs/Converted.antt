@@ -1,0 +1,114 @@
+-- What a call of the converter that is done leaves: a V2 stream that is accepted, whatever lies past it, and decoded over any
+-- buffer gives the frame that the V0 decoder left, with no word missing and no map byte other than 0.
+use Prim.Native.Nat.{ℕ, _*_, _%_, _^_, _<_, _≤_}
+use mathlib.Core.Bool.{Bool, true, false, cond}
+use mathlib.Core.Path.{_≡_, refl, sym, ap, _∙_}
+use mathlib.Core.List.{List, [], _++_}
+use native.Mathlib.Omega.{arith}
+use lib.Dec.{ltb, eqb}
+use lib.ListN.{length, getD, take, drop}
+use lib.Seq.{length-take-le}
+use borrow.Author.Tests.{ltb-false, eqb-true, eqb-false}
+use Rattle.rules.specs.declared.answer.Size.{Size}
+use Rattle.rules.specs.Frame.{cells}
+use Rattle.rules.specs.Answer.{Ask, ask, Lent, v2, done, too-small, refusal, stream-answer, answer, frame-samples, frame-marks, marks, samples-after, map-after, unless-refused}
+use Rattle.rules.proofs.Cells.{All}
+use Rattle.rules.proofs.Refusals.{samples-enough, v2-size-least}
+use Rattle.writers.specs.declared.Written.{Written}
+use Rattle.writers.specs.Calls.{too-bright, refused, written}
+use Rattle.writers.specs.V2Writer.{stream-for}
+use Rattle.writers.proofs.CallLaws.{not-bright, over-stream}
+use Rattle.writers.proofs.V2RoundTrip.{Holds, written-holds, stream-below}
+use Rattle.frames.specs.Convert.{Call, call, frame-of, marks-of, early, any-marked, late, late-answer, late-stream, if-decoded, Yields}
+use Rattle.frames.proofs.ConvertLaws.{first, early-is, frame-is, frame-long}
+
+module _ (source offsets : List ℕ) (w h : ℕ) (samples map stream : List ℕ) where
+  abbrev c : Call
+  c = call source offsets w h samples map stream
+
+  abbrev size : Size
+  size = record { width = w; height = h }
+
+  -- ── What a call that answers 0 has passed ──
+
+  pub record Passed : Type 0 where
+    pub early-none : early c ≡ 0
+    pub late-none : late size (frame-of c) (marks-of c) (length stream) ≡ 0
+
+  pub passed : (r : Written) (s m t : List ℕ) → Yields c r s m t → r .answer .number ≡ 0 → Passed
+  unfolding if-decoded late-answer
+  passed r s m t y zero = go (eqb (early c) 0) refl (sym (ap (λ x. x .answer .number) (y .answered)) ∙ zero)
+    where
+      k : ℕ
+      k = late size (frame-of c) (marks-of c) (length stream)
+
+      answered : Bool → Written
+      answered b = cond b (written (length (stream-for size (frame-of c)))) (refused k)
+
+      inner : (b : Bool) → eqb k 0 ≡ b → answered b .answer .number ≡ 0 → k ≡ 0
+      inner true e q = eqb-true k 0 e
+      inner false e q = q
+
+      go : (b : Bool) → eqb (early c) 0 ≡ b → cond b (answered (eqb k 0)) (refused (early c)) .answer .number ≡ 0 → Passed
+      go true e q = record { early-none = eqb-true (early c) 0 e; late-none = inner (eqb k 0) refl q }
+      go false e q = absurd (eqb-false (early c) 0 e q)
+
+  -- The tests before decoding.
+  early-tests : (k : ℕ) → cond (eqb k 0) (cond {A = ℕ} (eqb (w % 16) 0) 0 15) k ≡ 0 → (k ≡ 0) × (w % 16 ≡ 0)
+  early-tests k = go (eqb k 0) refl (eqb (w % 16) 0) refl
+    where
+      go : (a : Bool) → eqb k 0 ≡ a → (b : Bool) → eqb (w % 16) 0 ≡ b → cond a (cond {A = ℕ} b 0 15) k ≡ 0 → (k ≡ 0) × (w % 16 ≡ 0)
+      go true e true f q = (eqb-true k 0 e, eqb-true (w % 16) 0 f)
+      go true e false f q = absurd (let x : 15 ≡ 0 = q in omega arith)
+      go false e b f q = absurd (eqb-false k 0 e q)
+
+  -- And after it.
+  late-tests : (t16 t9 t10 : Bool) → cond {A = ℕ} t16 16 (cond t9 9 (cond t10 10 0)) ≡ 0 → (t9 ≡ false) × (t10 ≡ false)
+  late-tests true t9 t10 e = absurd (let q : 16 ≡ 0 = e in omega arith)
+  late-tests false true t10 e = absurd (let q : 9 ≡ 0 = e in omega arith)
+  late-tests false false true e = absurd (let q : 10 ≡ 0 = e in omega arith)
+  late-tests false false false e = (refl, refl)
+
+  -- ── The round trip ──
+
+  module _ (below : All (λ b. b < 256) stream) (fewer : length stream < 2 ^ 64) (p : Passed) where
+    early-passed : (first source offsets w h samples map stream (too-small v2 size) ≡ 0) × (w % 16 ≡ 0)
+    early-passed = early-tests _ (sym (early-is source offsets w h samples map stream (too-small v2 size) _ refl refl) ∙ p .early-none)
+
+    long : length (frame-of c) ≡ cells size
+    long =
+        ap length (frame-is source offsets w h samples map stream (too-small v2 size) refl _ refl (early-passed .0))
+        ∙ frame-long source offsets w h samples map stream (too-small v2 size) refl _ refl (early-passed .0)
+
+    -- What the stream's buffer then holds.
+    abbrev pub left : List ℕ
+    left = late-stream w h (frame-of c) (marks-of c) stream
+
+    pub converted-holds : Holds left size (frame-of c)
+    unfolding late late-stream
+    converted-holds =
+        let t = late-tests (any-marked (marks-of c)) (too-bright (frame-of c)) (ltb (length stream) (length (stream-for size (frame-of c)))) (p .late-none) in
+        let room = ltb-false (length stream) (length (stream-for size (frame-of c))) (t .1) in
+        rw (p .late-none)
+        (written-holds size (frame-of c) (early-passed .1) long (not-bright (frame-of c) (t .0)) (drop (length (stream-for size (frame-of c))) stream)
+        (over-stream (stream-for size (frame-of c)) stream (stream-below size (frame-of c)) below room fewer))
+
+    -- Asked for as V2, and lent enough.
+    abbrev pub again : Ask
+    again = ask v2 left [] w h
+
+    module _ (l : Lent) (lends : refusal again l ≡ 0) where
+      pub answered-done : answer again l ≡ done
+      unfolding answer stream-answer
+      answered-done = rw lends (converted-holds .accepted)
+
+      pub samples-back : (buffer : List ℕ) → length buffer ≡ l .samples → samples-after again l buffer ≡ frame-of c ++ drop (cells size) buffer
+      unfolding samples-after unless-refused frame-samples
+      samples-back buffer e =
+          let room : cells size ≤ length buffer = rw e (samples-enough again l lends) in
+          rw lends (ap (λ f. f ++ drop (cells size) buffer) (converted-holds .samples-back (take (cells size) buffer) (length-take-le (cells size) buffer room)))
+
+      -- The map then holds the marks, and they are all 0.
+      pub no-marks-back : (m : List ℕ) → (map-after again l m ≡ marks again ++ drop (cells size) m) × ((i : ℕ) → i < cells size → getD (marks again) i 0 ≡ 0)
+      unfolding map-after unless-refused frame-marks
+      no-marks-back m = (rw lends, converted-holds .no-marks (omega (arith, v2-size-least again l lends refl .0)))

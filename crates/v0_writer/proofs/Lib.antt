@@ -1,4 +1,0 @@
-pub mod PlaceLaws
-pub mod ResidualLaws
-pub mod RowLaws
-pub mod FrameLaws
