@@ -156,8 +156,12 @@ refusals! {
     /// | 10 | the stream or the offsets to be written do not fit their buffer | every buffer as it was |
     /// | 11 | in bands: the band count or the block width is none that the frame can be cut by | every buffer as it was |
     /// | 12 | in bands: the list is too short or too long, or a step is no block's number or is not ready | every buffer as it was |
+    /// | 17 | for clean frames: a block of row 0 or 1 has direction 1 | every buffer as it was |
+    /// | 18 | for clean frames: a length is outside 0 to 16 after its block's operations | every buffer as it was |
+    /// | 19 | for clean frames: a word was missing by the end of a block | every buffer as it was |
     ///
-    /// A decoder tests 1 to 4 in this order, in bands then 11 and 12, a writer 1, 3, 9 and 10. After 5 to 8 the map describes
+    /// A decoder tests 1 to 4 in this order, in bands then 11 and 12, for clean frames then 17 to 19 block by block, a writer 1,
+    /// 3, 9 and 10. After 5 to 8 the map describes
     /// the samples as they are left; the row in which the stream ended has ones in place of the missing bits. 5 to 8 carry how
     /// many words were missing up to there, from the header on: [`Refusal::filler_words`].
     ///
@@ -181,6 +185,9 @@ refusals! {
     10 ShortOutput "the buffer for the stream or the offsets is too short";
     11 BadCut "the frame can't be cut into so many bands, or into blocks of that width";
     12 BadSteps "the steps don't do each block of the frame once, each when it is ready";
+    17 EarlyUpward { row } "row {row} isn't clean: a block looks up to rows that do not exist";
+    18 BadLength { row } "row {row} isn't clean: a length is outside 0 to 16";
+    19 MissingWord { row } "row {row} isn't clean: the stream ends in it";
 }
 
 impl Refusal {

@@ -20,14 +20,16 @@
 //! The functions lend every buffer by hand; they are what `include/razvolk.h` declares, made safe. Names are those of
 //! `samsung.rs`, which they replace: `decode_v0_reference` is the direct V0 decoder, the one that the others are held to, and
 //! not a slow one; `decode_v0` is the one in two phases, and [`decode_v0_bands`] its second phase in a scheduler's sequence.
-//! All give the same samples. [`write_v0`] writes samples as V0, for storage; [`write_v0_to_vecs`] asks for the memory, too.
-//! [`srw`] reads and writes a camera's file, and [`Ph1Bits`] is the bit reader. Who comes from `samsung.rs` finds each call in `docs/MIGRATION.md`.
+//! All give the same samples. [`decode_v0_clean`] takes only frames with nothing inherited. [`write_v0`] writes samples as V0,
+//! for storage; [`write_v0_to_vecs`] asks for the memory, too. [`srw`] reads and writes a camera's file, and [`Ph1Bits`] is the
+//! bit reader. Who comes from `samsung.rs` finds each call in `docs/MIGRATION.md`.
 #![warn(missing_docs)]
 #![deny(unsafe_code)]
 
 mod answer;
 mod bands;
 pub mod bits;
+mod clean;
 mod decoder;
 #[allow(unsafe_code)]
 mod ffi;
@@ -41,6 +43,7 @@ mod write;
 
 pub use answer::Refusal;
 pub use bands::{Bands, decode_v0_bands};
+pub use clean::{decode_v0_clean, decode_v0_clean_map};
 pub use decoder::{Decoder, MAX_SIDE};
 pub use marks::Marks;
 pub use ph1bits::Ph1Bits;
