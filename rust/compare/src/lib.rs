@@ -7,6 +7,7 @@
 
 pub mod bands;
 pub mod call;
+pub mod clean;
 mod faults;
 pub mod jobs;
 pub mod lists;
