@@ -17,11 +17,17 @@ pub struct Look<'a> {
 }
 
 impl<'a> Look<'a> {
-    /// Decodes a frame into the worker's buffer; where there is one to decode `over`, that one first.
-    pub fn at(worker: &'a mut Worker, frame: &Frame<'a>, over: Option<&Frame>) -> Result<Look<'a>, String> {
+    /// Decodes a frame into the worker's buffer, a V0 frame only if it is clean where that is wanted; where there is one to
+    /// decode `over`, that one first, clean or not.
+    pub fn at(
+        worker: &'a mut Worker,
+        frame: &Frame<'a>,
+        over: Option<&Frame>,
+        clean: bool,
+    ) -> Result<Look<'a>, String> {
         [over, Some(frame)].into_iter().flatten().try_for_each(|frame| worker.make_room(frame))?;
-        let over = over.map(|over| worker.decode(over));
-        let answer = worker.decode(frame);
+        let over = over.map(|over| worker.decode(over, false));
+        let answer = worker.decode(frame, clean);
         let depth = frame.v2_header().map(|header| header.depth).or(frame.bits);
         let &Frame { width, height, model, missing, .. } = frame;
         let decoded = worker.frame().map(|(samples, marks)| Decoded { samples, marks, width, height, depth, model });
@@ -54,7 +60,7 @@ pub fn seen(file: &[u8]) -> Result<String, Fault> {
         return Ok(report::heading("file", &frame));
     }
     let mut worker = Worker::default();
-    let look = Look::at(&mut worker, &frame, None).expect("few samples");
+    let look = Look::at(&mut worker, &frame, None, false).expect("few samples");
     if let Some(decoded) = look.decoded {
         for (form, half) in [(Form::Pgm, false), (Form::Png, false), (Form::Png, true), (Form::Planes, false)] {
             let file = form::file(form, decoded, Picture { half, ..Picture::default() });
@@ -65,14 +71,14 @@ pub fn seen(file: &[u8]) -> Result<String, Fault> {
     Ok(look.text("file", &frame))
 }
 
-/// Written as V0, a frame is read again: its samples are the same, and all rest on the stream.
+/// Written as V0, a frame is read again, and is clean: its samples are the same, and all rest on the stream.
 fn stored(decoded: Decoded) {
     let file = form::file(Form::V0, decoded, Picture::default());
     assert_eq!(file.is_err(), decoded.samples.iter().any(|&sample| sample > 16_383));
     let Ok(file) = file else { return };
     let frame = srw::frame(&file).expect("a frame");
     let mut worker = Worker::default();
-    let look = Look::at(&mut worker, &frame, None).expect("few samples");
+    let look = Look::at(&mut worker, &frame, None, true).expect("few samples");
     let again = look.decoded.expect("done");
     assert!(look.status() == 0 && again.samples == decoded.samples);
 }

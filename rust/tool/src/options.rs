@@ -18,6 +18,8 @@ usage: razvolk [OPTIONS] FILE.srw|FOLDER|- ...
   STREAM           a bare stream, of the size that --v0 or --v2 tells
   --offsets FILE   the byte offset of each row in a bare V0 stream: decimal numbers, parted by spaces, commas or lines
   --over FILE.srw  decode this frame first, into the same buffer, as a worker would; else what is written starts from zeros
+  --clean          decode a V0 frame only if it is clean: no block of rows 0 and 1 looks up, no length is outside 0 to 16, and
+                   no word is missing; else the first fault is told, and nothing is written
   --jobs N         decode with N workers, one buffer each; else one for each processor
   --json           tell in JSON, one object a frame
 
@@ -64,6 +66,7 @@ pub struct Options {
     pub write_v0: Option<PathBuf>,
     pub force: bool,
     pub picture: Picture,
+    pub clean: bool,
     pub json: bool,
     pub jobs: Option<usize>,
 }
@@ -123,6 +126,7 @@ pub fn read(words: impl IntoIterator<Item = OsString>) -> Result<Asked, String> 
             }
             "--linear" => options.picture.linear = true,
             "--half" => options.picture.half = true,
+            "--clean" => options.clean = true,
             "--json" => options.json = true,
             "--force" => options.force = true,
             "--" => options.files.extend(words.by_ref().map(PathBuf::from)),
@@ -203,10 +207,11 @@ mod tests {
             write_v0: Some("h".into()),
             force: true,
             picture: Picture { white: Some(4_095), linear: true, half: true },
+            clean: true,
             json: true,
             jobs: Some(3),
         };
-        let line = "--over=c.srw a.srw --force --pgm d --png=e=f b=.srw --planes g --write-v0 h - --white 4095 --json \
+        let line = "--over=c.srw a.srw --force --pgm d --png=e=f b=.srw --planes g --write-v0 h - --white 4095 --json --clean \
             --linear --half --jobs 3";
         assert_eq!(asked(line), Ok(Asked::Look(options.into())));
         assert_eq!(

@@ -153,7 +153,8 @@ fn decode(worker: &mut Worker, job: &Job, shared: &Shared, text: &mut String) ->
     if !job.outputs.is_empty() {
         worker.clear();
     }
-    let look = Look::at(worker, &frame, over.as_ref().map(|(_, frame)| frame)).map_err(|fault| file.fault(fault))?;
+    let over_frame = over.as_ref().map(|(_, frame)| frame);
+    let look = Look::at(worker, &frame, over_frame, options.clean).map_err(|fault| file.fault(fault))?;
     let marks = look.decoded.map(|decoded| decoded.marks);
     if options.json {
         *text += &json::frame(&job.path, &frame, look.answer, marks);
