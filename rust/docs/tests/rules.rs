@@ -4,7 +4,7 @@ use docs::definitions::{citations, definitions};
 use docs::{hold, text, texts};
 
 /// The crates whose `specs/` are rules.
-const CRATES: [&str; 3] = ["rules", "bands", "writers"];
+const CRATES: [&str; 4] = ["rules", "bands", "profile", "writers"];
 
 #[test]
 fn every_definition_of_the_rules_is_told() {
