@@ -17,15 +17,6 @@ use v0_direct::sample::decode_samples;
 use v0_stream::block::read_block;
 use v0_stream::block::read_block_head;
 
-// 17: direction 1 in row 0 or 1.
-const EARLY_UPWARD: u32 = 17;
-
-// 18: a length outside 0 to 16.
-const BAD_LENGTH: u32 = 18;
-
-// 19: a filler word.
-const MISSING_WORD: u32 = 19;
-
 // A block read to its end: its direction, and the row's state there.
 fn see_block(src: &[u8], size: Size, row: usize, col: usize, state: V0Row) -> V0Head
     requires { ⌜ InFrame size row col × Within furthest (state .lengths) ⌝ }
@@ -90,16 +81,16 @@ fn fault_of(row: usize, block: V0Head) -> u32
     ensures { λ r. ⌜ r ≡ block-fault row block (block .row .bits) ⌝ }
 {
     if is_early(row, block.up) {
-        return EARLY_UPWARD;
+        return Answer::EARLY_UPWARD;
     }
     let after = block.row;
     let lengths = after.lengths;
     if !lengths_fit(lengths) {
-        return BAD_LENGTH;
+        return Answer::BAD_LENGTH;
     }
     let bits = after.bits;
     if bits.filler != 0 {
-        return MISSING_WORD;
+        return Answer::MISSING_WORD;
     }
     0
 }
