@@ -214,8 +214,9 @@ typedef struct {
 } razvolk_exported;
 
 /* Blanking: of a decoded frame and its map, every sample whose byte isn't 0 is set to 0, or to a fill that is stated. After that
- * nothing of an earlier frame is left in the frame. The list gets the runs of marked samples, each as long as can be within its
- * row, in reading order: row, first column and length, three numbers each. The map is only read.
+ * nothing of an earlier frame is left in the frame, and nothing made of missing words. The list gets the runs of such samples,
+ * each as long as can be within its row, in reading order: row, first column and length, three numbers each. The map is only
+ * read.
  * 0                the marked ones of the first N samples are set, `count` of them, those that held the fill among them; the
  *                  first 3 times `runs` numbers of the list are the runs, and those past them are as before
  * 1, 3, 4, 14, 13  nothing is written, neither samples nor list */

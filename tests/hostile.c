@@ -807,7 +807,6 @@ static void play_writer(void) {
 
 /* ---- Blanking, and the export. */
 
-
 /* A map of a frame: no marks, all, any, in turn, or few; now and then with a byte that no map has. */
 static slice any_map(size_t n) {
     size_t len = n + (below(3) == 0 ? below(9) : 0), kind = below(5);
@@ -815,9 +814,9 @@ static slice any_map(size_t n) {
         len = below(n);
     slice lent = lend(len);
     for (size_t i = 0; i < len; i++)
-        lent.data[i] = (uint8_t)(kind == 0 ? 0 : kind == 1 ? 1 : kind == 2 ? below(2) : kind == 3 ? i % 2 : below(40) == 0);
+        lent.data[i] = (uint8_t)(kind == 0 ? 0 : kind == 1 ? 1 + i % 3 : kind == 2 ? below(4) : kind == 3 ? i % 2 * 2 : below(40) / 38);
     if (len > 0 && below(8) == 0)
-        lent.data[below(len)] = (uint8_t)(2 + below(254));
+        lent.data[below(len)] = (uint8_t)(4 + below(252));
     close_for_writing(lent);
     return lent;
 }
@@ -850,7 +849,7 @@ static uint32_t unblankable(slice samples, slice map, size_t width, size_t heigh
     if (map.bytes < width * height)
         return 4;
     for (size_t i = 0; i < width * height; i++)
-        if (map.data[i] > 1)
+        if (map.data[i] > (RAZVOLK_OLD | RAZVOLK_FILLER))
             return 14;
     tell_runs(map, width, height);
     return list < 3 * told_runs ? 13 : 0;

@@ -1,4 +1,5 @@
-//! Blanking: samples that rest on what the buffer held are set to a flat value, and the archive export stands over that.
+//! Blanking: samples that don't rest on bytes of the stream only are set to a flat value, and the archive export stands over
+//! that.
 
 use crate::{Refusal, ffi};
 
@@ -21,10 +22,11 @@ pub struct Exported {
 }
 
 /// Sets every marked sample of a frame, decoded into the first `width * height` samples together with its map, to 0, and lists
-/// the runs of marked samples in reading order: row, first column and length, three numbers each. The map is only read; what lies
-/// past the runs in the list, and past the frame in the samples, stays as it was.
+/// the runs of marked samples in reading order: row, first column and length, three numbers each. Marked is every byte that isn't
+/// 0, for old values or for missing words. The map is only read; what lies past the runs in the list, and past the frame in the
+/// samples, stays as it was.
 ///
-/// After decoding, nothing of an earlier frame is left in a blanked one. [`crate::Decoder::blank`] keeps map and list for the
+/// After decoding, nothing of an earlier frame is left in a blanked one, and nothing made of missing words. [`crate::Decoder::blank`] keeps map and list for the
 /// caller.
 ///
 /// # Errors
@@ -34,7 +36,7 @@ pub struct Exported {
 ///
 /// ```
 /// let (mut samples, mut runs) = ([7, 131, 8, 126], [9; 7]);
-/// let blanked = razvolk::blank(&mut samples, &[1, 0, 1, 1], 2, 2, &mut runs)?;
+/// let blanked = razvolk::blank(&mut samples, &[1, 0, 2, 3], 2, 2, &mut runs)?;
 /// assert_eq!((blanked.count, blanked.runs), (3, 2));
 /// assert_eq!(samples, [0, 131, 0, 0]);
 /// assert_eq!(runs, [0, 0, 1, 1, 0, 2, 9]);
@@ -109,16 +111,20 @@ mod tests {
     use super::*;
     use crate::{Marks, Run};
 
+    /// Width, height, samples lent, the map, the list's length, and the number.
+    type Case<'a> = (usize, usize, usize, &'a [u8], usize, u32);
+
     /// A list exactly long enough, and one short; each number in its place.
     #[test]
     fn refusals_in_order_change_nothing() {
-        let cases: [(usize, usize, usize, &[u8], usize, u32); 8] = [
+        let cases: [Case; 9] = [
             (16_385, 0, 4, &[1; 4], 6, 1),
-            (2, 2, 3, &[2; 3], 0, 3),
-            (2, 2, 4, &[2; 3], 0, 4),
-            (2, 2, 4, &[0, 0, 0, 2], 0, 14),
+            (2, 2, 3, &[4; 3], 0, 3),
+            (2, 2, 4, &[4; 3], 0, 4),
+            (2, 2, 4, &[0, 0, 0, 4], 0, 14),
             (2, 2, 4, &[1, 255, 1, 0], 9, 14),
             (2, 2, 4, &[1, 0, 1, 0], 5, 13),
+            (2, 2, 4, &[2, 0, 3, 0], 6, 0),
             (2, 2, 4, &[1, 0, 1, 0], 6, 0),
             (2, 2, 4, &[1, 0, 1, 0, 77], 6, 0),
         ];
@@ -137,7 +143,7 @@ mod tests {
     /// What is listed is what the marks tell.
     #[test]
     fn the_list_has_the_runs_of_the_marks() {
-        let map = [1, 0, 1, 1, 1, 1, 0, 1, 0, 0, 0, 0];
+        let map = [1, 0, 2, 3, 1, 2, 0, 3, 0, 0, 0, 0];
         let (mut samples, mut list) = ([7; 12], [9; 18]);
         let blanked = blank(&mut samples, &map, 3, 4, &mut list).expect("done");
         let runs: Vec<Run> = Marks::new(&map, 3).runs().collect();

@@ -17,7 +17,10 @@ crate::faults::faults!(
     CountsRuns,
     LeavesTheFillOut,
     ThirteenBeforeFourteen,
-    FourteenOfOne,
+    FourteenOfThree,
+    FourteenAboveFour,
+    FillerLeft,
+    RunsOfOnePart,
     FourteenPastTheFrame,
     WantsOneNumberMore,
     ListsBeforeThirteen,
@@ -100,11 +103,17 @@ fn blanked(fault: Fault, fill: u16, map: &[u8], width: usize, height: usize, len
         return refused(4);
     }
     let looked_at = if fault == Fault::FourteenPastTheFrame { map } else { &map[..n] };
-    let bad = looked_at.iter().any(|&byte| byte > if fault == Fault::FourteenOfOne { 0 } else { 1 });
+    let most = match fault {
+        Fault::FourteenOfThree => 2,
+        Fault::FourteenAboveFour => 4,
+        _ => 3,
+    };
+    let bad = looked_at.iter().any(|&byte| byte > most);
     let mut runs: Vec<[u32; 3]> = Vec::new();
     for (i, _) in map[..n].iter().enumerate().filter(|(_, byte)| **byte != 0) {
         let (row, column) = (i / width, i % width);
-        let goes_on = if fault == Fault::RunsAcrossRows { i > 0 } else { column > 0 } && map[i - 1] != 0;
+        let beside = if fault == Fault::RunsAcrossRows { i > 0 } else { column > 0 };
+        let goes_on = beside && map[i - 1] != 0 && (map[i - 1] == map[i] || fault != Fault::RunsOfOnePart);
         match runs.last_mut() {
             Some(run) if goes_on && fault != Fault::RunsOfOne => run[2] += 1,
             _ => runs.push([row as u32, column as u32, 1]),
@@ -136,7 +145,8 @@ fn blanked(fault: Fault, fill: u16, map: &[u8], width: usize, height: usize, len
     let fill = if fault == Fault::FillZero { 0 } else { fill };
     let mut count = 0;
     for (sample, byte) in lent.samples.iter_mut().zip(&map[..n]) {
-        if (*byte != 0) != (fault == Fault::FillsTheUnmarked) {
+        let marked = if fault == Fault::FillerLeft { byte & 1 != 0 } else { *byte != 0 };
+        if marked != (fault == Fault::FillsTheUnmarked) {
             count += usize::from(fault != Fault::LeavesTheFillOut || *sample != fill);
             *sample = fill;
         }
@@ -188,7 +198,7 @@ pub fn plain(
     runs: &mut [u32],
 ) -> (usize, usize) {
     let n = width * height;
-    assert!(samples.len() >= n && map.len() >= n && map[..n].iter().all(|&byte| byte <= 1));
+    assert!(samples.len() >= n && map.len() >= n && map[..n].iter().all(|&byte| byte <= 3));
     let mut wanted = 0;
     for marks in map[..n].chunks(width) {
         let mut before = 0;
@@ -224,7 +234,7 @@ pub fn plain(
 pub struct Seen {
     pub seed: u64,
     pub frames: u64,
-    /// Frames that were decoded, and maps that were made up: all 0, all 1, in turn, random, few.
+    /// Frames that were decoded, and maps that were made up: all 0, all of one byte, in turn, random, few.
     pub kinds: [u64; 6],
     pub calls: u64,
     /// How many calls got number 0 to 14.
@@ -236,7 +246,7 @@ pub struct Seen {
 impl fmt::Display for Seen {
     fn fmt(&self, f: &mut fmt::Formatter<'_>) -> fmt::Result {
         let Seen { seed, frames, kinds, calls, numbers, marked, runs } = self;
-        writeln!(f, "blank, seed {seed}: decoded, and maps all 0, all 1, in turn, random, few: {kinds:?}")?;
+        writeln!(f, "blank, seed {seed}: decoded, and maps all 0, all of a byte, in turn, random, few: {kinds:?}")?;
         writeln!(f, "blank: {calls} calls, answers 0 to 14: {numbers:?}, {marked} samples set in {runs} runs")?;
         write!(f, "blank: {frames} frames equal to the plain loop's")
     }
@@ -257,10 +267,10 @@ fn framed(random: &mut Random, i: u64, seen: &mut Seen) -> (Vec<u16>, Vec<u8>, u
                 .expect("V0 is never refused where buffers are long enough");
         }
         1 => {}
-        2 => map.fill(1),
-        3 => (0..).zip(&mut map).for_each(|(i, byte)| *byte = i % 2),
-        4 => map.iter_mut().for_each(|byte| *byte = random.below(2) as u8),
-        _ => map.iter_mut().for_each(|byte| *byte = u8::from(random.once_in(20))),
+        2 => map.fill(1 + random.below(3) as u8),
+        3 => (0..).zip(&mut map).for_each(|(i, byte)| *byte = [0, 1, 0, 2, 3][i % 5]),
+        4 => map.iter_mut().for_each(|byte| *byte = random.below(4) as u8),
+        _ => map.iter_mut().for_each(|byte| *byte = if random.once_in(20) { 1 + random.below(3) as u8 } else { 0 }),
     }
     if random.once_in(2) {
         samples.iter_mut().for_each(|sample| *sample >>= 2);
@@ -328,7 +338,7 @@ pub fn compare(blank: Blank, seed: u64, frames: u64) -> Result<Seen, Difference>
         }
         if n > 0 {
             let at = random.index(map.len());
-            map[at] = 2 + random.below(254) as u8;
+            map[at] = if random.once_in(2) { 4 } else { 4 + random.below(252) as u8 };
             called(blank, [Ask::Fill(fill), Ask::NoFill, Ask::Export][short as usize], &map, size, &lent, &mut seen)?;
             if random.once_in(4) {
                 called(blank, Ask::NoFill, &map[..n - 1], size, &lent, &mut seen)?;
