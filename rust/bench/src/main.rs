@@ -19,8 +19,14 @@ const USAGE: &str = "usage: bench [V0 | V2 | planes | write | blank | into] [RUN
 type Time = fn(usize, usize);
 
 /// What is timed, by name.
-const TIMED: [(&str, Time); 6] =
-    [("V0", time_v0), ("V2", time_v2), ("planes", time_planes), ("write", time_writers), ("blank", time_blanking), ("into", time_converters)];
+const TIMED: [(&str, Time); 6] = [
+    ("V0", time_v0),
+    ("V2", time_v2),
+    ("planes", time_planes),
+    ("write", time_writers),
+    ("blank", time_blanking),
+    ("into", time_converters),
+];
 
 fn main() {
     let mut words = std::env::args().skip(1).peekable();

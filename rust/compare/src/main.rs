@@ -2,7 +2,8 @@
 
 use compare::call::{Difference, Entry, razvolk, razvolk_in_bands, razvolk_of, with_map};
 use compare::{
-    bands, blank, clean, convert, jobs, lists, missing, planes, reader, record, refusals, states, uploads, v0, v2, write,
+    bands, blank, clean, convert, jobs, lists, missing, planes, reader, record, refusals, states, uploads, v0, v2,
+    write,
 };
 use std::fmt::Display;
 use std::path::Path;
