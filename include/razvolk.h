@@ -41,11 +41,14 @@ extern "C" {
  *  14  blanking: one of the first N map bytes is above 3                 every buffer as it was
  *  15  V0 into V2: the width is not a multiple of 16                      every buffer as it was
  *  16  V0 into V2: a sample of the decoded frame is marked                the frame is decoded, the stream as it was
+ *  17  for clean frames: a block of row 0 or 1 has direction 1                      every buffer as it was
+ *  18  for clean frames: a length is outside 0 to 16 after its block's operations   every buffer as it was
+ *  19  for clean frames: a word was missing by the end of a block                   every buffer as it was
  *
- * 1 to 4 are tested in this order, then in bands 11 and 12; then the stream decides. 9 and 10 are a writer's, which tests 1, 3, 9
- * and 10. Blanking tests 1, 3, 4, 14 and 13; the export goes on to 9 and 10, which leave the frame blanked. V0 into V2 tests 1 to 4
- * and 15, and when the frame is decoded 16, 9 and 10. `row` is the row at fault of 5 to 8, else 0. Samples and map bytes from N on
- * never change.
+ * 1 to 4 are tested in this order, then in bands 11 and 12, for clean frames 17 to 19; then the stream decides. 9 and 10 are a
+ * writer's, which tests 1, 3, 9 and 10. Blanking tests 1, 3, 4, 14 and 13; the export goes on to 9 and 10, which leave the frame
+ * blanked. V0 into V2 tests 1 to 4 and 15, and when the frame is decoded 16, 9 and 10. `row` is the row at fault of 5 to 8 and of
+ * 17 to 19, else 0. Samples and map bytes from N on never change.
  *
  * `filler` is how many words of 4 bytes were missing: fetched where fewer than 4 bytes of the stream remained, and read as ones.
  * The direct V0 decoder tells it when it is done, as the sum over its rows, and V2 with 5 to 8, up to the refusal and from the
@@ -74,6 +77,9 @@ typedef struct {
 #define RAZVOLK_BAD_MAP         14u
 #define RAZVOLK_BAD_WIDTH       15u
 #define RAZVOLK_MARKED          16u
+#define RAZVOLK_EARLY_UPWARD    17u
+#define RAZVOLK_BAD_LENGTH      18u
+#define RAZVOLK_MISSING_WORD    19u
 
 /* The limits that they speak of. */
 #define RAZVOLK_MOST_SIDE 16384u       /* 1 */
@@ -104,6 +110,22 @@ razvolk_answer razvolk_decode_v0_reference(const uint8_t *src, size_t src_len, c
 razvolk_answer razvolk_decode_v0_reference_map(const uint8_t *src, size_t src_len, const uint32_t *offsets,
                                                size_t offsets_len, size_t width, size_t height, uint16_t *samples,
                                                size_t samples_len, uint8_t *map, size_t map_len);
+
+/* V0, decoded directly if the frame is clean: nothing in it rests on what the buffer held or on missing words, as far as the
+ * stream's blocks show. No block in rows 0 and 1 has direction 1, all four lengths of every block are 0 to 16, and no word is
+ * missing. The whole stream is checked before a sample is written, so that a frame that isn't clean changes nothing; the first
+ * fault in row order, then in block order, then of 17, 18 and 19 is told, with its row.
+ * 0                the first N samples are those of razvolk_decode_v0_reference; `filler` is 0
+ * 1, 3, 17 to 19   nothing is written */
+razvolk_answer razvolk_decode_v0_clean(const uint8_t *src, size_t src_len, const uint32_t *offsets, size_t offsets_len,
+                                       size_t width, size_t height, uint16_t *samples, size_t samples_len);
+
+/* The same with a map, which is that of razvolk_decode_v0_reference_map.
+ * 0                   samples as of razvolk_decode_v0_clean; the first N map bytes are 0
+ * 1, 3, 4, 17 to 19   nothing is written, neither samples nor map */
+razvolk_answer razvolk_decode_v0_clean_map(const uint8_t *src, size_t src_len, const uint32_t *offsets, size_t offsets_len,
+                                           size_t width, size_t height, uint16_t *samples, size_t samples_len, uint8_t *map,
+                                           size_t map_len);
 
 /* V0 in two phases, residuals and then predictions: the same samples. What the scratch holds before does not matter.
  * 0        the first N samples are the frame's; the first RAZVOLK_SCRATCH(width, height) bytes of scratch are the directions

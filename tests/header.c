@@ -99,6 +99,31 @@ static void v0_reference(void) {
     expect(answer.number == 3 && answer.row == 0 && answer.filler == 0, "5 samples for a frame of 6 are refused by 3");
 }
 
+static void v0_clean(void) {
+    static const uint8_t down_up[8] = {0x00, 0x00, 0x80, 0x7f, 0x00, 0x00, 0x80, 0xff};
+    static const uint32_t rows[3] = {0, 0, 4}, upward[3] = {0, 4, 4}, missing[3] = {0, 0, 5};
+    static const uint8_t below[8] = {0x2a, 0x00, 0x80, 0x7f, 0x00, 0x00, 0x00, 0x80};
+    uint16_t wide[17] = {7};
+    razvolk_answer answer;
+    before();
+    answer = razvolk_decode_v0_clean(down_up, 8, rows, 3, 2, 3, samples, 7);
+    expect(answer.number == 0 && answer.row == 0 && answer.filler == 0, "decode_v0_clean");
+    expect(samples[0] == 128 && samples[5] == 128 && samples[6] == 77, "the frame's samples, and the one past them");
+    before();
+    answer = razvolk_decode_v0_clean_map(down_up, 8, rows, 3, 2, 3, samples, 7, map, 7);
+    expect(answer.number == 0 && map[0] == 0 && map[5] == 0 && map[6] == 9, "decode_v0_clean_map");
+    before();
+    answer = razvolk_decode_v0_clean_map(down_up, 8, upward, 3, 2, 3, samples, 7, map, 7);
+    expect(answer.number == RAZVOLK_EARLY_UPWARD && answer.row == 1 && answer.filler == 0, "direction 1 in row 1 is refused by 17");
+    answer = razvolk_decode_v0_clean(below, 8, rows, 1, 17, 1, wide, 17);
+    expect(answer.number == RAZVOLK_BAD_LENGTH && answer.row == 0 && wide[0] == 7, "a length of -1 is refused by 18");
+    answer = razvolk_decode_v0_clean_map(down_up, 8, missing, 3, 2, 3, samples, 7, map, 7);
+    expect(answer.number == RAZVOLK_MISSING_WORD && answer.row == 2 && answer.filler == 0, "a missing word is refused by 19");
+    answer = razvolk_decode_v0_clean_map(down_up, 8, upward, 3, 2, 3, samples, 7, map, 5);
+    expect(answer.number == RAZVOLK_SHORT_MAP && answer.row == 0, "4 comes before 17");
+    expect(samples[0] == 7 && map[0] == 9, "and nothing is written");
+}
+
 static void v0(void) {
     razvolk_answer answer;
     before();
@@ -278,6 +303,10 @@ static void null(void) {
     expect(answer.number == RAZVOLK_DONE, "decode_v0_reference of NULL");
     answer = razvolk_decode_v0_reference_map(NULL, 0, NULL, 0, 0, 0, NULL, 0, NULL, 0);
     expect(answer.number == RAZVOLK_DONE, "decode_v0_reference_map of NULL");
+    answer = razvolk_decode_v0_clean(NULL, 0, one, 1, 1, 1, sample, 1);
+    expect(answer.number == RAZVOLK_EARLY_UPWARD && sample[0] == 7, "decode_v0_clean of NULL");
+    answer = razvolk_decode_v0_clean_map(NULL, 0, NULL, 0, 5, 0, NULL, 0, NULL, 0);
+    expect(answer.number == RAZVOLK_DONE, "decode_v0_clean_map of NULL");
     answer = razvolk_decode_v0(NULL, 0, one, 1, 1, 1, sample, 1, NULL, 0);
     expect(answer.number == RAZVOLK_DONE && sample[0] == 7, "decode_v0 of NULL");
     answer = razvolk_decode_v0_bands(NULL, 0, NULL, 0, 0, 0, NULL, 0, NULL, 0, 1, 16, NULL, 0);
@@ -324,6 +353,7 @@ static void named(void) {
 int main(void) {
     reader();
     v0_reference();
+    v0_clean();
     v0();
     v0_bands();
     v2();

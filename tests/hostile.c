@@ -1,10 +1,10 @@
 /* Calls every decoder with streams that are random, written or damaged, with right and with short buffers, and holds it to what
  * can be told without a second decoder: the refusal among 1 to 4, 11 and 12, what each answer leaves, that the entries of one
- * decoder and all V0 decoders agree, that a sample without an old part is the same over any old samples, and that one of a cut
- * stream with map byte 0 is final. Calls the writer with any samples, sizes and buffers, and holds it to its refusal, to the
- * length that is worked out apart, and to the decoders, which must give the samples back. Blanks frames by any map, and holds
- * what is set, listed and exported to a plain loop. Calls V0 into V2 likewise, and holds it to the V0 decoder, whose samples and
- * map it must leave, and to the V2 decoder.
+ * decoder and all V0 decoders agree, that a sample without an old part is the same over any old samples, that one of a cut
+ * stream with map byte 0 is final, and that a frame taken as clean has a map of zeros and misses no word. Calls the writer with
+ * any samples, sizes and buffers, and holds it to its refusal, to the length that is worked out apart, and to the decoders, which
+ * must give the samples back. Blanks frames by any map, and holds what is set, listed and exported to a plain loop. Calls V0 into
+ * V2 likewise, and holds it to the V0 decoder, whose samples and map it must leave, and to the V2 decoder.
  *
  *     hostile [pages|heap [COUNT[s] [SEED]]]      COUNT rounds, or COUNT seconds; by itself: pages, 300 rounds
  *
@@ -23,7 +23,7 @@
 #include <unistd.h>
 
 /* The highest number that is answered. */
-#define MOST_NUMBER 16
+#define MOST_NUMBER 19
 
 static bool heap = false;
 static unsigned long rounds = 0, calls = 0, numbers[MOST_NUMBER + 1];
@@ -398,6 +398,14 @@ static razvolk_answer direct_map(const ask *a, const outcome *o) {
     return razvolk_decode_v0_reference_map(V0(a), SAMPLES(o->samples), BYTES(o->map));
 }
 
+static razvolk_answer clean(const ask *a, const outcome *o) {
+    return razvolk_decode_v0_clean(V0(a), SAMPLES(o->samples));
+}
+
+static razvolk_answer clean_map(const ask *a, const outcome *o) {
+    return razvolk_decode_v0_clean_map(V0(a), SAMPLES(o->samples), BYTES(o->map));
+}
+
 static razvolk_answer two_phase(const ask *a, const outcome *o) {
     return razvolk_decode_v0(V0(a), SAMPLES(o->samples), BYTES(o->scratch));
 }
@@ -414,24 +422,30 @@ static razvolk_answer v2_map(const ask *a, const outcome *o) {
     return razvolk_decode_v2_map(V2(a), SAMPLES(o->samples), BYTES(o->map));
 }
 
-/* An entry: of which version, what it is lent besides samples, and how it is called. A new decoder is a row here. */
+/* An entry: of which version, what it is lent besides samples, whether it takes clean frames alone, and how it is called. A new
+ * decoder is a row here. */
 typedef struct {
-    bool v2, with_map, with_scratch, with_steps;
+    bool v2, with_map, with_scratch, with_steps, clean_alone;
     razvolk_answer (*call)(const ask *, const outcome *);
 } entry;
 
 static const entry entries[] = {
-    {false, false, false, false, direct},
-    {false, true, false, false, direct_map},
-    {false, false, true, false, two_phase},
-    {false, false, true, true, bands},
-    {true, false, false, false, v2},
-    {true, true, false, false, v2_map},
+    {false, false, false, false, false, direct},
+    {false, true, false, false, false, direct_map},
+    {false, false, false, false, true, clean},
+    {false, true, false, false, true, clean_map},
+    {false, false, true, false, false, two_phase},
+    {false, false, true, true, false, bands},
+    {true, false, false, false, false, v2},
+    {true, true, false, false, false, v2_map},
 };
 static const entry *const entries_end = entries + sizeof entries / sizeof *entries;
 
 /* Whether the stream was begun: done, or refused by 5 to 8. */
 static bool begun(razvolk_answer answer) { return answer.number == 0 || (5 <= answer.number && answer.number <= 8); }
+
+/* Whether the frame isn't clean: refused by 17 to 19, with nothing changed. */
+static bool unclean(razvolk_answer answer) { return 17 <= answer.number && answer.number <= 19; }
 
 /* Bytes of which those from `from` on must stay 9, and those before it must have become `most` or less. */
 static void filled(slice lent, size_t from) {
@@ -453,13 +467,17 @@ static outcome run(const ask *a, const entry *e, const uint8_t *old) {
     size_t marks = refused == 0 && e->with_map ? n : 0, scratched = refused == 0 && e->with_scratch ? directions : 0;
     outcome out = {{0, 0, 0}, copy(old, 2 * a->samples), lend(a->map), lend(a->scratch)};
     /* With valgrind, what a decoder must set is not set before; a refusal must not read it, either. */
-    filled(out.map, heap ? marks : 0);
+    filled(out.map, heap && !e->clean_alone ? marks : 0);
     filled(out.scratch, heap ? scratched : 0);
     out.answer = e->call(a, &out);
     calls++;
     expect(out.answer.number <= MOST_NUMBER, "the answer is a number of the list");
     numbers[out.answer.number]++;
-    if (refused > 0 || !a->v2)
+    if (refused == 0 && e->clean_alone && unclean(out.answer)) {
+        expect(out.answer.row < a->height && out.answer.filler == 0, "17 to 19 have a row of the frame, and no count");
+        expect(out.answer.number != 17 || out.answer.row < 2, "17 comes in row 0 or 1");
+        n = marks = 0;
+    } else if (refused > 0 || !a->v2)
         expect(out.answer.number == refused && out.answer.row == 0, "the refusal among 1 to 4, 11 and 12");
     else
         expect(out.answer.number == 0 ? out.answer.row == 0 : begun(out.answer) && out.answer.row < a->height,
@@ -512,6 +530,12 @@ static void play(const ask *a) {
         if (e->v2 != a->v2)
             continue;
         outcome next = run(a, e, old.data);
+        if (e->clean_alone && begun(first.answer)) {
+            expect(next.answer.number != 0 || first.answer.filler == 0, "a frame taken as clean misses no word");
+            expect(next.answer.number != 19 || first.answer.filler > 0, "19 comes where a word is missing");
+            for (size_t i = 0; next.answer.number == 0 && i < cells(a); i++)
+                expect(first.map.data[i] == 0, "a frame taken as clean has a map of zeros");
+        }
         if (begun(first.answer) && begun(next.answer)) {
             expect(next.answer.number == first.answer.number && next.answer.row == first.answer.row, "answers agree");
             expect(e->with_scratch || next.answer.filler == first.answer.filler, "counts agree");
@@ -910,7 +934,7 @@ static uint32_t unconvertible(const ask *a) {
 }
 
 /* The refusal of a decoded frame, or 0: 16 and 9. */
-static uint32_t unclean(const uint16_t *samples, const uint8_t *map, size_t n) {
+static uint32_t unfit(const uint16_t *samples, const uint8_t *map, size_t n) {
     uint32_t refused = 0;
     for (size_t i = 0; i < n; i++) {
         if (map[i] > 0)
@@ -973,7 +997,7 @@ static void play_converter(void) {
     calls++;
     if (refused == 0) {
         razvolk_decode_v0_reference_map(V0(&a), SAMPLES(old), BYTES(left));
-        refused = unclean((const uint16_t *)(const void *)old.data, left.data, cells(&a));
+        refused = unfit((const uint16_t *)(const void *)old.data, left.data, cells(&a));
     }
     numbers[refused]++;
     expect(out.answer.number == refused && out.answer.row == 0, "the converter's refusal");

@@ -88,6 +88,31 @@ impl Decoder {
         self.answered(answer, width, height)
     }
 
+    /// Decodes a V0 frame as [`Decoder::decode_v0`] does if it is clean ([`crate::decode_v0_clean_map`]); its marks are then all
+    /// 0, and no word was missing.
+    ///
+    /// # Errors
+    ///
+    /// Refusals 1 and 3, in this order; then 17 to 19, the first fault with its row. `out` is unchanged then.
+    ///
+    /// ```
+    /// let mut decoder = razvolk::Decoder::new();
+    /// let refused = decoder.decode_v0_clean(&[], &[0], 3, 1, &mut [7, 8, 9]).unwrap_err();
+    /// assert_eq!(refused.to_string(), "row 0 isn't clean: a block looks up to rows that do not exist");
+    /// ```
+    pub fn decode_v0_clean(
+        &mut self,
+        src: &[u8],
+        row_offsets: &[u32],
+        width: usize,
+        height: usize,
+        out: &mut [u16],
+    ) -> Result<Marks<'_>, Refusal> {
+        self.make_room(width, height, out.len());
+        let answer = crate::decode_v0_clean_map(src, row_offsets, width, height, out, &mut self.map);
+        self.answered(answer.map(|()| 0), width, height)
+    }
+
     /// Decodes a V2 frame ([`crate::decode_v2_map`]) into the first `width * height` samples of `out`, and tells what they
     /// rest on. After refusals 5 to 8, [`Decoder::marks`] tells it of the samples as they are left.
     ///
@@ -118,7 +143,7 @@ impl Decoder {
     }
 
     /// The marks of the last frame, as its samples were left: after done, and after refusals 5 to 8. None if there was no
-    /// call, or if the last was refused by 1 to 3 and left the samples as they were.
+    /// call, or if the last was refused by 1 to 3 or 17 to 19 and left the samples as they were.
     ///
     /// ```
     /// let mut decoder = razvolk::Decoder::new();

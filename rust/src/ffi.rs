@@ -51,6 +51,10 @@ exports! {
         src: &[u8], offsets: &[u32], width: usize, height: usize, samples: &mut [u16]) -> Answer;
     fn razvolk_decode_v0_reference_map(
         src: &[u8], offsets: &[u32], width: usize, height: usize, samples: &mut [u16], map: &mut [u8]) -> Answer;
+    fn razvolk_decode_v0_clean(
+        src: &[u8], offsets: &[u32], width: usize, height: usize, samples: &mut [u16]) -> Answer;
+    fn razvolk_decode_v0_clean_map(
+        src: &[u8], offsets: &[u32], width: usize, height: usize, samples: &mut [u16], map: &mut [u8]) -> Answer;
     fn razvolk_decode_v0(
         src: &[u8], offsets: &[u32], width: usize, height: usize, samples: &mut [u16], scratch: &mut [u8]) -> Answer;
     fn razvolk_decode_v0_bands(

@@ -20,10 +20,10 @@
 //! The functions lend every buffer by hand; they are what `include/razvolk.h` declares, made safe. Names are those of
 //! `samsung.rs`, which they replace: `decode_v0_reference` is the direct V0 decoder, the one that the others are held to, and
 //! not a slow one; `decode_v0` is the one in two phases, and [`decode_v0_bands`] its second phase in a scheduler's sequence.
-//! All give the same samples. [`write_v0`] writes samples as V0, for storage; [`write_v0_to_vecs`] asks for the memory, too.
-//! [`blank_with`] sets the samples that rest on an earlier frame to a flat value, and [`export_v0`] does that and writes the
-//! frame. [`v0_to_v2`] turns a V0 frame into V2. [`srw`] reads and writes a camera's file, and [`Ph1Bits`] is the bit reader. Who
-//! comes from `samsung.rs` finds each call in `docs/MIGRATION.md`.
+//! All give the same samples. [`decode_v0_clean`] takes only frames with nothing inherited. [`write_v0`] writes samples as V0,
+//! for storage; [`write_v0_to_vecs`] asks for the memory, too. [`blank_with`] sets the samples that rest on an earlier frame to a
+//! flat value, and [`export_v0`] does that and writes the frame. [`v0_to_v2`] turns a V0 frame into V2. [`srw`] reads and writes a
+//! camera's file, and [`Ph1Bits`] is the bit reader. Who comes from `samsung.rs` finds each call in `docs/MIGRATION.md`.
 #![warn(missing_docs)]
 #![deny(unsafe_code)]
 
@@ -31,6 +31,7 @@ mod answer;
 mod bands;
 pub mod bits;
 mod blank;
+mod clean;
 mod convert;
 mod decoder;
 #[allow(unsafe_code)]
@@ -46,6 +47,7 @@ mod write;
 pub use answer::Refusal;
 pub use bands::{Bands, decode_v0_bands};
 pub use blank::{Blanked, Exported, blank, blank_with, export_v0};
+pub use clean::{decode_v0_clean, decode_v0_clean_map};
 pub use convert::{most_v2_bytes, v0_to_v2};
 pub use decoder::{Decoder, MAX_SIDE};
 pub use marks::{Marks, Run};

@@ -1,4 +1,4 @@
--- Filler over a block's bytes one by one, a block's end, the parts of two, and a map that is all old.
+-- Filler over a block's bytes one by one, a block's end, the parts of two, and a map that is all the same.
 use mathlib.Core.Path.{_≡_, refl, sym, ap, ap₂, _∙_}
 use mathlib.Core.List.{List, [], _∷_, _++_}
 use Prim.Native.Nat.{ℕ, zero, suc, _+_, _-_, _≤_, _<_}
@@ -71,9 +71,9 @@ pub parts-are : (a b : ℕ) → bitOr a b ≡ either-part a b
 unfolding either-part
 parts-are a b = refl
 
--- ── All old ──
+-- ── All the same ──
 
--- Ones, one more.
-pub ones-more : (n : ℕ) → replicate {A = ℕ} n 1 ++ (1 ∷ []) ≡ replicate (suc n) 1
-ones-more zero = refl
-ones-more (suc n) = ap (λ l. 1 ∷ l) (ones-more n)
+-- The same bytes, one more.
+pub all-more : (a n : ℕ) → replicate {A = ℕ} n a ++ (a ∷ []) ≡ replicate (suc n) a
+all-more a zero = refl
+all-more a (suc n) = ap (λ l. a ∷ l) (all-more a n)

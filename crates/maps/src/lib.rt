@@ -8,15 +8,22 @@ ghost use Rattle.rules.specs.Map.{with-filler, either-part};
 // The bytes of a block.
 const BLOCK: usize = 16;
 
+// Every byte becomes the same.
+pub fn mark_all(map: &mut [u8], byte: u8)
+    ensures { λ _. ⌜ now (map .exit) ≡ replicate (length (now (map .entry))) byte ⌝ }
+{
+    let mut i: usize = 0;
+    while i < map.len() {
+        map[i] = byte;
+        i += 1;
+    }
+}
+
 // At entry every sample rests on an old value.
 pub fn mark_old(map: &mut [u8])
     ensures { λ _. ⌜ now (map .exit) ≡ replicate (length (now (map .entry))) 1 ⌝ }
 {
-    let mut i: usize = 0;
-    while i < map.len() {
-        map[i] = 1;
-        i += 1;
-    }
+    mark_all(map, 1);
 }
 
 // A block from a place on ends with filler: its bytes, as far as there are any, gain 2.

@@ -18,11 +18,13 @@ use Rattle.rules.specs.Phases as Phases
 use Rattle.rules.specs.Map as Map
 use Rattle.bands.specs.Call as Bands
 use Rattle.bands.proofs.Lists as Bands-lists
+use Rattle.profile.specs.Clean as Profile
+use Rattle.profile.proofs.Lists as Clean-lists
 use Rattle.rules.proofs.Cells.{nil, more}
 use Rattle.rules.proofs.Isolation.{Calls, start, call, Samples, Same, is-direct, position-of, amount-of}
 use Rattle.samsung.proofs.Isolation.{returned, ended}
 use Rattle.samsung.proofs.Isolation as Entries
-use Rattle.razvolk.proofs.Isolation.{Export, Banded, Any, entry, exported, plain, in-bands, step, last, last-in-bands, final, isolation}
+use Rattle.razvolk.proofs.Isolation.{Export, Banded, Cleaned, Any, entry, exported, cleaned, plain, in-bands, for-clean, step, last, last-in-bands, last-clean, final, isolation}
 use Rattle.razvolk.proofs.Isolation as Exports
 
 -- ── A call for every input ──
@@ -110,6 +112,29 @@ module _ (s offsets : List ℕ) (w h : ℕ) (samples : List ℕ) where
         learnt = record { answered = refl; samples = refl; scratch = refl };
       }
 
+  -- For clean frames.
+  abbrev pub clean-call : Cleaned
+  clean-call =
+      Exports.clean
+      (record {
+        κs = ([], ([], ([], tt)));
+        args = (slice s, (slice offsets, (w, (h, (slice samples, tt)))));
+        result = Profile.answer direct-ask (lengths (buffers samples none none));
+        exit = (slice s, (slice offsets, (w, (h, (slice (Profile.samples-after direct-ask (lengths (buffers samples none none)) samples), tt)))));
+        learnt = record { answered = refl; samples = refl; map = refl };
+      })
+
+  abbrev pub clean-map-call : List ℕ → Cleaned
+  clean-map-call map =
+      Exports.clean-map
+      (record {
+        κs = ([], ([], ([], ([], tt))));
+        args = (slice s, (slice offsets, (w, (h, (slice samples, (slice map, tt))))));
+        result = Profile.answer direct-ask (lengths (buffers samples (some map) none));
+        exit = (slice s, (slice offsets, (w, (h, (slice (Profile.samples-after direct-ask (lengths (buffers samples (some map) none)) samples), (slice (Profile.map-after direct-ask (lengths (buffers samples (some map) none)) map), tt))))));
+        learnt = record { answered = refl; samples = refl; map = refl };
+      })
+
   -- They ask and find what they are given.
   pub direct-finds : (exported direct-call .ask ≡ direct-ask) × (exported direct-call .found ≡ buffers samples none none)
   unfolding returned entry
@@ -143,6 +168,17 @@ module _ (s offsets : List ℕ) (w h : ℕ) (samples : List ℕ) where
       × (final (last-in-bands (in-bands-call scratch k n steps) done) .found ≡ buffers samples none (some scratch))
   unfolding final ended Bands-lists.returned Bands-lists.passed-returned
   in-bands-ends scratch k n steps done = (refl, refl)
+
+  pub clean-finds : (step (for-clean clean-call) .found ≡ samples)
+      × (step (for-clean clean-call) .left ≡ Profile.samples-after direct-ask (lengths (buffers samples none none)) samples)
+  unfolding step Entries.step Clean-lists.step Entries.checked cleaned
+  clean-finds = (refl, refl)
+
+  -- At a list's end, done, it is the direct call.
+  pub clean-ends : (m : List ℕ) (done : Entries.checked (cleaned (clean-map-call m)) .answered .number ≡ 0)
+      → (final (last-clean (clean-map-call m) done) .ask ≡ direct-ask) × (final (last-clean (clean-map-call m) done) .found ≡ buffers samples (some m) none)
+  unfolding final ended Clean-lists.returned Entries.checked cleaned
+  clean-ends m done = (refl, refl)
 
 -- ── A list, and one call more ──
 

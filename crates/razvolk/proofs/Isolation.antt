@@ -24,6 +24,14 @@ use Rattle.razvolk.proofs.in_bands.razvolk_decode_v0_bands.Kinds as ban
 use Rattle.razvolk.proofs.in_bands.razvolk_decode_v0_bands.Reads as bands-reads
 use Rattle.razvolk.proofs.in_bands.razvolk_decode_v0_bands.Statement as bands-stated
 use Rattle.razvolk.proofs.in_bands.razvolk_decode_v0_bands.Met as bands-thm
+use Rattle.razvolk.proofs.clean.razvolk_decode_v0_clean.Kinds as clean-kinds
+use Rattle.razvolk.proofs.clean.razvolk_decode_v0_clean.Reads as clean-reads
+use Rattle.razvolk.proofs.clean.razvolk_decode_v0_clean.Statement as clean-stated
+use Rattle.razvolk.proofs.clean.razvolk_decode_v0_clean.Met as clean-thm
+use Rattle.razvolk.proofs.clean.razvolk_decode_v0_clean_map.Kinds as clean-map-kinds
+use Rattle.razvolk.proofs.clean.razvolk_decode_v0_clean_map.Reads as clean-map-reads
+use Rattle.razvolk.proofs.clean.razvolk_decode_v0_clean_map.Statement as clean-map-stated
+use Rattle.razvolk.proofs.clean.razvolk_decode_v0_clean_map.Met as clean-map-thm
 use Rattle.razvolk.proofs.v2.razvolk_decode_v2.Kinds as v2-kinds
 use Rattle.razvolk.proofs.v2.razvolk_decode_v2.Reads as v2-reads
 use Rattle.razvolk.proofs.v2.razvolk_decode_v2.Statement as v2-stated
@@ -60,23 +68,36 @@ Banded = Made bands-kinds.ps bands-kinds.r bands-reads.Learnt
 abbrev pub banded : Banded → Entries.Banded
 banded c = record { κs = c .κs; args = c .args; result = c .result; exit = c .exit; learnt = c .learnt }
 
--- A call of one of the six, and what it does to the sample buffer.
+-- A call of an export for clean frames, and the same call of its entry.
+pub data Cleaned : Type 0 where
+  clean : Made clean-kinds.ps clean-kinds.r clean-reads.Learnt → Cleaned
+  clean-map : Made clean-map-kinds.ps clean-map-kinds.r clean-map-reads.Learnt → Cleaned
+
+unfoldable pub cleaned : Cleaned → Entries.Cleaned
+cleaned (clean c) = Entries.clean (record { κs = c .κs; args = c .args; result = c .result; exit = c .exit; learnt = c .learnt })
+cleaned (clean-map c) = Entries.clean-map (record { κs = c .κs; args = c .args; result = c .result; exit = c .exit; learnt = c .learnt })
+
+-- A call of one of the eight, and what it does to the sample buffer.
 pub data Any : Type 0 where
   plain : Export → Any
   in-bands : Banded → Any
+  for-clean : Cleaned → Any
 
 unfoldable pub step : Any → Step
 step (plain c) = Entries.step (Entries.plain (entry c))
 step (in-bands c) = Entries.step (Entries.in-bands (banded c))
+step (for-clean c) = Entries.step (Entries.for-clean (cleaned c))
 
--- A last call: of the plain ones any, in bands one that is done.
+-- A last call: of the plain ones any, in bands and for clean frames one that is done.
 pub data Final : Type 0 where
   last : Export → Final
   last-in-bands : (c : Banded) → c .result .number ≡ 0 → Final
+  last-clean : (c : Cleaned) → Entries.checked (cleaned c) .answered .number ≡ 0 → Final
 
 unfoldable pub final : Final → Returned
 final (last c) = ended (Entries.last (entry c))
 final (last-in-bands c e) = ended (Entries.last-in-bands (banded c) e)
+final (last-clean c e) = ended (Entries.last-clean (cleaned c) e)
 
 -- The claim of `samsung`, for lists of calls of the exports.
 abbrev pub Isolation : Type 0
@@ -102,6 +123,8 @@ pub record OfTheCode (M : Type 1) : Type 2 where
   pub decode-v0-reference-map : direct-map-stated.statement M
   pub decode-v0 : two-phase-stated.statement M
   pub decode-v0-bands : bands-stated.statement M
+  pub decode-v0-clean : clean-stated.statement M
+  pub decode-v0-clean-map : clean-map-stated.statement M
   pub decode-v2 : v2-stated.statement M
   pub decode-v2-map : v2-map-stated.statement M
   pub isolation : Isolation
@@ -115,6 +138,8 @@ of-the-code =
       decode-v0-reference-map = direct-map-thm.met;
       decode-v0 = two-phase-thm.met;
       decode-v0-bands = bands-thm.met;
+      decode-v0-clean = clean-thm.met;
+      decode-v0-clean-map = clean-map-thm.met;
       decode-v2 = v2-thm.met;
       decode-v2-map = v2-map-thm.met;
       isolation = isolation;

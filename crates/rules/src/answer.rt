@@ -59,6 +59,15 @@ impl Answer {
     // V0 into V2: a sample of the decoded frame is marked.
     pub const MARKED: u32 = 16;
 
+    // For clean frames: a block of row 0 or 1 has direction 1.
+    pub const EARLY_UPWARD: u32 = 17;
+
+    // For clean frames: a length is outside 0 to 16 after its block's operations.
+    pub const BAD_LENGTH: u32 = 18;
+
+    // For clean frames: a word was missing by the end of a block.
+    pub const MISSING_WORD: u32 = 19;
+
     // Done, and so many words were missing.
     pub fn done_with(filler: u64) -> Answer
         ensures { λ r. ⌜ r ≡ done-with filler ⌝ }

@@ -1,4 +1,4 @@
--- No earlier frame reaches a sample that is marked 0: the claim of the six entry points.
+-- No earlier frame reaches a sample that is marked 0: the claim of the eight entry points.
 --
 -- Promised. Take every two lists of calls of the entry points, of any decoders, with or without a map, refused ones among them,
 -- each list on one sample buffer: a call is lent the buffer, or the part of it that starts at its first sample, as the call before
@@ -9,13 +9,14 @@
 -- is equal; (d) in V0 a sample marked 1 is the sample that its call found at one position plus an amount, modulo 65,536, both set
 -- by stream, offsets and size alone, and the position is below N.
 -- A call in bands that is done counts as the two-phase call that it equals, by whatever cut and list of steps; the rules' marks are
--- that call's.
+-- that call's. A call for clean frames that is done counts as the direct call that it equals.
 -- Free. How long the lists are and what came before; what the buffers first held; what maps and scratch hold at entry.
--- Not promised. Samples marked 1 in V2, what lies past N, and calls that end with 1 to 4, 11 or 12, which change nothing.
+-- Not promised. Samples marked 1 in V2, what lies past N, and calls that end with 1 to 4, 11, 12 or 17 to 19, which change
+-- nothing.
 --
 -- A call that has returned is what was handed in, what came out, and what the function's own contract, as `src/` states it, says of
 -- them (`Learnt`); that the code meets those contracts is each function's theorem `met`, and `of-the-code` holds all of it together.
-use mathlib.Core.Path.{_≡_}
+use mathlib.Core.Path.{_≡_, refl}
 use mathlib.Core.List.{List, []}
 use mathlib.Core.Option.{none, some}
 use Prim.Native.Nat.{ℕ}
@@ -45,6 +46,15 @@ use Rattle.samsung.proofs.in_bands.decode_v0_bands.Kinds as bands-kinds
 use Rattle.samsung.proofs.in_bands.decode_v0_bands.Reads as bands-reads
 use Rattle.samsung.proofs.in_bands.decode_v0_bands.Statement as bands-stated
 use Rattle.samsung.proofs.in_bands.decode_v0_bands.Met as bands-thm
+use Rattle.profile.proofs.Lists as Clean-lists
+use Rattle.samsung.proofs.clean.decode_v0_clean.Kinds as clean-kinds
+use Rattle.samsung.proofs.clean.decode_v0_clean.Reads as clean-reads
+use Rattle.samsung.proofs.clean.decode_v0_clean.Statement as clean-stated
+use Rattle.samsung.proofs.clean.decode_v0_clean.Met as clean-thm
+use Rattle.samsung.proofs.clean.decode_v0_clean_map.Kinds as clean-map-kinds
+use Rattle.samsung.proofs.clean.decode_v0_clean_map.Reads as clean-map-reads
+use Rattle.samsung.proofs.clean.decode_v0_clean_map.Statement as clean-map-stated
+use Rattle.samsung.proofs.clean.decode_v0_clean_map.Met as clean-map-thm
 use Rattle.samsung.proofs.v2_entries.decode_v2.Kinds as v2-kinds
 use Rattle.samsung.proofs.v2_entries.decode_v2.Reads as v2-reads
 use Rattle.samsung.proofs.v2_entries.decode_v2.Statement as v2-stated
@@ -128,23 +138,56 @@ called c =
 abbrev pub yielded : (c : Banded) → Bands.Yields (called c) (c .result) (now (c .exit .1 .1 .1 .1 .0)) (now (c .exit .1 .1 .1 .1 .1 .0))
 yielded c = c .learnt
 
--- A call of one of the six entry points, and what it does to the sample buffer.
+-- A call of one of the two entry points for clean frames, and what its contract says of it.
+pub data Cleaned : Type 0 where
+  clean : Made clean-kinds.ps clean-kinds.r clean-reads.Learnt → Cleaned
+  clean-map : Made clean-map-kinds.ps clean-map-kinds.r clean-map-reads.Learnt → Cleaned
+
+unfoldable pub checked : Cleaned → Clean-lists.Checked
+checked (clean c) =
+    record {
+      ask = ask Answer.direct (now (c .args .0)) (now (c .args .1 .0)) (c .args .1 .1 .0) (c .args .1 .1 .1 .0);
+      direct = refl;
+      samples = now (c .args .1 .1 .1 .1 .0);
+      map = none;
+      answered = c .result;
+      left = now (c .exit .1 .1 .1 .1 .0);
+      left-map = none;
+      yields = c .learnt;
+    }
+checked (clean-map c) =
+    record {
+      ask = ask Answer.direct (now (c .args .0)) (now (c .args .1 .0)) (c .args .1 .1 .0) (c .args .1 .1 .1 .0);
+      direct = refl;
+      samples = now (c .args .1 .1 .1 .1 .0);
+      map = some (now (c .args .1 .1 .1 .1 .1 .0));
+      answered = c .result;
+      left = now (c .exit .1 .1 .1 .1 .0);
+      left-map = some (now (c .exit .1 .1 .1 .1 .1 .0));
+      yields = c .learnt;
+    }
+
+-- A call of one of the eight entry points, and what it does to the sample buffer.
 pub data Entry : Type 0 where
   plain : Call → Entry
   in-bands : Banded → Entry
+  for-clean : Cleaned → Entry
 
 unfoldable pub step : Entry → Step
 step (plain c) = decodes (returned c)
 step (in-bands c) = Bands-lists.step (called c) (c .result) _ _ (yielded c)
+step (for-clean c) = Clean-lists.step (checked c)
 
--- A last call: of the plain ones any, in bands one that is done.
+-- A last call: of the plain ones any, in bands and for clean frames one that is done.
 pub data Last : Type 0 where
   last : Call → Last
   last-in-bands : (c : Banded) → c .result .number ≡ 0 → Last
+  last-clean : (c : Cleaned) → checked c .answered .number ≡ 0 → Last
 
 unfoldable pub ended : Last → Returned
 ended (last c) = returned c
 ended (last-in-bands c e) = Bands-lists.returned (called c) (c .result) _ _ (yielded c) e
+ended (last-clean c e) = Clean-lists.returned (checked c) e
 
 -- The claim: of every two lists of calls of the entry points.
 abbrev pub Isolation : Type 0
@@ -159,6 +202,8 @@ pub record OfTheCode (M : Type 1) : Type 2 where
   pub decode-v0-reference-map : direct-map-stated.statement M
   pub decode-v0 : phases-stated.statement M
   pub decode-v0-bands : bands-stated.statement M
+  pub decode-v0-clean : clean-stated.statement M
+  pub decode-v0-clean-map : clean-map-stated.statement M
   pub decode-v2 : v2-stated.statement M
   pub decode-v2-map : v2-map-stated.statement M
   pub claim : Isolation
@@ -170,6 +215,8 @@ of-the-code =
       decode-v0-reference-map = direct-map-thm.met;
       decode-v0 = phases-thm.met;
       decode-v0-bands = bands-thm.met;
+      decode-v0-clean = clean-thm.met;
+      decode-v0-clean-map = clean-map-thm.met;
       decode-v2 = v2-thm.met;
       decode-v2-map = v2-map-thm.met;
       claim = isolation;

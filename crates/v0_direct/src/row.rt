@@ -22,7 +22,7 @@ use v0_stream::block::read_block;
 use v0_stream::block::read_block_head;
 
 // Whether a block is an inner one.
-fn is_inner(size: Size, row: usize, col: usize) -> bool
+pub fn is_inner(size: Size, row: usize, col: usize) -> bool
     requires { ⌜ InFrame size row col ⌝ }
     ensures { λ r. ⌜ (r ≡ true → Inner size row col) ⌝ }
 {

@@ -60,8 +60,28 @@ fn runs(entry: &Entry, frame: &Frame) -> Vec<Named> {
     }
 }
 
+/// Razvolk's entries for clean frames, each with the direct one that it is compared with.
+const CLEAN: [(&str, &str); 2] =
+    [("decode_v0_clean", "decode_v0_reference"), ("decode_v0_clean_map", "decode_v0_reference_map")];
+
+/// They run if the frame is clean.
+fn clean<'a>(frame: &'a Frame, buffers: &'a RefCell<Buffers>, contenders: &mut Vec<Contender<'a>>) {
+    let decode = move |mapped: bool| {
+        let Buffers { samples, map, .. } = &mut *buffers.borrow_mut();
+        let map = mapped.then_some(&mut map[..]);
+        compare::clean::compare::razvolk(frame, samples, map).is_ok()
+    };
+    if frame.version == Version::V2 || !decode(false) {
+        return;
+    }
+    for (mapped, (name, direct)) in [false, true].into_iter().zip(CLEAN) {
+        let against = contenders.iter().position(|contender| contender.name == direct).unwrap_or(0);
+        contenders.push(Contender { name, against, run: Box::new(move || decode(mapped)) });
+    }
+}
+
 /// The Rust's decoders of a frame, and Razvolk's entries. Frames that are refused are run, too. The decoder in bands is compared
-/// with Razvolk's own in two phases.
+/// with Razvolk's own in two phases, those for clean frames with its direct ones.
 pub fn of<'a>(frame: &'a Frame, buffers: &'a RefCell<Buffers>) -> Vec<Contender<'a>> {
     let mut contenders = Vec::new();
     for (against, &(name, decode)) in rust(frame.version).iter().enumerate() {
@@ -84,6 +104,7 @@ pub fn of<'a>(frame: &'a Frame, buffers: &'a RefCell<Buffers>) -> Vec<Contender<
             contenders.push(Contender { name, against, run: Box::new(run) });
         }
     }
+    clean(frame, buffers, &mut contenders);
     contenders
 }
 

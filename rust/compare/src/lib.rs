@@ -8,6 +8,7 @@
 pub mod bands;
 pub mod blank;
 pub mod call;
+pub mod clean;
 pub mod convert;
 mod faults;
 pub mod jobs;

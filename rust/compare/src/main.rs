@@ -2,7 +2,8 @@
 
 use compare::call::{Difference, Entry, razvolk, razvolk_in_bands, razvolk_of, with_map};
 use compare::{
-    bands, blank, convert, jobs, lists, missing, planes, reader, record, refusals, states, uploads, v0, v2, write,
+    bands, blank, clean, convert, jobs, lists, missing, planes, reader, record, refusals, states, uploads, v0, v2,
+    write,
 };
 use std::fmt::Display;
 use std::path::Path;
@@ -12,7 +13,7 @@ use streams::Version::{V0, V2};
 
 const USAGE: &str = "usage: compare quick [SEED]
        compare long [SEED]
-       compare reader|states|v0|bands|v2|v2-full|missing|uploads|refusals|lists|planes|write|blank|convert COUNT [SEED]
+       compare reader|states|v0|bands|clean|v2|v2-full|missing|uploads|refusals|lists|planes|write|blank|convert COUNT [SEED]
        compare record FILE           writes recorded calls of the Rust
        compare record-check FILE     finds them equal
        compare jobs FOLDER           writes the job program's cases
@@ -27,7 +28,7 @@ struct Comparison {
     run: fn(u64, u64) -> Result<String, Difference>,
 }
 
-const COMPARISONS: [Comparison; 14] = [
+const COMPARISONS: [Comparison; 15] = [
     Comparison {
         name: "reader",
         quick: 20_000_000,
@@ -51,6 +52,12 @@ const COMPARISONS: [Comparison; 14] = [
         quick: 20_000,
         long: 100_000,
         run: |seed, n| of(&razvolk_in_bands(), |entries| bands::compare(entries, seed, n)),
+    },
+    Comparison {
+        name: "clean",
+        quick: 5_000,
+        long: 500_000,
+        run: |seed, n| Ok(clean::compare(&clean::compare::razvolk, seed, n)?.to_string()),
     },
     Comparison {
         name: "v2",

@@ -18,18 +18,27 @@ pub struct Look<'a> {
     missing: usize,
 }
 
+/// What is wanted of a frame: that it is clean; that it is blanked, with a stated fill or none.
+#[derive(Clone, Copy, Default)]
+pub struct Wanted {
+    pub clean: bool,
+    pub blank: Option<Option<u16>>,
+}
+
 impl<'a> Look<'a> {
-    /// Decodes a frame into the worker's buffer; where there is one to decode `over`, that one first. Where it is to be
-    /// blanked, with a stated fill or none, nothing of what the buffer held before is left in it.
+    /// Decodes a frame into the worker's buffer, a V0 frame only if it is clean where that is wanted; where there is one to
+    /// decode `over`, that one first, clean or not. Where it is to be blanked, with a stated fill or none, nothing of what the
+    /// buffer held before is left in it.
     pub fn at(
         worker: &'a mut Worker,
         frame: &'a Frame<'a>,
         over: Option<&Frame>,
-        blank: Option<Option<u16>>,
+        wanted: Wanted,
     ) -> Result<Look<'a>, String> {
+        let Wanted { clean, blank } = wanted;
         [over, Some(frame)].into_iter().flatten().try_for_each(|frame| worker.make_room(frame))?;
-        let over = over.map(|over| worker.decode(over));
-        let answer = worker.decode(frame);
+        let over = over.map(|over| worker.decode(over, false));
+        let answer = worker.decode(frame, clean);
         let blanked = blank.map(|fill| (fill, worker.blank(fill)));
         let depth = frame.v2_header().map(|header| header.depth).or(frame.bits);
         let &Frame { width, height, model, missing, .. } = frame;
@@ -73,7 +82,7 @@ pub fn seen(file: &[u8]) -> Result<String, Fault> {
         return Ok(report::heading("file", &frame));
     }
     let mut worker = Worker::default();
-    let look = Look::at(&mut worker, &frame, None, None).expect("few samples");
+    let look = Look::at(&mut worker, &frame, None, Wanted::default()).expect("few samples");
     if let Some(decoded) = look.decoded {
         for (form, half) in [(Form::Pgm, false), (Form::Png, false), (Form::Png, true), (Form::Planes, false)] {
             let file = form::file(form, decoded, Picture { half, ..Picture::default() });
@@ -82,7 +91,7 @@ pub fn seen(file: &[u8]) -> Result<String, Fault> {
         stored(decoded);
     }
     let text = look.text("file", &frame);
-    let look = Look::at(&mut worker, &frame, None, Some(Some(9))).expect("few samples");
+    let look = Look::at(&mut worker, &frame, None, Wanted { clean: false, blank: Some(Some(9)) }).expect("few samples");
     if let Some(decoded) = look.decoded {
         let mut each = decoded.samples.iter().zip(decoded.marks.bytes());
         assert!(
@@ -93,14 +102,14 @@ pub fn seen(file: &[u8]) -> Result<String, Fault> {
     Ok(text)
 }
 
-/// Written as V0, a frame is read again: its samples are the same, and all rest on the stream.
+/// Written as V0, a frame is read again, and is clean: its samples are the same, and all rest on the stream.
 fn stored(decoded: Decoded) {
     let file = form::file(Form::V0, decoded, Picture::default());
     assert_eq!(file.is_err(), decoded.samples.iter().any(|&sample| sample > 16_383));
     let Ok(file) = file else { return };
     let frame = srw::frame(&file).expect("a frame");
     let mut worker = Worker::default();
-    let look = Look::at(&mut worker, &frame, None, None).expect("few samples");
+    let look = Look::at(&mut worker, &frame, None, Wanted { clean: true, blank: None }).expect("few samples");
     let again = look.decoded.expect("done");
     assert!(look.status() == 0 && again.samples == decoded.samples);
 }

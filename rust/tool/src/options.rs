@@ -20,6 +20,8 @@ usage: razvolk [OPTIONS] FILE.srw|FOLDER|- ...
   --over FILE.srw  decode this frame first, into the same buffer, as a worker would; else what is written starts from zeros
   --blank [FILL]   set the samples that rest on old values or missing words to FILL, or to 0, tell their runs, and write the
                    frame so
+  --clean          decode a V0 frame only if it is clean: no block of rows 0 and 1 looks up, no length is outside 0 to 16, and
+                   no word is missing; else the first fault is told, and nothing is written
   --jobs N         decode with N workers, one buffer each; else one for each processor
   --json           tell in JSON, one object a frame
 
@@ -72,6 +74,7 @@ pub struct Options {
     pub to_v2: Option<PathBuf>,
     pub force: bool,
     pub picture: Picture,
+    pub clean: bool,
     pub json: bool,
     pub jobs: Option<usize>,
 }
@@ -144,6 +147,7 @@ pub fn read(words: impl IntoIterator<Item = OsString>) -> Result<Asked, String> 
             }
             "--linear" => options.picture.linear = true,
             "--half" => options.picture.half = true,
+            "--clean" => options.clean = true,
             "--json" => options.json = true,
             "--force" => options.force = true,
             "--" => options.files.extend(words.by_ref().map(PathBuf::from)),
@@ -226,10 +230,11 @@ mod tests {
             to_v2: Some("i".into()),
             force: true,
             picture: Picture { white: Some(4_095), linear: true, half: true },
+            clean: true,
             json: true,
             jobs: Some(3),
         };
-        let line = "--over=c.srw --blank 512 a.srw --force --pgm d --png=e=f b=.srw --planes g --write-v0 h --to-v2 i - --white 4095 --json \
+        let line = "--over=c.srw --blank 512 a.srw --force --pgm d --png=e=f b=.srw --planes g --write-v0 h --to-v2 i - --white 4095 --json --clean \
             --linear --half --jobs 3";
         assert_eq!(asked(line), Ok(Asked::Look(options.into())));
         let blank = |blank| Ok(Asked::Look(Options { files: vec!["a".into()], blank, ..Options::default() }.into()));

@@ -3,7 +3,7 @@
 
 use crate::form::{self, Form};
 use crate::input::{self, Identity, Input};
-use crate::look::Look;
+use crate::look::{Look, Wanted};
 use crate::options::{self, Bare, Options};
 use crate::output::{self, Place, Staged};
 use crate::worker::Worker;
@@ -153,8 +153,9 @@ fn decode(worker: &mut Worker, job: &Job, shared: &Shared, text: &mut String) ->
     if !job.outputs.is_empty() {
         worker.clear();
     }
-    let look = Look::at(worker, &frame, over.as_ref().map(|(_, frame)| frame), options.blank)
-        .map_err(|fault| file.fault(fault))?;
+    let over_frame = over.as_ref().map(|(_, frame)| frame);
+    let wanted = Wanted { clean: options.clean, blank: options.blank };
+    let look = Look::at(worker, &frame, over_frame, wanted).map_err(|fault| file.fault(fault))?;
     let marks = look.decoded.map(|decoded| decoded.marks);
     if options.json {
         *text += &json::frame(&job.path, &frame, look.answer, marks, look.blanked.as_ref());

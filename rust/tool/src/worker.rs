@@ -38,11 +38,12 @@ impl Worker {
         self.samples.fill(0);
     }
 
-    /// Decodes a frame over what the buffer holds.
-    pub fn decode(&mut self, frame: &Frame) -> Result<(), Refusal> {
+    /// Decodes a frame over what the buffer holds; a V0 frame, where only clean ones are wanted, if it is clean.
+    pub fn decode(&mut self, frame: &Frame, clean: bool) -> Result<(), Refusal> {
         let Worker { samples, decoder } = self;
         let &Frame { ref coding, width, height, stream, .. } = frame;
         match coding {
+            Coding::V0(offsets) if clean => decoder.decode_v0_clean(stream, offsets, width, height, samples),
             Coding::V0(offsets) => decoder.decode_v0(stream, offsets, width, height, samples),
             Coding::V2 => decoder.decode_v2(stream, width, height, samples),
         }

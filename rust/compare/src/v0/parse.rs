@@ -11,7 +11,12 @@ pub struct Head {
     pub col: usize,
     pub direction: u32,
     pub operations: [u32; 4],
+    /// The lengths before the operations, and after them.
+    pub before: [i64; 4],
     pub lengths: [i64; 4],
+    /// Whether a word was missing after the head, and by the block's end.
+    pub missing_after_head: bool,
+    pub missing_by_end: bool,
 }
 
 /// What a stream lacks: in how many rows, and how many words in all.
@@ -29,6 +34,7 @@ pub fn heads(frame: &Frame, mut each: impl FnMut(Head)) -> Missing {
         let mut reader = Reader::new(&frame.stream, u64::from(frame.offsets[row]));
         let mut lengths = [i64::from(fresh_length(row)); 4];
         for col in (0..width).step_by(16) {
+            let before = lengths;
             let direction = reader.get(1);
             let operations = [0; 4].map(|_| reader.get(2));
             for (length, operation) in lengths.iter_mut().zip(operations) {
@@ -37,10 +43,12 @@ pub fn heads(frame: &Frame, mut each: impl FnMut(Head)) -> Missing {
                     *length = i64::from(reader.get(4));
                 }
             }
+            let missing_after_head = reader.filler() > 0;
             for (_, j) in order().filter(|&(c, _)| !skipped(width, height, row, col, c, direction)) {
                 reader.get(lengths[j].clamp(0, 32) as u32);
             }
-            each(Head { row, col, direction, operations, lengths });
+            let missing_by_end = reader.filler() > 0;
+            each(Head { row, col, direction, operations, before, lengths, missing_after_head, missing_by_end });
         }
         missing.rows += u64::from(reader.filler() > 0);
         missing.words += reader.filler();

@@ -34,7 +34,7 @@ fn a_frame_is_found_and_decoded() {
     (expected.model, expected.bits) = (Some("Razvolk"), Some(14));
     assert_eq!(found, expected);
     let mut worker = worker_for(&[&found]);
-    assert_eq!(worker.decode(&found), Ok(()));
+    assert_eq!(worker.decode(&found, false), Ok(()));
     let (samples, marks) = worker.frame().expect("the frame is done");
     assert!(samples == image && marks.is_clean());
 }
@@ -47,7 +47,7 @@ fn a_band_of_another_frame_is_marked() {
     let files = made.map(|made| srw(&made));
     let [over, band] = [0, 1].map(|i| frame(&files[i]).expect("a frame"));
     let mut worker = worker_for(&[&over, &band]);
-    assert_eq!([worker.decode(&over), worker.decode(&band)], [Ok(()), Ok(())]);
+    assert_eq!([worker.decode(&over, false), worker.decode(&band, false)], [Ok(()), Ok(())]);
     let (samples, marks) = worker.frame().expect("the frame is done");
     assert!(marks.bytes().iter().enumerate().all(|(i, &mark)| mark == u8::from(i < 24 * width)));
     let first = sitting(width, height);
@@ -64,7 +64,7 @@ fn a_v2_frame_is_found_and_decoded() {
     let found = frame(&file).expect("a frame");
     assert_eq!((&found.coding, found.width, found.height), (&Coding::V2, 646, 436));
     let mut worker = worker_for(&[&found]);
-    assert_eq!(worker.decode(&found), Ok(()));
+    assert_eq!(worker.decode(&found, false), Ok(()));
     let (samples, marks) = worker.frame().expect("the frame is done");
     for (i, (sample, mark)) in samples.iter().zip(marks.bytes()).enumerate() {
         let coded = i % 646 < 640;
@@ -131,7 +131,7 @@ fn sizes_without_end_cost_no_memory() {
     for (width, height) in [(u32::MAX as usize, u32::MAX as usize), (16_385, 0), (0, u32::MAX as usize)] {
         let frame = Frame::new(Coding::V2, width, height, &[]);
         let mut worker = worker_for(&[&frame]);
-        assert_eq!(worker.decode(&frame), Err(Refusal::TooLarge));
+        assert_eq!(worker.decode(&frame, false), Err(Refusal::TooLarge));
         assert!(worker.frame().is_none());
     }
     // A size within the decoder's limits may still be too much for a look.

@@ -249,6 +249,30 @@ fn a_frame_that_is_cut_is_not_clean() {
     assert!(text.ends_with(" to 199: 320 of 320 each\n"), "{text}");
 }
 
+/// With `--clean` a V0 frame is decoded if nothing in it is inherited or missing, and else the first fault is told, by rows; V2
+/// goes on as it does.
+#[test]
+fn clean_frames_alone() {
+    let folder = Folder::new("clean");
+    let whole = srw(&v0::encode(&sitting(320, 200), 320, 200));
+    folder.put("whole.srw", &whole);
+    let (status, text, fault) = folder.run("--clean whole.srw");
+    assert_eq!((status, fault.as_str()), (0, ""));
+    assert!(text.contains("\ndone\n"), "{text}");
+    folder.put("cut.srw", &whole[..whole.len() * 2 / 3]);
+    let (status, text, _) = folder.run("--clean --pgm out.pgm cut.srw");
+    let told = text.lines().find(|line| line.starts_with("refused 19: row ")).unwrap_or_else(|| panic!("{text}"));
+    assert!(status == 1 && told.ends_with(" isn't clean: the stream ends in it"), "{text}");
+    assert!(text.ends_with("nothing was decoded\n") && folder.get("out.pgm").is_none(), "{text}");
+    let mut up = Frame::new(Version::V0, 4, 1);
+    up.push_row(&[0, 0, 0x80, 0xff]);
+    folder.put("up.srw", srw(&up));
+    let (status, text, _) = folder.run("--clean --json up.srw");
+    assert!(status == 1 && text.contains("\"answer\":17,\"row\":0,"), "{text}");
+    folder.put("v2.srw", srw(&v2::encode(&sitting(656, 436), 656, 436)));
+    assert_eq!(folder.run("--clean v2.srw").0, folder.run("v2.srw").0);
+}
+
 #[test]
 fn names_do_not_steer_the_terminal() {
     let folder = Folder::new("names");

@@ -1,4 +1,4 @@
--- `mark_old` meets its contract: the bytes before i are 1.
+-- The bytes before i are the byte asked for.
 use Prim.Native.Nat.{ℕ, _≤_, _-_}
 use mathlib.Core.List.{[], _∷_, _++_}
 use mathlib.Core.Path.{_≡_, refl, sym, ap, _∙_}
@@ -7,15 +7,15 @@ use borrow.Author.Needs.{needs}
 use lib.ListN.{length, take, set, replicate, length-set}
 use lib.Seq.{take-suc-set, take-all}
 use native.Mathlib.Numerals.{add-one}
-use Rattle.maps.proofs.MapLaws.{ones-more}
-use Rattle.maps.proofs.mark_old.Statement.{statement}
-use Rattle.maps.proofs.mark_old.Tie as tie
+use Rattle.maps.proofs.MapLaws.{all-more}
+use Rattle.maps.proofs.mark_all.Statement.{statement}
+use Rattle.maps.proofs.mark_all.Tie as tie
 
 abbrev Inv-loop : tie.InvT-loop
-Inv-loop map₀ i₀ map i = (i ≤ length map) × ((length map ≡ length map₀) × (take i map ≡ replicate i 1))
+Inv-loop map₀ byte i₀ map i = (i ≤ length map) × ((length map ≡ length map₀) × (take i map ≡ replicate i byte))
 
 abbrev μ-loop : tie.MeasureT-loop
-μ-loop map₀ i₀ map i = length map - i
+μ-loop map₀ byte i₀ map i = length map - i
 
 loop-holds : tie.Need-loop-holds Inv-loop μ-loop
 loop-holds c = search needs
@@ -34,7 +34,7 @@ loop-again c = (
   simp length-set (omega arith),
   (
     simp length-set (c .before .loop .inv .1 .0),
-    rw add-one (take-suc-set (c .before .loop .map) (c .before .loop .i) 1 (omega arith) ∙ ap (λ xs. xs ++ (1 ∷ [])) (c .before .loop .inv .1 .1) ∙ ones-more (c .before .loop .i)),
+    rw add-one (take-suc-set (c .before .loop .map) (c .before .loop .i) (c .before .before .args .byte) (omega arith) ∙ ap (λ xs. xs ++ ((c .before .before .args .byte) ∷ [])) (c .before .loop .inv .1 .1) ∙ all-more (c .before .before .args .byte) (c .before .loop .i)),
   ),
 )
 
@@ -46,10 +46,10 @@ returns c =
     let e : c .before .loop .i ≡ length (c .before .loop .map) = omega arith in
     let a : take (c .before .loop .i) (c .before .loop .map) ≡ c .before .loop .map = take-all (c .before .loop .i) (c .before .loop .map) (omega arith) in
     let l : c .before .loop .i ≡ length (c .before .before .args .map .now) = e ∙ c .before .loop .inv .1 .0 in
-    sym a ∙ c .before .loop .inv .1 .1 ∙ ap (λ n. replicate n 1) l
+    sym a ∙ c .before .loop .inv .1 .1 ∙ ap (λ n. replicate n (c .before .before .args .byte)) l
 
-pub mark-old-spec : {M : Type 1} → statement M
-mark-old-spec =
+pub mark-all-spec : {M : Type 1} → statement M
+mark-all-spec =
     tie.close
     (tie.spec
     Inv-loop

@@ -1,0 +1,3 @@
+-- The clean-frame profile: what is wrong with a V0 frame, and a call that takes only frames with which nothing is wrong.
+pub mod Profile
+pub mod Clean

@@ -1,0 +1,96 @@
+// The direct V0 decoder for clean frames: the whole stream is checked before a sample is written.
+ghost use mathlib.Core.Path.{_≡_};
+ghost use mathlib.Core.Bool.{cond};
+ghost use mathlib.Core.List.{[]};
+ghost use mathlib.Core.Option.{none, some};
+ghost use lib.Dec.{eqb};
+ghost use Rattle.rules.specs.V0.{decoded};
+ghost use Rattle.rules.specs.Answer.{direct, ask, buffers};
+ghost use Rattle.v0_direct.specs.Lent.{Lends};
+ghost use Rattle.profile.specs.Profile.{verdict};
+ghost use Rattle.profile.specs.Clean.{Yields};
+use maps::mark_all;
+use refusals::Lending;
+use refusals::refuse;
+use refusals::refused;
+use rules::Answer;
+use rules::Size;
+use v0_direct::frame::decode_frame;
+use v0_profile::check_frame;
+
+// A frame's samples, if the profile takes it.
+fn decode_checked(src: &[u8], offsets: &[u32], size: Size, out: &mut [u16]) -> Answer
+    requires { ⌜ Lends size (now offsets) (now out) [] ⌝ }
+    ensures { λ r. ⌜ r ≡ verdict (now (src .entry)) (now (offsets .entry)) size ⌝ }
+    ensures { λ r. ⌜ now (out .exit) ≡ cond (eqb (r .number) 0) (decoded (now (src .entry)) (now (offsets .entry)) size (now (out .entry))) (now (out .entry)) ⌝ }
+{
+    let told = check_frame(src, offsets, size);
+    if told.number != 0 {
+        return told;
+    }
+    let mut no_map = [0u8; 0];
+    decode_frame(src, offsets, size, out, &mut no_map);
+    told
+}
+
+// Decodes a clean V0 frame over what `out` holds. Refusals 1 and 3, then 17 to 19 with their row; each changes nothing.
+pub fn decode_v0_clean(
+    src: &[u8],
+    offsets: &[u32],
+    width: usize,
+    height: usize,
+    out: &mut [u16],
+) -> Answer
+    ensures { λ r. ⌜ Yields (ask direct (now (src .entry)) (now (offsets .entry)) width height)
+        (buffers (now (out .entry)) none none)
+        r (buffers (now (out .exit)) none none) ⌝ }
+{
+    let size = Size { width, height };
+    let refusal = refuse(
+        size,
+        false,
+        out.len(),
+        Lending::Length(offsets.len()),
+        Lending::Nothing,
+        Lending::Nothing,
+    );
+    if refusal != 0 {
+        return refused(refusal);
+    }
+    let n = width * height;
+    decode_checked(src, offsets, size, &mut out[..n])
+}
+
+// The same, with the map, which is all 0. Refusals 1, 3 and 4, then 17 to 19.
+pub fn decode_v0_clean_map(
+    src: &[u8],
+    offsets: &[u32],
+    width: usize,
+    height: usize,
+    out: &mut [u16],
+    map: &mut [u8],
+) -> Answer
+    ensures { λ r. ⌜ Yields (ask direct (now (src .entry)) (now (offsets .entry)) width height)
+        (buffers (now (out .entry)) (some (now (map .entry))) none)
+        r (buffers (now (out .exit)) (some (now (map .exit))) none) ⌝ }
+{
+    let size = Size { width, height };
+    let refusal = refuse(
+        size,
+        false,
+        out.len(),
+        Lending::Length(offsets.len()),
+        Lending::Length(map.len()),
+        Lending::Nothing,
+    );
+    if refusal != 0 {
+        return refused(refusal);
+    }
+    let n = width * height;
+    let verdict = decode_checked(src, offsets, size, &mut out[..n]);
+    if verdict.number != 0 {
+        return verdict;
+    }
+    mark_all(&mut map[..n], 0);
+    verdict
+}

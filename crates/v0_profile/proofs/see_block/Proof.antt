@@ -1,0 +1,43 @@
+-- Either way the block is read to its end: in one go where nothing is skipped, else sample by sample, over a frame of no cells.
+use denote.Ref.{now}
+use borrow.Author.Needs.{needs}
+use Rattle.v0_profile.proofs.BlockLaws.{seen-whole, seen-samples}
+use Rattle.v0_profile.proofs.see_block.Statement.{statement}
+use Rattle.v0_profile.proofs.see_block.Tie as tie
+
+is-inner-requires : tie.Need-is-inner-requires
+is-inner-requires c κs = search needs
+
+read-block-requires : tie.Need-read-block-requires
+read-block-requires c κs = search needs
+
+returns : tie.Need-returns
+returns c = let a = c .before .before .before .before .before .args in seen-whole (now (a .src)) (a .size) (a .row) (a .col) (a .state) (c .before .before .before .is-inner .ensures (c .before .before .if1 .taken)) (c .before .read-block .result) (c .before .read-block .ensures)
+
+read-block-head-requires : tie.Need-read-block-head-requires
+read-block-head-requires c κs = search needs
+
+slice-aggregate-decode-samples : tie.Need-slice-aggregate-decode-samples
+slice-aggregate-decode-samples c = search needs
+
+slice-aggregate-decode-samples-2 : tie.Need-slice-aggregate-decode-samples-2
+slice-aggregate-decode-samples-2 c = search needs
+
+decode-samples-requires : tie.Need-decode-samples-requires
+decode-samples-requires c κs = search needs
+
+returns-2 : tie.Need-returns-2
+returns-2 c = let a = c .before .before .before .before .before .before .before .before .before .before .before .args in let h = c .before .before .before .before .before .before .before .read-block-head in seen-samples (now (a .src)) (a .size) (a .row) (a .col) (a .state) (h .result) (c .before .before .before .before .decode-samples .result) (h .ensures) (c .before .before .before .before .decode-samples .ensures .0)
+
+pub see-block-spec : {M : Type 1} → statement M
+see-block-spec =
+    tie.close
+    (tie.spec
+    is-inner-requires
+    read-block-requires
+    returns
+    read-block-head-requires
+    slice-aggregate-decode-samples
+    slice-aggregate-decode-samples-2
+    decode-samples-requires
+    returns-2)

@@ -1,0 +1,15 @@
+-- What the check is lent: a frame's size within the limits, with an offset for each row; and a row of it.
+use Prim.Native.Nat.{ℕ, _≤_, _<_}
+use mathlib.Core.List.{List}
+use lib.ListN.{length}
+use Rattle.rules.specs.declared.answer.Size.{Size}
+
+pub record Lends (z : Size) (offsets : List ℕ) : Type 0 where
+  pub width : z .width ≤ 16_384
+  pub height : z .height ≤ 16_384
+  pub offsets-enough : z .height ≤ length offsets
+
+pub record InRow (z : Size) (row : ℕ) : Type 0 where
+  pub width : z .width ≤ 16_384
+  pub height : z .height ≤ 16_384
+  pub row-in : row < z .height
