@@ -1,24 +1,24 @@
 -- What the loops over a row keep: what is done, with what is left from here, is the whole row's.
 use mathlib.Core.Path.{_≡_, refl, sym, ap, ap₂, _∙_}
-use mathlib.Core.Bool.{Bool, true, false, _&&_, not, cond}
+use mathlib.Core.Bool.{true, false, _&&_, not, cond}
 use mathlib.Core.List.{List, [], _∷_, _++_, append-nil}
 use Prim.Native.Nat.{ℕ, zero, suc, _+_, _-_, _*_, _≤_, _<_}
 use native.Mathlib.Omega.{arith}
 use native.Mathlib.Numerals.{add-one}
 use native.Mathlib.Nat.{add-zero, zero-add}
 use lib.Dec.{ltb}
-use lib.ListN.{length, getD, take, drop, set, length-set, length-append, length-drop, drop-of-length-le, List·getD-append}
+use lib.ListN.{length, getD, take, drop, set, length-set, length-drop, drop-of-length-le, List·getD-append}
 use lib.Seq.{sets, length-sets, drop-cons, take-suc, set-at, getD-take, getD-drop, take-all, length-take-le, append-snoc, ext-getD}
 use borrow.Author.Tests.{le-ltb}
 use Rattle.rules.specs.Frame.{tabulate}
 use Rattle.blanking.specs.declared.Tally.{Tally}
-use Rattle.blanking.specs.Blanking.{Fill, marked, bit, count, unstated, blank-row, run, Run, stretch, runs-from, row-runs, numbers}
-use Rattle.blanking.specs.Lent.{tally, greatest, meant, left-of, turns, by-turns, RowLent}
+use Rattle.blanking.specs.Blanking.{Fill, marked, bit, count, unstated, blank-row, run, stretch, runs-from, row-runs, numbers}
+use Rattle.blanking.specs.Lent.{tally, greatest, meant, left-of, turns, by-turns}
 use Rattle.blanking.specs.declared.Filling.{Filling}
 use Rattle.blanking.specs.declared.Filling.the-variants.{Stated, Unstated}
 use Rattle.blanking.specs.declared.Turns.{Turns}
 use Rattle.blanking.proofs.ByteLaws.{bit-most, bit-set, start-is, left-more, none-marked, count-none}
-use Rattle.blanking.proofs.RunLaws.{runs-step, runs-none, runs-most, left-at, left-passed, left-run, numbers-length, stretch-most, stretch-marked}
+use Rattle.blanking.proofs.RunLaws.{runs-step, runs-none, left-at, left-passed, left-run, stretch-most, stretch-marked}
 
 -- ── Counting ──
 
@@ -179,6 +179,11 @@ unfolding meant unstated
 by-turns-fill (Stated v) row map c e = refl
 by-turns-fill Unstated row map c e = rw e
 
+-- What a blanked sample is, the next of its parity is set to, if it is marked.
+unstated-next : (row map : List ℕ) (c : ℕ) → c < length row → getD (blank-row unstated row map) c 0 ≡ unstated row map (suc (suc c))
+unfolding unstated
+unstated-next row map c h = blank-row-get unstated row map c h
+
 left-is : (row : List ℕ) (i c by : ℕ) → i ≡ c + by → left-of row i by ≡ getD row c 0
 unfolding left-of
 left-is row i c by e = let back : i - by ≡ c = omega arith in rw (le-ltb i by (omega arith), back)
@@ -190,18 +195,13 @@ module _ (fill : Filling) (row₀ map : List ℕ) where
   long : length want ≡ length row₀
   long = blank-row-length (meant fill) row₀ map
 
-  -- What a blanked sample is needs no search: it is what the next of its parity is set to.
-  pub unstated-next : (c : ℕ) → c < length row₀ → getD (blank-row unstated row₀ map) c 0 ≡ unstated row₀ map (suc (suc c))
-  unfolding unstated
-  unstated-next c h = blank-row-get unstated row₀ map c h
-
   -- These two values are read off, where all before the run is set.
   pub turns-are : {row : List ℕ} {i : ℕ} → Filled want row₀ row i → (turns fill row i .first ≡ meant fill row₀ map i) × (turns fill row i .second ≡ meant fill row₀ map (suc i))
   unfolding turns meant unstated left-of
   turns-are {row} {i} f = go fill i f
     where
       before : (c i : ℕ) → Filled (blank-row unstated row₀ map) row₀ row i → c < i → getD row c 0 ≡ unstated row₀ map (suc (suc c))
-      before c i f h = filled-get (blank-row-length unstated row₀ map) f c h ∙ unstated-next c (omega (arith, f .below))
+      before c i f h = filled-get (blank-row-length unstated row₀ map) f c h ∙ unstated-next row₀ map c (omega (arith, f .below))
 
       go : (fill : Filling) (i : ℕ) → Filled (blank-row (meant fill) row₀ map) row₀ row i
           → (turns fill row i .first ≡ meant fill row₀ map i) × (turns fill row i .second ≡ meant fill row₀ map (suc i))

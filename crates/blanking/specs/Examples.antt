@@ -32,14 +32,12 @@ examples =
     -- A run ends with its row, though the next row begins marked; the list's last number and the last sample stay.
     example (call (stated 5) frame marks 4 2 list) (blanked-done 4 3)
     (5 ∷ 11 ∷ 5 ∷ 5 ∷ 5 ∷ 21 ∷ 22 ∷ 23 ∷ 99 ∷ []) (0 ∷ 0 ∷ 1 ∷ 0 ∷ 2 ∷ 2 ∷ 1 ∷ 0 ∷ 1 ∷ 7 ∷ [])
-    -- No stated fill: nothing lies to the left of a row's first two columns, and 12's only neighbour of its parity is marked; 13's is
-    -- 11. The second row takes nothing from the first.
+    -- No stated fill: nothing lies to the left of a row's first two columns, and 12 has only a marked one there; 13 takes 11.
     ∷ example (call unstated frame marks 4 2 list) (blanked-done 4 3)
     (0 ∷ 11 ∷ 0 ∷ 11 ∷ 0 ∷ 21 ∷ 22 ∷ 23 ∷ 99 ∷ []) (0 ∷ 0 ∷ 1 ∷ 0 ∷ 2 ∷ 2 ∷ 1 ∷ 0 ∷ 1 ∷ 7 ∷ [])
-    -- The nearest that isn't marked, by turns of the columns' parity, and across marked ones; one that is set is no source of another
-    -- value, and one that isn't marked is kept.
-    ∷ example (call unstated (10 ∷ 11 ∷ 12 ∷ 13 ∷ 14 ∷ 15 ∷ 16 ∷ 17 ∷ 18 ∷ 19 ∷ []) (0 ∷ 0 ∷ 0 ∷ 1 ∷ 1 ∷ 1 ∷ 0 ∷ 1 ∷ 1 ∷ 0 ∷ []) 10 1 list) (blanked-done 5 2)
-    (10 ∷ 11 ∷ 12 ∷ 11 ∷ 12 ∷ 11 ∷ 16 ∷ 11 ∷ 16 ∷ 19 ∷ []) (0 ∷ 3 ∷ 3 ∷ 0 ∷ 7 ∷ 2 ∷ 7 ∷ 7 ∷ 7 ∷ 7 ∷ [])
+    -- The nearest of the column's parity, across marked ones; a row takes nothing from the one above.
+    ∷ example (call unstated (10 ∷ 11 ∷ 12 ∷ 13 ∷ 14 ∷ 15 ∷ 20 ∷ 21 ∷ 22 ∷ 23 ∷ 24 ∷ 25 ∷ []) (0 ∷ 0 ∷ 1 ∷ 1 ∷ 1 ∷ 0 ∷ 1 ∷ 0 ∷ 0 ∷ 1 ∷ 1 ∷ 1 ∷ []) 6 2 list)
+    (blanked-done 7 3) (10 ∷ 11 ∷ 10 ∷ 11 ∷ 10 ∷ 15 ∷ 0 ∷ 21 ∷ 22 ∷ 21 ∷ 22 ∷ 21 ∷ []) (0 ∷ 2 ∷ 3 ∷ 1 ∷ 0 ∷ 1 ∷ 1 ∷ 3 ∷ 3 ∷ 7 ∷ [])
     -- A sample that holds the fill already is counted.
     ∷ example (call (stated 10) (10 ∷ 11 ∷ []) (1 ∷ 0 ∷ []) 2 1 (7 ∷ 7 ∷ 7 ∷ [])) (blanked-done 1 1) (10 ∷ 11 ∷ []) (0 ∷ 0 ∷ 1 ∷ [])
     -- A map without marks sets nothing and lists nothing; and a frame of no samples.

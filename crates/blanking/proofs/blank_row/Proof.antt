@@ -1,8 +1,6 @@
 -- Where the greatest byte is 0 nothing is marked; else both are done.
-use mathlib.Core.Path.{sym, ap, _∙_}
-use native.Mathlib.Omega.{arith}
+use mathlib.Core.Path.{sym, _∙_}
 use Rattle.blanking.specs.Lent.{meant}
-use Rattle.blanking.proofs.RunLaws.{runs-none}
 use Rattle.blanking.proofs.RowLaws.{blank-row-none, nothing-listed}
 use borrow.Author.Needs.{needs}
 use Rattle.blanking.proofs.blank_row.Statement.{statement}
