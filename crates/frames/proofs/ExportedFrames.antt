@@ -18,10 +18,10 @@ use Rattle.blanking.specs.Blanking.{stated}
 use Rattle.blanking.specs.Calls as Blank
 use Rattle.blanking.proofs.EachSample.{stated-clean}
 use Rattle.blanking.proofs.Isolation.{Blanks, Follows, Done, SameBlanked, blanked-isolation}
-use Rattle.writers.specs.Writer.{stream-for, offsets-for}
+use Rattle.writers.specs.Writer.{residuals, stream-for, offsets-for}
 use Rattle.writers.specs.Calls as Write
 use Rattle.writers.proofs.Decoded.{done-passed}
-use Rattle.writers.proofs.V0RoundTrip.{offsets-length}
+use Rattle.writers.proofs.Rows.{offsets-length}
 use Rattle.frames.specs.declared.export.Exported.{Exported}
 use Rattle.frames.specs.Export.{Export, write, if-blanked, export-answer, stream-after, offsets-after, Yields}
 use Rattle.frames.proofs.ExportLaws.{number-is}
@@ -115,7 +115,7 @@ module _ (e : Exports) (done : e .answered .answer .number ≡ 0) where
   offsets-is =
       ap (take (z .height)) (e .yields .offsets-left ∙ rw (both .0, both .1))
       ∙ ap (λ f. take (z .height) (offsets-for z f ++ drop (length (offsets-for z f)) (e .export .offsets))) frame
-      ∙ take-at (offsets-for z (take (cells z) (e .samples))) _ (z .height) (offsets-length (z .width) (exchange sample-kind z (take (cells z) (e .samples))) (z .height) 0 0)
+      ∙ take-at (offsets-for z (take (cells z) (e .samples))) _ (z .height) (offsets-length (residuals (z .width) (exchange sample-kind z (take (cells z) (e .samples)))) (z .height) 0 0)
 
 -- ── Two of them ──
 
