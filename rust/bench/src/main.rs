@@ -49,7 +49,7 @@ fn tell_how(runs: usize) {
     );
     println!(
         "ratio: time divided by the Rust's, decode_v0_reference for direct and for writers, decode_v0_with(.., false) for \
-         two-phase; of decode_v0_bands, with 8 bands and blocks of 256 columns, by decode_v0's"
+         two-phase; of decode_v0_bands, with 8 bands and blocks of 256 columns, by decode_v0's; of blank by blank_with's"
     );
 }
 
