@@ -100,13 +100,15 @@ fuzz: $(made)/tests/hostile frames
 frames: $(archive)
 	$(cargo_run) --quiet -p razvolk-tool --example frames -- target/made/frames
 
-# The pictures in the README: a frame with upward blocks from row 0 on, decoded over another, and blanked; and an upload that broke
-# off at half its height. Samples of them are old, or made of missing words: status 3.
+# The pictures in the README: a frame with upward blocks from row 0 on, decoded over another, blanked, and blanked softly; and an
+# upload that broke off at half its height. Samples of them are old, or made of missing words: status 3.
 picture: frames
 	$(cargo_run) --quiet -p razvolk-tool -- --over target/made/frames/sitting.srw target/made/frames/christening.srw \
 		--force --png ../docs/marked.png || [ $$? -eq 3 ]
 	$(cargo_run) --quiet -p razvolk-tool -- --over target/made/frames/sitting.srw target/made/frames/christening.srw \
 		--blank 6000 --force --png ../docs/blanked.png || [ $$? -eq 3 ]
+	$(cargo_run) --quiet -p razvolk-tool -- --over target/made/frames/sitting.srw target/made/frames/corner.srw \
+		--blank --force --png ../docs/softened.png || [ $$? -eq 3 ]
 	$(cargo_run) --quiet -p razvolk-tool -- target/made/frames/upload.srw --force --png ../docs/upload.png || [ $$? -eq 3 ]
 
 # Some thousand frames in one process, through one decoder: memory must stay flat.

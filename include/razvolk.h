@@ -213,10 +213,10 @@ typedef struct {
     uint64_t length;
 } razvolk_exported;
 
-/* Blanking: of a decoded frame and its map, every sample whose byte isn't 0 is set to 0, or to a fill that is stated. After that
- * nothing of an earlier frame is left in the frame, and nothing made of missing words. The list gets the runs of such samples,
- * each as long as can be within its row, in reading order: row, first column and length, three numbers each. The map is only
- * read.
+/* Blanking: of a decoded frame and its map, every sample whose byte isn't 0 is set to a fill that is stated, or else to the nearest
+ * sample to its left in the row, at a column of the same parity, that isn't marked, or to 0 if there is none. After that nothing of
+ * an earlier frame is left in the frame, and nothing made of missing words. The list gets the runs of such samples, each as long as
+ * can be within its row, in reading order: row, first column and length, three numbers each. The map is only read.
  * 0                the marked ones of the first N samples are set, `count` of them, those that held the fill among them; the
  *                  first 3 times `runs` numbers of the list are the runs, and those past them are as before
  * 1, 3, 4, 14, 13  nothing is written, neither samples nor list */
@@ -225,10 +225,10 @@ razvolk_blanked razvolk_blank(uint16_t *samples, size_t samples_len, const uint8
 razvolk_blanked razvolk_blank_with(uint16_t *samples, size_t samples_len, const uint8_t *map, size_t map_len, size_t width,
                                    size_t height, uint16_t fill, uint32_t *runs, size_t runs_len);
 
-/* The archive export: a frame is blanked as by razvolk_blank, and then written as by razvolk_write_v0.
- * 0                samples, list and both counts as of razvolk_blank; stream, offsets and `length` as of razvolk_write_v0
+/* The archive export: a frame is blanked as by razvolk_blank_with with fill 0, and then written as by razvolk_write_v0.
+ * 0                samples, list and both counts as of that; stream, offsets and `length` as of razvolk_write_v0
  * 1, 3, 4, 14, 13  nothing is written
- * 9, 10            samples, list and both counts as of razvolk_blank; nothing is written to stream and offsets, `length` is 0 */
+ * 9, 10            samples, list and both counts as of that; nothing is written to stream and offsets, `length` is 0 */
 razvolk_exported razvolk_export_v0(uint16_t *samples, size_t samples_len, const uint8_t *map, size_t map_len, size_t width,
                                    size_t height, uint32_t *runs, size_t runs_len, uint8_t *stream, size_t stream_len,
                                    uint32_t *offsets, size_t offsets_len);

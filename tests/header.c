@@ -248,7 +248,8 @@ static void blank(void) {
            "the marked samples are the fill");
     expect(memcmp(list, told, sizeof list) == 0, "the runs, and what lies past them as it was");
     blanked = razvolk_blank(frame, 7, marked, 6, 3, 2, list, 6);
-    expect(blanked.answer.number == 0 && blanked.count == 3 && frame[1] == 0 && frame[4] == 0 && frame[3] == 6, "blank");
+    expect(blanked.answer.number == 0 && blanked.count == 3 && frame[1] == 0 && frame[2] == 5 && frame[4] == 0 && frame[3] == 6,
+           "blank takes what lies two to the left, or 0");
     blanked = razvolk_blank(frame, 7, (const uint8_t *)"\0\1\0\0\0\4", 6, 3, 2, list, 0);
     expect(blanked.answer.number == RAZVOLK_BAD_MAP, "a map byte 4 is refused by 14, before 13");
     memcpy(frame, old, sizeof frame);

@@ -855,6 +855,17 @@ static uint32_t unblankable(slice samples, slice map, size_t width, size_t heigh
     return list < 3 * told_runs ? 13 : 0;
 }
 
+/* What a marked sample is set to where no fill is stated: the nearest to the left in its row, of its parity, that isn't marked. */
+static uint16_t nearest(slice old, slice map, size_t width, size_t i) {
+    uint16_t sample = 0;
+    for (size_t by = 2; by <= i % width; by += 2)
+        if (map.data[i - by] == 0) {
+            memcpy(&sample, old.data + 2 * (i - by), 2);
+            break;
+        }
+    return sample;
+}
+
 /* Blanks a frame, stated or not, or exports it, and checks all that is answered and left. */
 static void play_blanking(void) {
     size_t width = below(60) == 0 ? 16385 + below(2) * (SIZE_MAX - 20000) : below(70), height = below(12);
@@ -894,7 +905,9 @@ static void play_blanking(void) {
     for (size_t i = 0; i < lent; i++) {
         uint16_t was, is;
         memcpy(&was, old.data + 2 * i, 2), memcpy(&is, samples.data + 2 * i, 2);
-        expect(is == (refused == 0 && i < n && map.data[i] != 0 ? fill : was), "marked samples are the fill, the others stay");
+        int set = refused == 0 && i < n && map.data[i] != 0;
+        uint16_t to = !set ? was : kind == 0 ? nearest(old, map, width, i) : fill;
+        expect(is == to, "marked samples are the fill, the others stay");
     }
     expect(same(list_lent.data, (const uint8_t *)told, 12 * runs), "the runs are listed");
     for (size_t i = 12 * runs; i < list_lent.bytes; i++)

@@ -1,5 +1,4 @@
-//! Blanking: samples that don't rest on bytes of the stream only are set to a flat value, and the archive export stands over
-//! that.
+//! Blanking: samples that don't rest on bytes of the stream only are set to a fill, and the archive export stands over that.
 
 use crate::{Refusal, ffi};
 
@@ -21,10 +20,11 @@ pub struct Exported {
     pub written: Result<usize, Refusal>,
 }
 
-/// Sets every marked sample of a frame, decoded into the first `width * height` samples together with its map, to 0, and lists
-/// the runs of marked samples in reading order: row, first column and length, three numbers each. Marked is every byte that isn't
-/// 0, for old values or for missing words. The map is only read; what lies past the runs in the list, and past the frame in the
-/// samples, stays as it was.
+/// Sets every marked sample of a frame, decoded into the first `width * height` samples together with its map, to the nearest
+/// sample to its left in the row, at a column of the same parity, that isn't marked, or to 0 if there is none; and lists the runs
+/// of marked samples in reading order: row, first column and length, three numbers each. Marked is every byte that isn't 0, for
+/// old values or for missing words. The map is only read; what lies past the runs in the list, and past the frame in the samples,
+/// stays as it was.
 ///
 /// After decoding, nothing of an earlier frame is left in a blanked one, and nothing made of missing words. [`crate::Decoder::blank`] keeps map and list for the
 /// caller.
@@ -40,6 +40,10 @@ pub struct Exported {
 /// assert_eq!((blanked.count, blanked.runs), (3, 2));
 /// assert_eq!(samples, [0, 131, 0, 0]);
 /// assert_eq!(runs, [0, 0, 1, 1, 0, 2, 9]);
+///
+/// let mut row = [10, 11, 12, 13, 14, 15];
+/// razvolk::blank(&mut row, &[0, 0, 1, 1, 1, 0], 6, 1, &mut runs)?;
+/// assert_eq!(row, [10, 11, 10, 11, 10, 15]);
 /// # Ok::<(), razvolk::Refusal>(())
 /// ```
 pub fn blank(
@@ -52,7 +56,7 @@ pub fn blank(
     ffi::razvolk_blank(samples, map, width, height, runs).result()
 }
 
-/// The same with a stated fill.
+/// Sets them to a stated fill.
 ///
 /// # Errors
 ///
@@ -75,7 +79,7 @@ pub fn blank_with(
     ffi::razvolk_blank_with(samples, map, width, height, fill, runs).result()
 }
 
-/// The archive export: blanks a frame as [`blank`] does, and writes it as [`crate::write_v0`] does. What is stored so holds
+/// The archive export: blanks a frame as [`blank_with`] does with fill 0, and writes it as [`crate::write_v0`] does. What is stored so holds
 /// nothing of an earlier frame.
 ///
 /// # Errors
@@ -152,6 +156,20 @@ mod tests {
         assert_eq!((blanked.count, told), (6, runs));
         assert_eq!(samples, [0, 7, 0, 0, 0, 0, 7, 0, 7, 7, 7, 7]);
         assert_eq!(list[12..], [9; 6]);
+    }
+
+    /// The nearest unmarked sample of its parity, across marked ones, never of another row; the export states 0.
+    #[test]
+    fn with_no_stated_fill_the_left_neighbours_are_taken() {
+        let map = [0, 0, 0, 1, 1, 1, 0, 1, 1, 0, 1, 1, 1, 0, 1, 0, 1, 1, 0, 1];
+        let row: Vec<u16> = (10..30).collect();
+        let (mut samples, mut runs) = (row.clone(), [0; 30]);
+        blank(&mut samples, &map, 10, 2, &mut runs).expect("done");
+        assert_eq!(samples, [10, 11, 12, 11, 12, 11, 16, 11, 16, 19, 0, 0, 0, 23, 0, 25, 0, 25, 28, 25]);
+        let (mut stated, mut exported) = (row.clone(), row);
+        blank_with(&mut stated, &map, 10, 2, 0, &mut runs).expect("done");
+        export_v0(&mut exported, &map, 10, 2, &mut runs, &mut [0; 200], &mut [0; 2]).expect("done");
+        assert_eq!(exported, stated);
     }
 
     /// 9 and 10 leave the frame blanked and write nothing.

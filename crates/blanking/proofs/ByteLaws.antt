@@ -24,6 +24,11 @@ unfolding marked
 other-marked zero n = absurd (n refl)
 other-marked (suc b) n = lt-ltb 0 (suc b) (omega arith)
 
+-- A byte that doesn't mark is 0.
+pub unmarked-zero : (b : ℕ) → marked b ≡ false → b ≡ 0
+unfolding marked
+unmarked-zero b e = let k = ltb-false 0 b e in omega arith
+
 pub bit-most : (t : Bool) → bit t ≤ 1
 unfolding bit
 bit-most true = omega arith

@@ -15,7 +15,7 @@ use Rattle.rules.specs.Frame.{cells, tabulate}
 use Rattle.rules.proofs.Cells.{All, all-append, all-take, all-drop, all-get}
 use Rattle.rules.proofs.Cells.All.{nil, more}
 use Rattle.rules.proofs.Tests.{clash}
-use Rattle.blanking.specs.Blanking.{Fill, stated, marked, blank-row, blank-rows, blanked}
+use Rattle.blanking.specs.Blanking.{Fill, stated, unstated, marked, blank-row, blank-rows, blanked}
 use Rattle.blanking.proofs.RowLaws.{blank-row-length, blank-row-get}
 
 -- ── How many there are ──
@@ -85,28 +85,6 @@ module _ (z : Size) (f m : List ℕ) (l : length f ≡ cells z) (i : ℕ) (h : i
   pub marked-filled : (v : ℕ) → marked (getD m i 0) ≡ true → getD (blanked (stated v) z f m) i 0 ≡ v
   marked-filled v e = blanked-at (stated v) v (z .width) (z .height) f m i below whole (λ t row map c. refl) ∙ rw e
 
-  pub stated-at : (v : ℕ) → getD (blanked (stated v) z f m) i 0 ≡ cond (marked (getD m i 0)) v (getD f i 0)
-  stated-at v = blanked-at (stated v) v (z .width) (z .height) f m i below whole (λ t row map c. refl)
-
--- ── Twice ──
-
--- Blanking twice is blanking once.
-pub blanked-twice : (z : Size) (f m : List ℕ) → length f ≡ cells z → (v : ℕ) → blanked (stated v) z (blanked (stated v) z f m) m ≡ blanked (stated v) z f m
-blanked-twice z f m l v = ext-getD 0 _ _ (blank-rows-length (stated v) (z .width) (z .height) once m) (λ i h. each i (omega (arith, h, blank-rows-length (stated v) (z .width) (z .height) once m, long)))
-  where
-    once : List ℕ
-    once = blanked (stated v) z f m
-
-    long : length once ≡ cells z
-    long = blank-rows-length (stated v) (z .width) (z .height) f m ∙ l
-
-    same : (t : Bool) (x : ℕ) → cond t v (cond t v x) ≡ cond t v x
-    same true x = refl
-    same false x = refl
-
-    each : (i : ℕ) → i < cells z → getD (blanked (stated v) z once m) i 0 ≡ getD once i 0
-    each i h = stated-at z once m long i h v ∙ ap (cond (marked (getD m i 0)) v) (stated-at z f m l i h v) ∙ same (marked (getD m i 0)) (getD f i 0) ∙ sym (stated-at z f m l i h v)
-
 -- ── 16-bit samples stay such ──
 
 abbrev Small : List ℕ → Type 0
@@ -118,6 +96,16 @@ Fits fill = (row map : List ℕ) → Small row → (c : ℕ) → fill row map c 
 
 pub stated-fits : (v : ℕ) → v < 65_536 → Fits (stated v)
 stated-fits v h row map s c = h
+
+pub unstated-fits : Fits unstated
+unfolding unstated
+unstated-fits row map s zero = lit< tt
+unstated-fits row map s (suc zero) = lit< tt
+unstated-fits row map s (suc (suc c)) = go (marked (getD map c 0)) (unstated-fits row map s c)
+  where
+    go : (t : Bool) → unstated row map c < 65_536 → cond t (unstated row map c) (getD row c 0) < 65_536
+    go true h = h
+    go false h = all-get (λ x. x < 65_536) s c 0 (lit< tt)
 
 all-tabulate : (n i : ℕ) (f : ℕ → ℕ) → ((k : ℕ) → f k < 65_536) → Small (tabulate n i f)
 unfolding tabulate
@@ -152,6 +140,17 @@ Clean fill = (row row′ map : List ℕ) → length row ≡ length row′ → Ag
 
 pub stated-clean : (v : ℕ) → Clean (stated v)
 stated-clean v row row′ map l a c = refl
+
+pub unstated-clean : Clean unstated
+unfolding unstated
+unstated-clean row row′ map l a zero = refl
+unstated-clean row row′ map l a (suc zero) = refl
+unstated-clean row row′ map l a (suc (suc c)) = go (marked (getD map c 0)) refl (unstated-clean row row′ map l a c)
+  where
+    go : (t : Bool) → marked (getD map c 0) ≡ t → unstated row map c ≡ unstated row′ map c
+        → cond t (unstated row map c) (getD row c 0) ≡ cond t (unstated row′ map c) (getD row′ c 0)
+    go true e again = again
+    go false e again = a c e
 
 module _ (fill : Fill) (clean : Clean fill) where
   row-same : (row row′ map : List ℕ) → length row ≡ length row′ → Agree map row row′ → blank-row fill row map ≡ blank-row fill row′ map
@@ -190,3 +189,16 @@ module _ (fill : Fill) (clean : Clean fill) where
   -- Nothing of the marked samples is left.
   pub blanked-same : (z : Size) (f g m : List ℕ) → length f ≡ cells z → length g ≡ cells z → Agree m f g → blanked fill z f m ≡ blanked fill z g m
   blanked-same z f g m l e a = rows-same (z .width) (z .height) f g m (l ∙ mul-comm (z .width) (z .height)) (l ∙ sym e) a
+
+  -- Blanking twice is blanking once.
+  pub blanked-twice : (z : Size) (f m : List ℕ) → length f ≡ cells z → blanked fill z (blanked fill z f m) m ≡ blanked fill z f m
+  blanked-twice z f m l = blanked-same z (blanked fill z f m) f m long l (λ i e. go i e (ltb i (cells z)) refl)
+    where
+      long : length (blanked fill z f m) ≡ cells z
+      long = blank-rows-length fill (z .width) (z .height) f m ∙ l
+
+      go : (i : ℕ) → marked (getD m i 0) ≡ false → (t : Bool) → ltb i (cells z) ≡ t → getD (blanked fill z f m) i 0 ≡ getD f i 0
+      go i e true q = unmarked-kept z f m l i (ltb-true i (cells z) q) fill e
+      go i e false q =
+          let k = ltb-false i (cells z) q in
+          List·getD-eq-default (blanked fill z f m) 0 (omega (arith, k, long)) ∙ sym (List·getD-eq-default f 0 (omega (arith, k, l)))

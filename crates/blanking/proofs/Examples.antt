@@ -3,7 +3,7 @@ use mathlib.Core.Path.{_≡_, refl}
 use mathlib.Core.List.{map}
 use Rattle.rules.specs.Frame.{tabulate}
 use Rattle.rules.specs.Answer.{too-large}
-use Rattle.blanking.specs.Blanking.{marked, strange, bad-map, bit, count, blank-row, blank-rows, stretch, runs-from, rows-runs, numbers}
+use Rattle.blanking.specs.Blanking.{marked, strange, bad-map, bit, count, unstated, blank-row, blank-rows, stretch, runs-from, rows-runs, numbers}
 use Rattle.blanking.specs.Calls.{short-runs, refusal, blank-answer, unless-refused, samples-after, runs-after}
 use Rattle.blanking.specs.Examples.{examples}
 
@@ -12,7 +12,7 @@ unfolding examples too-large marked strange bad-map bit count stretch runs-from 
 answers-hold = refl
 
 pub samples-hold : map (λ e. samples-after (e .asked)) examples ≡ map (λ e. e .samples) examples
-unfolding examples tabulate too-large marked strange bad-map blank-row blank-rows stretch runs-from rows-runs short-runs refusal unless-refused samples-after
+unfolding examples tabulate too-large marked strange bad-map unstated blank-row blank-rows stretch runs-from rows-runs short-runs refusal unless-refused samples-after
 samples-hold = refl
 
 pub runs-hold : map (λ e. runs-after (e .asked)) examples ≡ map (λ e. e .runs) examples

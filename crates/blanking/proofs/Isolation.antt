@@ -24,6 +24,7 @@ use Rattle.rules.proofs.Isolation.{Returned, Samples, Step, Calls, Alike, Ran, 
 use Rattle.blanking.specs.declared.Blanked.{Blanked}
 use Rattle.blanking.specs.Blanking.{Fill, marked, bad-map, count, blanked, runs-of, numbers}
 use Rattle.blanking.specs.Calls.{Call, frame-of, marks-of, found, short-runs, refusal, refused, blanked-done, blank-answer, unless-refused, samples-after, runs-after, Yields}
+use Rattle.blanking.proofs.ByteLaws.{unmarked-zero}
 use Rattle.blanking.proofs.EachSample.{Clean, Fits, blank-rows-length, blank-rows-below, blanked-same}
 use Rattle.blanking.proofs.RunLaws.{numbers-length}
 
@@ -114,11 +115,6 @@ module _ (b : Blanks) (done : Done b) where
       ∙ take-at (numbers (found (b .call))) (drop (3 * length (found (b .call))) (b .call .runs)) (3 * length (found (b .call))) (numbers-length (found (b .call)))
 
 -- ── Two of them ──
-
--- A byte that doesn't mark is 0.
-unmarked-zero : (b : ℕ) → marked b ≡ false → b ≡ 0
-unfolding marked
-unmarked-zero b e = let k = ltb-false 0 b e in omega arith
 
 module _ (c d : Returned) (same : Same c d) (ask : c .ask ≡ d .ask) (p q : Blanks) (f : Follows c p) (g : Follows d q)
     (fill : p .call .fill ≡ q .call .fill) (clean : Clean (p .call .fill)) (ok : Done p) (ok′ : Done q) where

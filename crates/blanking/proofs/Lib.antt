@@ -4,6 +4,7 @@ pub mod RunLaws
 pub mod RowLaws
 pub mod FrameLaws
 pub mod EachSample
+pub mod Nearest
 pub mod Runs
 pub mod Isolation
 pub mod Examples

@@ -1,20 +1,24 @@
 -- What the loops over a row keep: what is done, with what is left from here, is the whole row's.
 use mathlib.Core.Path.{_≡_, refl, sym, ap, ap₂, _∙_}
-use mathlib.Core.Bool.{Bool, true, false, _&&_, not, cond}
+use mathlib.Core.Bool.{true, false, _&&_, not, cond}
 use mathlib.Core.List.{List, [], _∷_, _++_, append-nil}
-use Prim.Native.Nat.{ℕ, zero, suc, _+_, _*_, _≤_, _<_}
+use Prim.Native.Nat.{ℕ, zero, suc, _+_, _-_, _*_, _≤_, _<_}
 use native.Mathlib.Omega.{arith}
 use native.Mathlib.Numerals.{add-one}
 use native.Mathlib.Nat.{add-zero, zero-add}
 use lib.Dec.{ltb}
-use lib.ListN.{length, getD, take, drop, set, length-set, length-append, length-drop, drop-of-length-le, List·getD-append}
-use lib.Seq.{sets, length-sets, drop-cons, take-suc, set-at, getD-at, take-all, length-take-le, append-snoc, ext-getD}
+use lib.ListN.{length, getD, take, drop, set, length-set, length-drop, drop-of-length-le, List·getD-append}
+use lib.Seq.{sets, length-sets, drop-cons, take-suc, set-at, getD-take, getD-drop, take-all, length-take-le, append-snoc, ext-getD}
+use borrow.Author.Tests.{le-ltb}
 use Rattle.rules.specs.Frame.{tabulate}
 use Rattle.blanking.specs.declared.Tally.{Tally}
-use Rattle.blanking.specs.Blanking.{Fill, marked, bit, count, blank-row, run, Run, stretch, runs-from, row-runs, numbers}
-use Rattle.blanking.specs.Lent.{tally, greatest, RowLent}
+use Rattle.blanking.specs.Blanking.{Fill, marked, bit, count, unstated, blank-row, run, stretch, runs-from, row-runs, numbers}
+use Rattle.blanking.specs.Lent.{tally, greatest, meant, left-of, turns, by-turns}
+use Rattle.blanking.specs.declared.Filling.{Filling}
+use Rattle.blanking.specs.declared.Filling.the-variants.{Stated, Unstated}
+use Rattle.blanking.specs.declared.Turns.{Turns}
 use Rattle.blanking.proofs.ByteLaws.{bit-most, bit-set, start-is, left-more, none-marked, count-none}
-use Rattle.blanking.proofs.RunLaws.{runs-step, runs-none, runs-most, left-at, left-passed, left-run, numbers-length, stretch-most}
+use Rattle.blanking.proofs.RunLaws.{runs-step, runs-none, left-at, left-passed, left-run, stretch-most, stretch-marked}
 
 -- ── Counting ──
 
@@ -102,9 +106,17 @@ module _ {want row₀ row : List ℕ} {i : ℕ} (l : length want ≡ length row�
   front : length (take i want) ≡ i
   front = length-take-le i want (omega (arith, f .below))
 
-  pub filled-get : i < length row₀ → getD row i 0 ≡ getD row₀ i 0
-  filled-get h = rw (f .is, drop-cons row₀ i 0 h) (getD-at (take i want) (getD row₀ i 0) (drop (suc i) row₀) 0 i front)
+  next-is : i < length row₀ → take i want ++ (getD want i 0 ∷ drop (suc i) row₀) ≡ take (i + 1) want ++ drop (i + 1) row₀
+  next-is h =
+      sym (append-snoc (take i want) (getD want i 0) (drop (suc i) row₀))
+      ∙ rw (add-one i) (sym (ap (λ x. x ++ drop (suc i) row₀) (take-suc want i 0 (omega (arith, l)))))
 
+  -- What is behind is set.
+  pub filled-get : (j : ℕ) → j < i → getD row j 0 ≡ getD want j 0
+  filled-get j h =
+      ap (λ x. getD x j 0) (f .is) ∙ List·getD-append (take i want) (drop i row₀) 0 j (omega (arith, front)) ∙ getD-take i want j 0 h
+
+  -- A sample is set, or passed over where it stays.
   pub filled-more : (v : ℕ) → i < length row₀ → v ≡ getD want i 0 → Filled want row₀ (set row i v) (i + 1)
   filled-more v h e =
       record {
@@ -112,12 +124,120 @@ module _ {want row₀ row : List ℕ} {i : ℕ} (l : length want ≡ length row�
         kept = length-set row i v ∙ f .kept;
         is =
             rw (f .is, drop-cons row₀ i 0 h) (set-at (take i want) (getD row₀ i 0) (drop (suc i) row₀) v i front)
-            ∙ ap (λ x. take i want ++ (x ∷ drop (suc i) row₀)) e ∙ sym (append-snoc (take i want) (getD want i 0) (drop (suc i) row₀))
-            ∙ rw (add-one i) (sym (ap (λ x. x ++ drop (suc i) row₀) (take-suc want i 0 (omega (arith, l)))));
+            ∙ ap (λ x. take i want ++ (x ∷ drop (suc i) row₀)) e ∙ next-is h;
+      }
+
+  pub filled-passed : i < length row₀ → getD want i 0 ≡ getD row₀ i 0 → Filled want row₀ row (i + 1)
+  filled-passed h e =
+      record {
+        below = omega arith;
+        kept = f .kept;
+        is = f .is ∙ ap (λ x. take i want ++ x) (drop-cons row₀ i 0 h) ∙ ap (λ x. take i want ++ (x ∷ drop (suc i) row₀)) (sym e) ∙ next-is h;
       }
 
   pub filled-all : length row₀ ≤ i → row ≡ want
   filled-all h = f .is ∙ ap₂ (λ x y. x ++ y) (take-all i want (omega (arith, l))) (drop-of-length-le row₀ {i = i} h) ∙ rw append-nil
+
+-- ── A run ──
+
+-- What is set, with what is left of a run from here.
+pub record Turned (row₀ : List ℕ) (from columns a b end : ℕ) (row : List ℕ) (at : ℕ) : Type 0 where
+  pub ends : end ≡ from + columns
+  pub below : at ≤ end
+  pub kept : length row ≡ length row₀
+  pub left : sets row at (by-turns (end - at) a b) ≡ sets row₀ from (by-turns columns a b)
+
+pub turned-none : (row : List ℕ) (from columns a b : ℕ) → Turned row from columns a b (from + columns) row from
+turned-none row from columns a b =
+    let e : from + columns - from ≡ columns = omega arith in record { ends = refl; below = omega arith; kept = refl; left = rw e }
+
+module _ {row₀ : List ℕ} {from columns a b end : ℕ} {row : List ℕ} {at : ℕ} (t : Turned row₀ from columns a b end row at) where
+  pub turned-two : 1 < end - at → Turned row₀ from columns a b end (set (set row at a) (at + 1) b) (at + 2)
+  unfolding by-turns
+  turned-two h =
+      let one : at + 1 ≡ suc at = omega arith in
+      let two : at + 2 ≡ suc (suc at) = omega arith in
+      let more : end - at ≡ suc (suc (end - suc (suc at))) = omega arith in
+      record {
+        ends = t .ends;
+        below = omega arith;
+        kept = length-set (set row at a) (at + 1) b ∙ length-set row at a ∙ t .kept;
+        left = rw (one, two) (rw more at (t .left));
+      }
+
+  pub turned-last : at < end → end - at ≤ 1 → set row at a ≡ sets row₀ from (by-turns columns a b)
+  unfolding by-turns
+  turned-last h k = let one : end - at ≡ 1 = omega arith in rw one at (t .left)
+
+  pub turned-all : end ≤ at → row ≡ sets row₀ from (by-turns columns a b)
+  unfolding by-turns
+  turned-all h = let none : end - at ≡ 0 = omega arith in rw none at (t .left)
+
+-- A fill has two values in a run, by turns.
+by-turns-fill : (fill : Filling) (row map : List ℕ) (c : ℕ) → marked (getD map c 0) ≡ true → meant fill row map (suc (suc c)) ≡ meant fill row map c
+unfolding meant unstated
+by-turns-fill (Stated v) row map c e = refl
+by-turns-fill Unstated row map c e = rw e
+
+-- What a blanked sample is, the next of its parity is set to, if it is marked.
+unstated-next : (row map : List ℕ) (c : ℕ) → c < length row → getD (blank-row unstated row map) c 0 ≡ unstated row map (suc (suc c))
+unfolding unstated
+unstated-next row map c h = blank-row-get unstated row map c h
+
+left-is : (row : List ℕ) (i c by : ℕ) → i ≡ c + by → left-of row i by ≡ getD row c 0
+unfolding left-of
+left-is row i c by e = let back : i - by ≡ c = omega arith in rw (le-ltb i by (omega arith), back)
+
+module _ (fill : Filling) (row₀ map : List ℕ) where
+  abbrev want : List ℕ
+  want = blank-row (meant fill) row₀ map
+
+  long : length want ≡ length row₀
+  long = blank-row-length (meant fill) row₀ map
+
+  -- These two values are read off, where all before the run is set.
+  pub turns-are : {row : List ℕ} {i : ℕ} → Filled want row₀ row i → (turns fill row i .first ≡ meant fill row₀ map i) × (turns fill row i .second ≡ meant fill row₀ map (suc i))
+  unfolding turns meant unstated left-of
+  turns-are {row} {i} f = go fill i f
+    where
+      before : (c i : ℕ) → Filled (blank-row unstated row₀ map) row₀ row i → c < i → getD row c 0 ≡ unstated row₀ map (suc (suc c))
+      before c i f h = filled-get (blank-row-length unstated row₀ map) f c h ∙ unstated-next row₀ map c (omega (arith, f .below))
+
+      go : (fill : Filling) (i : ℕ) → Filled (blank-row (meant fill) row₀ map) row₀ row i
+          → (turns fill row i .first ≡ meant fill row₀ map i) × (turns fill row i .second ≡ meant fill row₀ map (suc i))
+      go (Stated v) i f = (refl, refl)
+      go Unstated zero f = (refl, refl)
+      go Unstated (suc zero) f = (refl, before 0 1 f (omega arith))
+      go Unstated (suc (suc c)) f = (left-is row (suc (suc c)) c 2 (omega arith) ∙ before c (suc (suc c)) f (omega arith), left-is row (suc (suc c)) (suc c) 1 (omega arith) ∙ before (suc c) (suc (suc c)) f (omega arith))
+
+  filled-turns : (k a b : ℕ) (row : List ℕ) (i : ℕ) → Filled want row₀ row i → i + k ≤ length row₀ → ((j : ℕ) → j < k → marked (getD map (i + j) 0) ≡ true)
+      → a ≡ meant fill row₀ map i → b ≡ meant fill row₀ map (suc i) → Filled want row₀ (sets row i (by-turns k a b)) (i + k)
+  unfolding by-turns
+  filled-turns zero a b row i f h marks p q = rw (add-zero i) f
+  filled-turns (suc k) a b row i f h marks p q =
+      let m : marked (getD map i 0) ≡ true = ap (λ c. marked (getD map c 0)) (sym (add-zero i)) ∙ marks 0 (omega arith) in
+      let is : a ≡ getD want i 0 = p ∙ sym (blank-row-get (meant fill) row₀ map i (omega arith) ∙ rw m) in
+      let one : Filled want row₀ (set row i a) (suc i) = rw (add-one i) at (filled-more long f a (omega arith) is) in
+      let on : (j : ℕ) → suc i + j ≡ i + suc j = λ j. omega arith in
+      rw (← on k)
+      (filled-turns k b a (set row i a) (suc i) one (omega arith) (λ j d. ap (λ c. marked (getD map c 0)) (on j) ∙ marks (suc j) (omega arith)) q
+      (p ∙ sym (by-turns-fill fill row₀ map i m)))
+
+  -- A run is set.
+  pub filled-run : {row : List ℕ} {i : ℕ} (k : ℕ) (t : Turns) (new : List ℕ) → Filled want row₀ row i → length row₀ ≡ length map → i + k ≤ length map
+      → k ≡ stretch (drop i map) → t ≡ turns fill row i → new ≡ sets row i (by-turns k (t .first) (t .second)) → Filled want row₀ new (i + k)
+  filled-run {row} {i} k t new f l h is told q =
+      let two = turns-are f in
+      rw q
+      (filled-turns k (t .first) (t .second) row i f (omega arith) (λ j d. ap marked (sym (getD-drop i map j 0)) ∙ stretch-marked (drop i map) j (omega (arith, is)))
+      (ap (λ x. x .first) told ∙ two .0) (ap (λ x. x .second) told ∙ two .1))
+
+  -- An unmarked sample is passed over.
+  pub filled-unmarked : {row : List ℕ} {i : ℕ} → Filled want row₀ row i → i < length row₀ → marked (getD map i 0) ≡ false → Filled want row₀ row (i + 1)
+  filled-unmarked {row} {i} f h e = filled-passed long f h (blank-row-get (meant fill) row₀ map i h ∙ rw e)
+
+  pub filled-done : {row : List ℕ} {i : ℕ} → Filled want row₀ row i → length row₀ ≤ i → row ≡ want
+  filled-done f h = filled-all long f h
 
 -- ── Listing ──
 

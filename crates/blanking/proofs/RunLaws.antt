@@ -73,6 +73,17 @@ stretch-most (b ∷ m) = go (marked b) (stretch-most m)
     go true l = omega arith
     go false l = omega arith
 
+-- A list begins with marked bytes as far as its stretch goes.
+pub stretch-marked : (m : List ℕ) (i : ℕ) → i < stretch m → marked (getD m i 0) ≡ true
+unfolding stretch
+stretch-marked [] i h = absurd (omega arith)
+stretch-marked (b ∷ m) i h = go i (marked b) refl h (λ j k. stretch-marked m j k)
+  where
+    go : (i : ℕ) (t : Bool) → marked b ≡ t → i < cond t (suc (stretch m)) 0 → ((j : ℕ) → j < stretch m → marked (getD m j 0) ≡ true) → marked (getD (b ∷ m) i 0) ≡ true
+    go zero true e k again = e
+    go (suc i) true e k again = again i (omega arith)
+    go i false e k again = absurd (omega arith)
+
 -- Inside a run none starts before its end.
 runs-joined : (row c : ℕ) (m : List ℕ) → runs-from row true c m ≡ runs-from row false (c + stretch m) (drop (stretch m) m)
 unfolding runs-from stretch

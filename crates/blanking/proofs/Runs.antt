@@ -17,7 +17,7 @@ use Rattle.rules.proofs.Cells.{All, all-append, all-map}
 use Rattle.rules.proofs.Cells.All.{nil, more}
 use Rattle.blanking.specs.Blanking.{marked, bit, count, Run, run, stretch, runs-from, row-runs, rows-runs, runs-of}
 use Rattle.blanking.proofs.ByteLaws.{zero-unmarked, count-append}
-use Rattle.blanking.proofs.RunLaws.{stretch-most}
+use Rattle.blanking.proofs.RunLaws.{stretch-most, stretch-marked}
 
 -- ── The statements ──
 
@@ -62,17 +62,6 @@ or-assoc true u v = refl
 or-assoc false u v = refl
 
 -- ── A row ──
-
--- A list begins with marked bytes as far as its stretch goes.
-stretch-marked : (m : List ℕ) (i : ℕ) → i < stretch m → marked (getD m i 0) ≡ true
-unfolding stretch
-stretch-marked [] i h = absurd (omega arith)
-stretch-marked (b ∷ m) i h = go i (marked b) refl h (λ j k. stretch-marked m j k)
-  where
-    go : (i : ℕ) (t : Bool) → marked b ≡ t → i < cond t (suc (stretch m)) 0 → ((j : ℕ) → j < stretch m → marked (getD m j 0) ≡ true) → marked (getD (b ∷ m) i 0) ≡ true
-    go zero true e k again = e
-    go (suc i) true e k again = again i (omega arith)
-    go i false e k again = absurd (omega arith)
 
 -- A property of the runs from a column on: one step.
 module _ (row : ℕ) (P : Run → Type 0) where

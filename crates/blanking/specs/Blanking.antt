@@ -1,4 +1,4 @@
--- Request 04, blanking: every marked sample is set to a fill. A map byte speaks of the sample at its place; a run is as many marked
+-- Requests 04 and 10, blanking: every marked sample is set to a fill. A map byte speaks of the sample at its place; a run is as many marked
 -- samples of one row as follow each other, with nothing marked beside them. Rows and columns are counted from 0.
 use Prim.Native.Nat.{ℕ, zero, suc, _+_}
 use mathlib.Core.Bool.{Bool, true, false, _||_, _&&_, not, cond}
@@ -42,9 +42,12 @@ Fill = List ℕ → List ℕ → ℕ → ℕ
 abbrev pub stated : ℕ → Fill
 stated v row map column = v
 
--- If none is stated it is 0.
-abbrev pub unstated : Fill
-unstated = stated 0
+-- If none is stated it is the nearest sample to the left in the row, at a column of the same parity, that isn't marked: two columns
+-- back, or that one's own fill if it is marked. If there is none it is 0. A sample that is set is never taken for what it was.
+unfoldable pub unstated : Fill
+unstated row map zero = 0
+unstated row map (suc zero) = 0
+unstated row map (suc (suc c)) = cond (marked (getD map c 0)) (unstated row map c) (getD row c 0)
 
 -- ── Blanked samples ──
 

@@ -32,9 +32,12 @@ examples =
     -- A run ends with its row, though the next row begins marked; the list's last number and the last sample stay.
     example (call (stated 5) frame marks 4 2 list) (blanked-done 4 3)
     (5 ∷ 11 ∷ 5 ∷ 5 ∷ 5 ∷ 21 ∷ 22 ∷ 23 ∷ 99 ∷ []) (0 ∷ 0 ∷ 1 ∷ 0 ∷ 2 ∷ 2 ∷ 1 ∷ 0 ∷ 1 ∷ 7 ∷ [])
-    -- No stated fill is 0.
+    -- No stated fill: nothing lies to the left of a row's first two columns, and 12 has only a marked one there; 13 takes 11.
     ∷ example (call unstated frame marks 4 2 list) (blanked-done 4 3)
-    (0 ∷ 11 ∷ 0 ∷ 0 ∷ 0 ∷ 21 ∷ 22 ∷ 23 ∷ 99 ∷ []) (0 ∷ 0 ∷ 1 ∷ 0 ∷ 2 ∷ 2 ∷ 1 ∷ 0 ∷ 1 ∷ 7 ∷ [])
+    (0 ∷ 11 ∷ 0 ∷ 11 ∷ 0 ∷ 21 ∷ 22 ∷ 23 ∷ 99 ∷ []) (0 ∷ 0 ∷ 1 ∷ 0 ∷ 2 ∷ 2 ∷ 1 ∷ 0 ∷ 1 ∷ 7 ∷ [])
+    -- The nearest of the column's parity, across marked ones; a row takes nothing from the one above.
+    ∷ example (call unstated (10 ∷ 11 ∷ 12 ∷ 13 ∷ 14 ∷ 15 ∷ 20 ∷ 21 ∷ 22 ∷ 23 ∷ 24 ∷ 25 ∷ []) (0 ∷ 0 ∷ 1 ∷ 1 ∷ 1 ∷ 0 ∷ 1 ∷ 0 ∷ 0 ∷ 1 ∷ 1 ∷ 1 ∷ []) 6 2 list)
+    (blanked-done 7 3) (10 ∷ 11 ∷ 10 ∷ 11 ∷ 10 ∷ 15 ∷ 0 ∷ 21 ∷ 22 ∷ 21 ∷ 22 ∷ 21 ∷ []) (0 ∷ 2 ∷ 3 ∷ 1 ∷ 0 ∷ 1 ∷ 1 ∷ 3 ∷ 3 ∷ 7 ∷ [])
     -- A sample that holds the fill already is counted.
     ∷ example (call (stated 10) (10 ∷ 11 ∷ []) (1 ∷ 0 ∷ []) 2 1 (7 ∷ 7 ∷ 7 ∷ [])) (blanked-done 1 1) (10 ∷ 11 ∷ []) (0 ∷ 0 ∷ 1 ∷ [])
     -- Old values and filler alike are set, and make one run.

@@ -1,12 +1,17 @@
 -- What the functions ask of what they are lent, and what the loops over bytes find.
-use Prim.Native.Nat.{ℕ, _+_, _*_, _≤_, max}
+use Prim.Native.Nat.{ℕ, zero, suc, _+_, _-_, _*_, _≤_, max}
+use mathlib.Core.Bool.{cond}
 use mathlib.Core.Path.{_≡_}
 use mathlib.Core.List.{List, [], _∷_}
-use lib.ListN.{length}
+use lib.Dec.{ltb}
+use lib.ListN.{length, getD}
 use Rattle.rules.specs.declared.answer.Size.{Size}
 use Rattle.rules.specs.Frame.{cells}
 use Rattle.blanking.specs.declared.Tally.{Tally}
-use Rattle.blanking.specs.Blanking.{Run, count, row-runs, runs-of}
+use Rattle.blanking.specs.declared.Turns.{Turns}
+use Rattle.blanking.specs.declared.Filling.{Filling}
+use Rattle.blanking.specs.declared.Filling.the-variants.{Stated, Unstated}
+use Rattle.blanking.specs.Blanking.{Fill, stated, unstated, Run, count, row-runs, runs-of}
 
 -- The greatest byte, or 0.
 unfoldable pub greatest : List ℕ → ℕ
@@ -16,6 +21,25 @@ greatest (b ∷ m) = max b (greatest m)
 -- How many samples are marked, and how many runs there are.
 abbrev pub tally : List ℕ → List Run → Tally
 tally m rs = record { marked = count m; runs = length rs }
+
+-- The fill that is asked for.
+unfoldable pub meant : Filling → Fill
+meant (Stated v) = stated v
+meant Unstated = unstated
+
+-- What lies so many columns to the left in a row; 0 if that is past its start.
+unfoldable pub left-of : List ℕ → ℕ → ℕ → ℕ
+left-of row c by = cond (ltb c by) 0 (getD row (c - by) 0)
+
+-- What a run is set to that starts at a column of a row, whose samples before it are set.
+unfoldable pub turns : Filling → List ℕ → ℕ → Turns
+turns (Stated v) row c = record { first = v; second = v }
+turns Unstated row c = record { first = left-of row c 2; second = left-of row c 1 }
+
+-- Two values by turns.
+unfoldable pub by-turns : ℕ → ℕ → ℕ → List ℕ
+by-turns zero a b = []
+by-turns (suc n) a b = a ∷ by-turns n b a
 
 -- A frame's map, of a size within the limits.
 pub record MapLent (z : Size) (map : List ℕ) : Type 0 where

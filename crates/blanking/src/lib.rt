@@ -1,15 +1,14 @@
 // Blanking: what a map says of a frame's samples, every marked sample set to a fill, and the runs that they make. `specs/` has the
 // rule.
 ghost use mathlib.Core.Path.{_≡_};
-ghost use mathlib.Core.Bool.{cond};
 ghost use mathlib.Core.List.{[], _∷_};
-ghost use Prim.Native.Nat.{_+_, _*_, _≤_, max};
+ghost use Prim.Native.Nat.{_+_, _*_, _≤_, _<_, max};
 ghost use lib.Dec.{ltb};
 ghost use lib.ListN.{length, drop};
 ghost use lib.Seq.{sets};
-ghost use Rattle.blanking.specs.Blanking.{marked, bad-map, bit, stated, blank-row, blanked, stretch, run, row-runs, runs-of, numbers};
+ghost use Rattle.blanking.specs.Blanking.{marked, bad-map, bit, blank-row, blanked, stretch, run, row-runs, runs-of, numbers};
 ghost use Rattle.blanking.specs.Calls.{refused, blanked-done};
-ghost use Rattle.blanking.specs.Lent.{greatest, tally, MapLent, RowLent, FrameLent};
+ghost use Rattle.blanking.specs.Lent.{greatest, tally, meant, left-of, turns, by-turns, MapLent, RowLent, FrameLent};
 use rules::Answer;
 use rules::Size;
 
@@ -148,22 +147,59 @@ pub fn tally_frame(map: &[u8], size: Size) -> Tally
     Tally { marked, runs }
 }
 
-// A sample, or the fill if its byte marks it.
-fn shown(byte: u8, fill: u16, sample: u16) -> u16
-    ensures { λ r. ⌜ r ≡ cond (marked byte) fill sample ⌝ }
-{
-    if byte == 0 { sample } else { fill }
+// What marked samples are set to: a stated value, or none is stated.
+pub enum Filling {
+    Stated(u16),
+    Unstated,
 }
 
-// Sets a row's marked samples.
-fn fill_row(samples: &mut [u16], map: &[u8], fill: u16)
-    requires { ⌜ length (now samples) ≡ length (now map) ⌝ }
-    ensures { λ _. ⌜ now (samples .exit) ≡ blank-row (stated fill) (now (samples .entry)) (now (map .entry)) ⌝ }
+// What a run's samples are set to by turns: the first of them, and the second.
+pub struct Turns {
+    pub first: u16,
+    pub second: u16,
+}
+
+// What lies so many columns to the left; 0 if that is past the row's start.
+fn left_of(samples: &[u16], col: usize, by: usize) -> u16
+    requires { ⌜ (0 < by) × (col ≤ length (now samples)) ⌝ }
+    ensures { λ r. ⌜ r ≡ left-of (now (samples .entry)) col by ⌝ }
 {
-    let mut i: usize = 0;
-    while i < samples.len() {
-        samples[i] = shown(map[i], fill, samples[i]);
-        i += 1;
+    if col < by { 0 } else { samples[col - by] }
+}
+
+// What a run is set to that starts at a column. With no stated fill that is what lies to its left: a sample there is not marked, or
+// was set before, so nothing is looked for further on.
+fn turns_at(samples: &[u16], col: usize, fill: Filling) -> Turns
+    requires { ⌜ col ≤ length (now samples) ⌝ }
+    ensures { λ r. ⌜ r ≡ turns fill (now (samples .entry)) col ⌝ }
+{
+    match fill {
+        Filling::Stated(value) => Turns {
+            first: value,
+            second: value,
+        },
+        Filling::Unstated => {
+            let first = left_of(samples, col, 2);
+            let second = left_of(samples, col, 1);
+            Turns { first, second }
+        }
+    }
+}
+
+// Sets a run's samples, two at once.
+fn set_run(samples: &mut [u16], from: usize, columns: usize, fill: Turns)
+    requires { ⌜ from + columns ≤ length (now samples) ⌝ }
+    ensures { λ _. ⌜ now (samples .exit) ≡ sets (now (samples .entry)) from (by-turns columns (fill .first) (fill .second)) ⌝ }
+{
+    let end = from + columns;
+    let mut at = from;
+    while 1 < end - at {
+        samples[at] = fill.first;
+        samples[at + 1] = fill.second;
+        at += 2;
+    }
+    if at < end {
+        samples[at] = fill.first;
     }
 }
 
@@ -192,10 +228,18 @@ fn put_run(runs: &mut [u32], at: usize, row: usize, first: usize, columns: usize
     runs[at + 2] = columns as u32;
 }
 
-// Lists the runs of a row from a place of the list on, and says where the next row's go.
-fn list_row(map: &[u8], row: usize, runs: &mut [u32], from: usize) -> usize
-    requires { ⌜ RowLent row (now map) from (now runs) ⌝ }
+// Blanks a row and lists its runs from a place of the list on, and says where the next row's go.
+fn blank_marked(
+    samples: &mut [u16],
+    map: &[u8],
+    row: usize,
+    fill: Filling,
+    runs: &mut [u32],
+    from: usize,
+) -> usize
+    requires { ⌜ RowLent row (now map) from (now runs) × (length (now samples) ≡ length (now map)) ⌝ }
     ensures { λ r. ⌜ r ≡ from + 3 * length (row-runs row (now (map .entry))) ⌝ }
+    ensures { λ _. ⌜ now (samples .exit) ≡ blank-row (meant fill) (now (samples .entry)) (now (map .entry)) ⌝ }
     ensures { λ _. ⌜ now (runs .exit) ≡ sets (now (runs .entry)) from (numbers (row-runs row (now (map .entry)))) ⌝ }
 {
     let mut at = from;
@@ -205,6 +249,8 @@ fn list_row(map: &[u8], row: usize, runs: &mut [u32], from: usize) -> usize
             col += 1;
         } else {
             let columns = stretch_at(map, col);
+            let turns = turns_at(samples, col, fill);
+            set_run(samples, col, columns, turns);
             put_run(runs, at, row, col, columns);
             at += 3;
             col += columns;
@@ -213,31 +259,30 @@ fn list_row(map: &[u8], row: usize, runs: &mut [u32], from: usize) -> usize
     at
 }
 
-// Blanks a row and lists its runs; most rows have none.
+// The same; most rows have none.
 fn blank_row(
     samples: &mut [u16],
     map: &[u8],
     row: usize,
-    fill: u16,
+    fill: Filling,
     runs: &mut [u32],
     from: usize,
 ) -> usize
     requires { ⌜ RowLent row (now map) from (now runs) × (length (now samples) ≡ length (now map)) ⌝ }
     ensures { λ r. ⌜ r ≡ from + 3 * length (row-runs row (now (map .entry))) ⌝ }
-    ensures { λ _. ⌜ now (samples .exit) ≡ blank-row (stated fill) (now (samples .entry)) (now (map .entry)) ⌝ }
+    ensures { λ _. ⌜ now (samples .exit) ≡ blank-row (meant fill) (now (samples .entry)) (now (map .entry)) ⌝ }
     ensures { λ _. ⌜ now (runs .exit) ≡ sets (now (runs .entry)) from (numbers (row-runs row (now (map .entry)))) ⌝ }
 {
     if greatest_of(map) == 0 {
         return from;
     }
-    fill_row(samples, map, fill);
-    list_row(map, row, runs, from)
+    blank_marked(samples, map, row, fill, runs, from)
 }
 
 // Blanks a frame and lists its runs.
-pub fn blank_frame(samples: &mut [u16], map: &[u8], size: Size, fill: u16, runs: &mut [u32])
+pub fn blank_frame(samples: &mut [u16], map: &[u8], size: Size, fill: Filling, runs: &mut [u32])
     requires { ⌜ FrameLent size (now samples) (now map) (now runs) ⌝ }
-    ensures { λ _. ⌜ now (samples .exit) ≡ blanked (stated fill) size (now (samples .entry)) (now (map .entry)) ⌝ }
+    ensures { λ _. ⌜ now (samples .exit) ≡ blanked (meant fill) size (now (samples .entry)) (now (map .entry)) ⌝ }
     ensures { λ _. ⌜ now (runs .exit) ≡ sets (now (runs .entry)) 0 (numbers (runs-of size (now (map .entry)))) ⌝ }
 {
     let mut at: usize = 0;

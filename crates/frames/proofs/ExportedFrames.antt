@@ -14,7 +14,7 @@ use Rattle.rules.specs.Frame.{cells}
 use Rattle.rules.specs.Answer as Rules
 use Rattle.rules.specs.V0.{sample-kind, exchange}
 use Rattle.rules.proofs.Isolation.{Returned, Samples, Step, Calls, Alike, Ran}
-use Rattle.blanking.specs.Blanking.{unstated}
+use Rattle.blanking.specs.Blanking.{stated}
 use Rattle.blanking.specs.Calls as Blank
 use Rattle.blanking.proofs.EachSample.{stated-clean}
 use Rattle.blanking.proofs.Isolation.{Blanks, Follows, Done, SameBlanked, blanked-isolation}
@@ -148,7 +148,7 @@ module _ (k : Size) (a b : Exports) (za : a .export .blank .size ≡ k) (zb : b 
 -- ── The claim ──
 
 pub exported-isolation : {C D B : Type 0} (step : C → Step) (returned : D → Returned) (exports : B → Exports)
-    → ((p : B) → exports p .export .blank .fill ≡ unstated) → Isolation step returned exports
+    → ((p : B) → exports p .export .blank .fill ≡ stated 0) → Isolation step returned exports
 exported-isolation step returned exports fills b b′ x y h h′ cs ds c d rest rest′ e e′ alike ran ran′ p q f g ok ok′ =
     same-exported (returned c .ask .size) (exports p) (exports q) (f .size) (g .size ∙ ap (λ a. a .size) (sym (alike .ask))) ok ok′
     (blanked-isolation step returned (λ t. blanks (exports t)) (λ t. rw (fills t) (stated-clean 0)) b b′ x y h h′ cs ds c d rest rest′ e e′ alike ran ran′ p q f g

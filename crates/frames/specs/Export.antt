@@ -1,10 +1,10 @@
--- A call of the archive export: a frame is blanked with no stated fill, and what that leaves is written as V0.
+-- A call of the archive export: a frame is blanked with fill 0, and what that leaves is written as V0.
 use Prim.Native.Nat.{ℕ}
 use mathlib.Core.Bool.{cond}
 use mathlib.Core.Path.{_≡_}
 use mathlib.Core.List.{List}
 use lib.Dec.{eqb}
-use Rattle.blanking.specs.Blanking.{unstated}
+use Rattle.blanking.specs.Blanking.{stated}
 use Rattle.blanking.specs.Calls as Blank
 use Rattle.writers.specs.Calls as Write
 use Rattle.frames.specs.declared.export.Exported.{Exported}
@@ -17,7 +17,7 @@ pub record Export : Type 0 where
 
 abbrev pub export : List ℕ → List ℕ → ℕ → ℕ → List ℕ → List ℕ → List ℕ → Export
 export samples map w h runs stream offsets =
-    record { blank = Blank.call unstated samples map w h runs; stream = stream; offsets = offsets }
+    record { blank = Blank.call (stated 0) samples map w h runs; stream = stream; offsets = offsets }
 
 -- The writer is called on the samples as blanking left them.
 abbrev pub write : Export → Write.Call

@@ -4,7 +4,9 @@ ghost use Prim.Native.Nat.{_*_, _≤_};
 ghost use lib.Dec.{ltb};
 ghost use Rattle.blanking.specs.Blanking.{stated, unstated};
 ghost use Rattle.blanking.specs.Calls.{call, Yields};
+ghost use Rattle.blanking.specs.Lent.{meant};
 use blanking::Blanked;
+use blanking::Filling;
 use blanking::blank_frame;
 use blanking::is_bad_map;
 use blanking::tally_frame;
@@ -21,18 +23,18 @@ fn is_short_list(list: usize, runs: usize) -> bool
     list < 3 * runs
 }
 
-// Sets the samples that a map marks to a stated fill, and lists their runs. Refusals 1, 3, 4, 14 and 13, which change nothing.
-pub fn blank_with(
+// Sets the samples that a map marks, and lists their runs. Refusals 1, 3, 4, 14 and 13, which change nothing.
+fn blank_by(
     samples: &mut [u16],
     map: &[u8],
     width: usize,
     height: usize,
-    fill: u16,
+    fill: Filling,
     runs: &mut [u32],
 ) -> Blanked
     ensures { λ r. ⌜
         Yields
-        (call (stated fill) (now (samples .entry)) (now (map .entry)) width height (now (runs .entry)))
+        (call (meant fill) (now (samples .entry)) (now (map .entry)) width height (now (runs .entry)))
         r (now (samples .exit)) (now (runs .exit))
         ⌝ }
 {
@@ -60,7 +62,25 @@ pub fn blank_with(
     Blanked::done(found.marked as u64, found.runs as u64)
 }
 
-// The same with no stated fill.
+// The same with a stated fill.
+pub fn blank_with(
+    samples: &mut [u16],
+    map: &[u8],
+    width: usize,
+    height: usize,
+    fill: u16,
+    runs: &mut [u32],
+) -> Blanked
+    ensures { λ r. ⌜
+        Yields
+        (call (stated fill) (now (samples .entry)) (now (map .entry)) width height (now (runs .entry)))
+        r (now (samples .exit)) (now (runs .exit))
+        ⌝ }
+{
+    blank_by(samples, map, width, height, Filling::Stated(fill), runs)
+}
+
+// The same with none: the nearest unmarked sample to the left, of the row and of the column's parity.
 pub fn blank(
     samples: &mut [u16],
     map: &[u8],
@@ -74,5 +94,5 @@ pub fn blank(
         r (now (samples .exit)) (now (runs .exit))
         ⌝ }
 {
-    blank_with(samples, map, width, height, 0, runs)
+    blank_by(samples, map, width, height, Filling::Unstated, runs)
 }

@@ -1,7 +1,7 @@
 // The archive export: a frame is blanked, and then written as V0.
 ghost use mathlib.Core.Path.{_≡_};
 ghost use Rattle.frames.specs.Export.{export, Yields};
-use crate::blanks::blank;
+use crate::blanks::blank_with;
 use crate::writer::write_v0;
 use rules::Answer;
 
@@ -15,7 +15,7 @@ pub struct Exported {
     pub length: u64,
 }
 
-// Blanks a frame with no stated fill and writes it as V0. Refusals 1, 3, 4, 14 and 13 change nothing; 9 and 10 leave the frame
+// Blanks a frame with fill 0 and writes it as V0. Refusals 1, 3, 4, 14 and 13 change nothing; 9 and 10 leave the frame
 // blanked, its runs listed, and nothing written.
 pub fn export_v0(
     samples: &mut [u16],
@@ -32,7 +32,7 @@ pub fn export_v0(
         r (now (samples .exit)) (now (runs .exit)) (now (stream .exit)) (now (offsets .exit))
         ⌝ }
 {
-    let blanked = blank(samples, map, width, height, runs);
+    let blanked = blank_with(samples, map, width, height, 0, runs);
     let answer = blanked.answer;
     if answer.number != 0 {
         return Exported {

@@ -15,7 +15,7 @@ use Rattle.rules.proofs.Isolation as Rules
 use Rattle.samsung.proofs.Isolation.{Made}
 use Rattle.blanking.specs.Blanking.{stated, unstated}
 use Rattle.blanking.specs.Calls.{Call, call}
-use Rattle.blanking.proofs.EachSample.{Clean, Fits, stated-clean, stated-fits}
+use Rattle.blanking.proofs.EachSample.{Clean, Fits, stated-clean, unstated-clean, stated-fits, unstated-fits}
 use Rattle.blanking.proofs.Isolation.{Blanks, blank-step, blanked-isolation}
 use Rattle.blanking.proofs.Isolation as Blanked
 use Rattle.frames.specs.Export.{export}
@@ -64,12 +64,12 @@ blanks (no-fill c) =
 pub clean : (b : Blanking) → Clean (blanks b .call .fill)
 unfolding blanks
 clean (with-fill c small) = stated-clean (c .args .1 .1 .1 .1 .0)
-clean (no-fill c) = stated-clean 0
+clean (no-fill c) = unstated-clean
 
 pub fits : (b : Blanking) → Fits (blanks b .call .fill)
 unfolding blanks
 fits (with-fill c small) = stated-fits (c .args .1 .1 .1 .1 .0) small
-fits (no-fill c) = stated-fits 0 (lit< tt)
+fits (no-fill c) = unstated-fits
 
 -- A call of the export, and what it was handed, answered and left.
 abbrev pub Exporting : Type 0
@@ -89,9 +89,9 @@ exports c =
       yields = c .learnt;
     }
 
-pub unstated-fill : (c : Exporting) → exports c .export .blank .fill ≡ unstated
+pub export-fill : (c : Exporting) → exports c .export .blank .fill ≡ stated 0
 unfolding exports
-unstated-fill c = refl
+export-fill c = refl
 
 -- ── Lists of calls, those that blank and export among them ──
 
@@ -104,7 +104,7 @@ unfoldable pub steps : Many → Step
 steps (decoding c) = step c
 steps (blanking b) = blank-step (blanks b .call) (blanks b .samples) (blanks b .yields .samples-left) (fits b)
 steps (exporting c) =
-    blank-step (exports c .export .blank) (exports c .samples) (exports c .yields .samples-left) (rw (unstated-fill c) (stated-fits 0 (lit< tt)))
+    blank-step (exports c .export .blank) (exports c .samples) (exports c .yields .samples-left) (rw (export-fill c) (stated-fits 0 (lit< tt)))
 
 -- Demand 3 holds of such lists, too.
 abbrev pub Isolation : Type 0
@@ -126,7 +126,7 @@ abbrev pub ExportedFrames : Type 0
 ExportedFrames = Exported.Isolation steps final exports
 
 pub exported-frames : ExportedFrames
-exported-frames = exported-isolation steps final exports unstated-fill
+exported-frames = exported-isolation steps final exports export-fill
 
 -- The claims, beside each export's theorem that its code meets the contract that they speak of.
 pub record OfTheCode (M : Type 1) : Type 2 where

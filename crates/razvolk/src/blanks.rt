@@ -25,7 +25,7 @@ pub extern "C" fn razvolk_blank_with(
     frames::blank_with(samples, map, width, height, fill, runs)
 }
 
-// The same with no stated fill.
+// The same with none: the nearest unmarked sample to the left, of the row and of the column's parity.
 #[no_mangle]
 pub extern "C" fn razvolk_blank(
     samples: &mut [u16],
@@ -43,7 +43,7 @@ pub extern "C" fn razvolk_blank(
     frames::blank(samples, map, width, height, runs)
 }
 
-// Blanks a frame with no stated fill and writes it as V0. Refusals 1, 3, 4, 14 and 13 change nothing; 9 and 10 leave the frame
+// Blanks a frame with fill 0 and writes it as V0. Refusals 1, 3, 4, 14 and 13 change nothing; 9 and 10 leave the frame
 // blanked, its runs listed, and nothing written.
 #[no_mangle]
 pub extern "C" fn razvolk_export_v0(

@@ -1,4 +1,4 @@
-//! Blanking, against the plain loop, of frames with few marks and with many.
+//! Blanking, against the plain loop, of frames with few marks and with many; with no stated fill, against a stated one.
 
 use crate::measure::{Contender, best, print};
 use compare::blank::plain;
@@ -19,6 +19,19 @@ fn razvolk(
     runs: &mut [u32],
 ) -> (usize, usize) {
     let done = razvolk::blank_with(samples, map, width, height, fill, runs).expect("buffers are long enough");
+    (done.count, done.runs)
+}
+
+/// Razvolk's with no stated fill.
+fn unstated(
+    samples: &mut [u16],
+    map: &[u8],
+    width: usize,
+    height: usize,
+    _fill: u16,
+    runs: &mut [u32],
+) -> (usize, usize) {
+    let done = razvolk::blank(samples, map, width, height, runs).expect("buffers are long enough");
     (done.count, done.runs)
 }
 
@@ -43,12 +56,16 @@ pub fn time(width: usize, height: usize, times: usize) {
     let samples = RefCell::new(photo(width, height, 16.0, 1));
     let runs = RefCell::new(vec![0; 3 * width * height]);
     for (name, map) in maps(width, height) {
-        let contender = |name, way: Way| {
+        let contender = |name, against, way: Way| {
             let (samples, runs, map) = (&samples, &runs, &map);
             let run = move || way(&mut samples.borrow_mut(), map, width, height, 512, &mut runs.borrow_mut()).0 > 0;
-            Contender { name, against: 0, run: Box::new(run) }
+            Contender { name, against, run: Box::new(run) }
         };
-        let mut contenders = vec![contender("plain loop", plain), contender("blank_with", razvolk)];
+        let mut contenders = vec![
+            contender("plain loop", 0, plain),
+            contender("blank_with", 0, razvolk),
+            contender("blank", 1, unstated),
+        ];
         let best = best(&mut contenders, times);
         print(&format!("Blanking: {width} by {height}, {name}"), Some(width * height), &contenders, &best);
     }

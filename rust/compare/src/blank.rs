@@ -30,6 +30,14 @@ crate::faults::faults!(
     ExportsUnblanked,
     LengthWhereRefused,
     NoCountAtNine,
+    ZeroUnstated,
+    AnyParity,
+    OtherParity,
+    TakesTheMarked,
+    TakesWhatIsSet,
+    LooksIntoTheRowAbove,
+    StopsAtTheFirst,
+    ExportsUnstated,
 );
 
 /// What is asked: a fill that is stated, one that isn't, or the export.
@@ -85,9 +93,30 @@ pub fn razvolk(ask: Ask, map: &[u8], width: usize, height: usize, lent: &mut Len
     }
 }
 
+/// The plain search for what a marked sample is set to where no fill is stated: to the left in its row, two columns at once, for a
+/// sample that isn't marked. `now` is the frame with all samples before this one set.
+fn nearest(fault: Fault, old: &[u16], now: &[u16], map: &[u8], width: usize, i: usize) -> u16 {
+    let start = if fault == Fault::LooksIntoTheRowAbove { 0 } else { i - i % width };
+    let step = if fault == Fault::AnyParity { 1 } else { 2 };
+    let mut at = if fault == Fault::OtherParity { i + 1 } else { i };
+    while at >= start + step {
+        at -= step;
+        if map[at] == 0 || fault == Fault::TakesTheMarked {
+            return old[at];
+        }
+        if fault == Fault::StopsAtTheFirst {
+            return 0;
+        }
+        if fault == Fault::TakesWhatIsSet {
+            return now[i - 1];
+        }
+    }
+    0
+}
+
 /// The plain loop: the tests in their sequence, then each sample, and its run.
 #[inline(always)]
-fn blanked(fault: Fault, fill: u16, map: &[u8], width: usize, height: usize, lent: &mut Lent) -> Told {
+fn blanked(fault: Fault, fill: Option<u16>, map: &[u8], width: usize, height: usize, lent: &mut Lent) -> Told {
     let refused = |number| {
         let count = if fault == Fault::CountWhereRefused { 1 } else { 0 };
         Told { number, count, ..Told::default() }
@@ -142,13 +171,16 @@ fn blanked(fault: Fault, fill: u16, map: &[u8], width: usize, height: usize, len
     if fault == Fault::ClearsTheListsTail {
         lent.runs[listed..].fill(0);
     }
-    let fill = if fault == Fault::FillZero { 0 } else { fill };
+    let fill = if fault == Fault::FillZero { fill.map(|_| 0) } else { fill };
+    let fill = if fault == Fault::ZeroUnstated { fill.or(Some(0)) } else { fill };
+    let old = lent.samples.clone();
     let mut count = 0;
-    for (sample, byte) in lent.samples.iter_mut().zip(&map[..n]) {
+    for (i, byte) in map[..n].iter().enumerate() {
         let marked = if fault == Fault::FillerLeft { byte & 1 != 0 } else { *byte != 0 };
         if marked != (fault == Fault::FillsTheUnmarked) {
-            count += usize::from(fault != Fault::LeavesTheFillOut || *sample != fill);
-            *sample = fill;
+            let fill = fill.unwrap_or_else(|| nearest(fault, &old, &lent.samples, map, width, i));
+            count += usize::from(fault != Fault::LeavesTheFillOut || old[i] != fill);
+            lent.samples[i] = fill;
         }
     }
     if fault == Fault::ClearsTheSamplesTail {
@@ -161,7 +193,8 @@ fn blanked(fault: Fault, fill: u16, map: &[u8], width: usize, height: usize, len
 /// The plain export: the plain loop, and then the plain writer.
 fn exported(fault: Fault, map: &[u8], width: usize, height: usize, lent: &mut Lent) -> Told {
     let old = lent.samples.clone();
-    let told = blanked(fault, 0, map, width, height, lent);
+    let fill = if fault == Fault::ExportsUnstated { None } else { Some(0) };
+    let told = blanked(fault, fill, map, width, height, lent);
     if told.number != 0 {
         return told;
     }
@@ -182,8 +215,8 @@ fn exported(fault: Fault, map: &[u8], width: usize, height: usize, lent: &mut Le
 /// The plain loops, with a fault.
 pub fn faulty(fault: Fault) -> impl Fn(Ask, &[u8], usize, usize, &mut Lent) -> Told {
     move |ask, map, width, height, lent| match ask {
-        Ask::Fill(fill) => blanked(fault, fill, map, width, height, lent),
-        Ask::NoFill => blanked(fault, 0, map, width, height, lent),
+        Ask::Fill(fill) => blanked(fault, Some(fill), map, width, height, lent),
+        Ask::NoFill => blanked(fault, None, map, width, height, lent),
         Ask::Export => exported(fault, map, width, height, lent),
     }
 }

@@ -2,6 +2,7 @@
 //!
 //! - `sitting.srw`: V0, what a worker decoded before;
 //! - `christening.srw`: V0, whose first 24 rows are upward blocks: they show what the buffer held;
+//! - `corner.srw`: the same but for its first 96 columns, which are coded;
 //! - `upload.srw`: V0, a file of a frame that breaks off at half its height;
 //! - `christening-v2.srw`: V2, of a width that 16 does not divide;
 //! - `small.srw`, `small-v2.srw`: a V0 frame of 20 by 5, and a V2 frame that breaks off in row 37, to damage.
@@ -19,6 +20,7 @@ fn main() -> io::Result<()> {
     for (name, frame) in [
         ("sitting.srw", v0::encode(&sitting(320, 200), 320, 200)),
         ("christening.srw", v0::encode::with_band(&christening(320, 200), 320, 200, 24)),
+        ("corner.srw", v0::encode::with_corner(&christening(320, 200), 320, 200, 24, 96)),
         ("christening-v2.srw", v2.clone()),
         ("small.srw", v0::encode::with_band(&christening(20, 5), 20, 5, 1)),
         ("small-v2.srw", v2.cut(3_000)),

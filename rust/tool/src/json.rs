@@ -33,7 +33,9 @@ pub fn frame(
     if let Some((fill, runs)) = blanked {
         let run = |run: &Run| format!("[{},{},{}]", run.row, run.first, run.length);
         let runs: Vec<String> = runs.iter().map(run).collect();
-        write!(line, ",\"blanked\":{},\"runs\":[{}]", fill.unwrap_or(0), runs.join(",")).expect("a string");
+        // Where no fill is stated there is no number to tell.
+        let fill = fill.map_or("null".into(), |fill| fill.to_string());
+        write!(line, ",\"blanked\":{fill},\"runs\":[{}]", runs.join(",")).expect("a string");
     }
     line + "}\n"
 }

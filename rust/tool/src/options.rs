@@ -18,8 +18,8 @@ usage: razvolk [OPTIONS] FILE.srw|FOLDER|- ...
   STREAM           a bare stream, of the size that --v0 or --v2 tells
   --offsets FILE   the byte offset of each row in a bare V0 stream: decimal numbers, parted by spaces, commas or lines
   --over FILE.srw  decode this frame first, into the same buffer, as a worker would; else what is written starts from zeros
-  --blank [FILL]   set the samples that rest on old values or missing words to FILL, or to 0, tell their runs, and write the
-                   frame so
+  --blank [FILL]   set the samples that rest on old values or missing words to FILL, or to what lies to their left, tell
+                   their runs, and write the frame so
   --clean          decode a V0 frame only if it is clean: no block of rows 0 and 1 looks up, no length is outside 0 to 16, and
                    no word is missing; else the first fault is told, and nothing is written
   --jobs N         decode with N workers, one buffer each; else one for each processor

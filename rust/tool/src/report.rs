@@ -88,7 +88,8 @@ fn listing(runs: &[Rows], width: usize) -> String {
 /// What was set: how many samples, to what, and in which columns of which rows.
 pub fn blanked(runs: &[Run], fill: Option<u16>) -> String {
     let plural = |n, name: &str| format!("{n} {name}{}", if n == 1 { "" } else { "s" });
-    let (set, fill) = (runs.iter().map(|run| run.length).sum::<usize>(), fill.unwrap_or(0));
+    let set = runs.iter().map(|run| run.length).sum::<usize>();
+    let fill = fill.map_or("what lies left".into(), |fill| fill.to_string());
     if runs.is_empty() {
         return "nothing to blank\n".into();
     }

@@ -2,13 +2,13 @@
 use borrow.Author.Needs.{needs}
 use Prim.Native.Nat.{_-_}
 use native.Mathlib.Omega.{arith}
-use Rattle.blanking.specs.Blanking.{stated}
+use Rattle.blanking.specs.Lent.{meant}
 use Rattle.blanking.proofs.FrameLaws.{row-room, row-lent, RowsBlanked, rows-blanked-none, rows-blanked-more, rows-blanked-all}
 use Rattle.blanking.proofs.blank_frame.Statement.{statement}
 use Rattle.blanking.proofs.blank_frame.Tie as tie
 
 abbrev Inv-loop : tie.InvT-loop
-Inv-loop samples₀ map size fill runs₀ at₀ row₀ samples runs at row = RowsBlanked (stated fill) size samples₀ map runs₀ samples runs at row
+Inv-loop samples₀ map size fill runs₀ at₀ row₀ samples runs at row = RowsBlanked (meant fill) size samples₀ map runs₀ samples runs at row
 
 abbrev μ-loop : tie.MeasureT-loop
 μ-loop samples₀ map size fill runs₀ at₀ row₀ samples runs at row = size .height - row

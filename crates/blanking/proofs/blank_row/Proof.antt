@@ -1,8 +1,6 @@
 -- Where the greatest byte is 0 nothing is marked; else both are done.
-use mathlib.Core.Path.{sym, ap, _∙_}
-use native.Mathlib.Omega.{arith}
-use Rattle.blanking.specs.Blanking.{stated, numbers}
-use Rattle.blanking.proofs.RunLaws.{runs-none}
+use mathlib.Core.Path.{sym, _∙_}
+use Rattle.blanking.specs.Lent.{meant}
 use Rattle.blanking.proofs.RowLaws.{blank-row-none, nothing-listed}
 use borrow.Author.Needs.{needs}
 use Rattle.blanking.proofs.blank_row.Statement.{statement}
@@ -16,13 +14,10 @@ returns c =
     let a = c .before .before .before .before .before .args in
     let none = sym (c .before .greatest-of .ensures) ∙ c .if1 .taken in
     let listed = nothing-listed (a .row) (a .map .now) (a .from) (a .runs .now) none in
-    (listed .0, (sym (blank-row-none (stated (a .fill)) (a .samples .now) (a .map .now) none), listed .1))
+    (listed .0, (sym (blank-row-none (meant (a .fill)) (a .samples .now) (a .map .now) none), listed .1))
 
-fill-row-requires : tie.Need-fill-row-requires
-fill-row-requires c κs = search needs
-
-list-row-requires : tie.Need-list-row-requires
-list-row-requires c κs = search needs
+blank-marked-requires : tie.Need-blank-marked-requires
+blank-marked-requires c κs = search needs
 
 same-length : tie.Need-same-length
 same-length c = search needs
@@ -39,8 +34,7 @@ blank-row-spec =
     (tie.spec
     greatest-of-requires
     returns
-    fill-row-requires
-    list-row-requires
+    blank-marked-requires
     same-length
     same-length-2
     returns-2)

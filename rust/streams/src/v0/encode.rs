@@ -29,6 +29,11 @@ pub fn encode(image: &[u16], width: usize, height: usize) -> Frame {
 /// Encodes an image but for its first `band` rows. In them every block is upward, with residuals of 0: they carry down what the
 /// buffer held in rows 0 and 1. (The exchange takes part of a row into the next: an even `band` ends cleanly.)
 pub fn with_band(image: &[u16], width: usize, height: usize, band: usize) -> Frame {
+    with_corner(image, width, height, band, 0)
+}
+
+/// The same with a band that starts at a column, which 16 divides.
+pub fn with_corner(image: &[u16], width: usize, height: usize, band: usize, first: usize) -> Frame {
     let mut stored = image.to_vec();
     for row in (0..height).step_by(2).filter(|row| row + 1 < height) {
         for col in (0..width).step_by(2).filter(|col| col + 1 < width) {
@@ -37,12 +42,12 @@ pub fn with_band(image: &[u16], width: usize, height: usize, band: usize) -> Fra
     }
     let mut frame = Frame::new(Version::V0, width, height);
     for row in 0..height {
-        frame.push_row(&encode_row(&stored, width, row, band));
+        frame.push_row(&encode_row(&stored, width, row, (band, first)));
     }
     frame
 }
 
-fn encode_row(stored: &[u16], width: usize, row: usize, band: usize) -> Vec<u8> {
+fn encode_row(stored: &[u16], width: usize, row: usize, band: (usize, usize)) -> Vec<u8> {
     let mut writer = Writer::default();
     let mut lengths = [fresh_length(row) as u32; 4];
     for col in (0..width).step_by(16) {
@@ -63,9 +68,10 @@ fn encode_row(stored: &[u16], width: usize, row: usize, band: usize) -> Vec<u8> 
     writer.finish()
 }
 
-/// The block in the direction that costs less; rows of the band have no samples to predict from.
-fn chosen(stored: &[u16], width: usize, row: usize, col: usize, band: usize, lengths: [u32; 4]) -> Block {
-    if row < band {
+/// The block in the direction that costs less; the band, of so many rows from a column on, has no samples to predict from.
+fn chosen(stored: &[u16], width: usize, row: usize, col: usize, band: (usize, usize), lengths: [u32; 4]) -> Block {
+    let (band, first) = band;
+    if row < band && col >= first {
         return CARRIES_DOWN;
     }
     let cost = |block: &Block| (0..4).map(|j| told(lengths[j], block.needs[j]).2).sum::<u32>();

@@ -170,6 +170,9 @@ fn answers_in_words() {
     let text = "blanked to 512: 39 samples in 6 runs\n  rows 0 to 2: columns 0 to 8\n  row 4: columns 0 to 8\n  \
                 row 5: columns 2, 4 to 5\n";
     assert_eq!(report::blanked(&runs, Some(512)), text);
-    assert_eq!(report::blanked(&runs[4..5], None), "blanked to 0: 1 sample in 1 run\n  row 5: columns 2\n");
+    assert_eq!(
+        report::blanked(&runs[4..5], None),
+        "blanked to what lies left: 1 sample in 1 run\n  row 5: columns 2\n"
+    );
     assert_eq!(report::blanked(&[], None), "nothing to blank\n");
 }

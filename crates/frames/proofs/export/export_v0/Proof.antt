@@ -5,8 +5,8 @@ use Rattle.frames.proofs.ExportLaws.{refused-yields, written-yields}
 use Rattle.frames.proofs.export.export_v0.Statement.{statement}
 use Rattle.frames.proofs.export.export_v0.Tie as tie
 
-blank-requires : tie.Need-blank-requires
-blank-requires c κs = search needs
+blank-with-requires : tie.Need-blank-with-requires
+blank-with-requires c κs = search needs
 
 same-length : tie.Need-same-length
 same-length c = search needs
@@ -17,7 +17,7 @@ same-length-2 c = search needs
 returns : tie.Need-returns
 returns c =
     let a = c .before .before .before .before .before .before .before .before .before .before .before .before .before .before .before .args in
-    refused-yields (now (a .samples)) (now (a .map)) (a .width) (a .height) (now (a .runs)) (now (a .stream)) (now (a .offsets)) _ _ _ (c .before .before .before .before .before .before .before .blank .ensures) (c .if1 .taken)
+    refused-yields (now (a .samples)) (now (a .map)) (a .width) (a .height) (now (a .runs)) (now (a .stream)) (now (a .offsets)) _ _ _ (c .before .before .before .before .before .before .before .blank-with .ensures) (c .if1 .taken)
 
 write-v0-requires : tie.Need-write-v0-requires
 write-v0-requires c κs = search needs
@@ -37,13 +37,13 @@ same-length-6 c = search needs
 returns-2 : tie.Need-returns-2
 returns-2 c =
     let a = c .before .before .before .before .before .before .before .before .before .before .before .before .before .before .before .before .before .before .before .before .before .before .before .before .args in
-    written-yields (now (a .samples)) (now (a .map)) (a .width) (a .height) (now (a .runs)) (now (a .stream)) (now (a .offsets)) _ _ _ (c .before .before .before .before .before .before .before .before .before .before .before .before .before .before .before .before .blank .ensures) (c .before .before .before .before .before .before .before .before .before .if1 .left) _ _ _ (c .before .before .before .before .before .write-v0 .ensures)
+    written-yields (now (a .samples)) (now (a .map)) (a .width) (a .height) (now (a .runs)) (now (a .stream)) (now (a .offsets)) _ _ _ (c .before .before .before .before .before .before .before .before .before .before .before .before .before .before .before .before .blank-with .ensures) (c .before .before .before .before .before .before .before .before .before .if1 .left) _ _ _ (c .before .before .before .before .before .write-v0 .ensures)
 
 pub export-v0-spec : {M : Type 1} → statement M
 export-v0-spec =
     tie.close
     (tie.spec
-    blank-requires
+    blank-with-requires
     same-length
     same-length-2
     returns

@@ -1,0 +1,132 @@
+-- What is listed and set so far, with the runs that are left at a column, are the row's.
+use Prim.Native.Nat.{_-_}
+use native.Mathlib.Omega.{arith}
+use lib.ListN.{length}
+use Rattle.blanking.specs.Blanking.{blank-row}
+use Rattle.blanking.specs.Lent.{meant}
+use Rattle.blanking.proofs.ByteLaws.{zero-unmarked, other-marked}
+use Rattle.blanking.proofs.RunLaws.{stretch-more}
+use Rattle.blanking.proofs.RowLaws.{Filled, filled-none, filled-unmarked, filled-run, filled-done, Listed, listed-none, listed-passed, run-within, run-room, listed-run, listed-all}
+use borrow.Author.Needs.{needs}
+use Rattle.blanking.proofs.blank_marked.Statement.{statement}
+use Rattle.blanking.proofs.blank_marked.Tie as tie
+
+abbrev Inv-loop : tie.InvT-loop
+Inv-loop samples₀ map row fill runs₀ from at₀ col₀ samples runs at col = Listed row map from runs₀ runs at col × Filled (blank-row (meant fill) samples₀ map) samples₀ samples col
+
+abbrev μ-loop : tie.MeasureT-loop
+μ-loop samples₀ map row fill runs₀ from at₀ col₀ samples runs at col = length map - col
+
+loop-holds : tie.Need-loop-holds Inv-loop μ-loop
+loop-holds c = (listed-none _ _ _ _, filled-none _ _)
+
+shared-slice-read-if1 : tie.Need-shared-slice-read-if1 Inv-loop μ-loop
+shared-slice-read-if1 c = search needs
+
+add-col : tie.Need-add-col Inv-loop μ-loop
+add-col c = search needs
+
+loop-less : tie.Need-loop-less Inv-loop μ-loop
+loop-less c = search needs
+
+loop-again : tie.Need-loop-again Inv-loop μ-loop
+loop-again c =
+    let l = c .before .before .before .loop in
+    let a = c .before .before .before .before .before .before .before .args in
+    let none = zero-unmarked _ (c .if1 .taken) in
+    (listed-passed (l .inv .0) (omega arith) none, filled-unmarked (a .fill) (a .samples .now) (a .map .now) (l .inv .1) (omega arith) none)
+
+stretch-at-requires : tie.Need-stretch-at-requires Inv-loop μ-loop
+stretch-at-requires c κs = search needs
+
+turns-at-requires : tie.Need-turns-at-requires Inv-loop μ-loop
+turns-at-requires c κs = search needs
+
+set-run-requires : tie.Need-set-run-requires Inv-loop μ-loop
+set-run-requires c κs =
+    let l = c .before .before .before .before .before .before .before .loop in
+    let at-start = c .before .before .before .before .before .before .before .before .before .before .before in
+    let s = c .before .before .before .stretch-at in
+    let marks = other-marked _ (c .before .before .before .before .if1 .left) in
+    omega (arith, run-within (l .inv .0) (omega arith) marks (s .result) (s .ensures), l .inv .1 .kept, at-start .pre .1)
+
+put-run-requires : tie.Need-put-run-requires Inv-loop μ-loop
+put-run-requires c κs =
+    let l = c .before .before .before .before .before .before .before .before .before .before .before .loop in
+    let at-start = c .before .before .before .before .before .before .before .before .before .before .before .before .before .before .before in
+    let s = c .before .before .before .before .before .before .before .stretch-at in
+    let marks = other-marked _ (c .before .before .before .before .before .before .before .before .if1 .left) in
+    let w = run-within (l .inv .0) (omega arith) marks (s .result) (s .ensures) in
+    let p = at-start .pre .0 in
+    (run-room (l .inv .0) (omega arith) marks (s .result) (s .ensures) (p .room), (p .few, (omega (arith, p .wide), omega (arith, p .wide, w))))
+
+add-at : tie.Need-add-at Inv-loop μ-loop
+add-at c =
+    let l = c .before .before .before .before .before .before .before .before .before .before .before .before .before .before .loop in
+    let at-start = c .before .before .before .before .before .before .before .before .before .before .before .before .before .before .before .before .before .before in
+    let s = c .before .before .before .before .before .before .before .before .before .before .stretch-at in
+    let marks = other-marked _ (c .before .before .before .before .before .before .before .before .before .before .before .if1 .left) in
+    let r = run-room (l .inv .0) (omega arith) marks (s .result) (s .ensures) (at-start .pre .0 .room) in omega arith
+
+add-col-2 : tie.Need-add-col-2 Inv-loop μ-loop
+add-col-2 c =
+    let l = c .before .before .before .before .before .before .before .before .before .before .before .before .before .before .loop in
+    let at-start = c .before .before .before .before .before .before .before .before .before .before .before .before .before .before .before .before .before .before in
+    let s = c .before .before .before .before .before .before .before .before .before .before .stretch-at in
+    let marks = other-marked _ (c .before .before .before .before .before .before .before .before .before .before .before .if1 .left) in
+    let w = run-within (l .inv .0) (omega arith) marks (s .result) (s .ensures) in omega arith
+
+loop-less-2 : tie.Need-loop-less-2 Inv-loop μ-loop
+loop-less-2 c =
+    let l = c .before .before .before .before .before .before .before .before .before .before .before .before .before .before .loop in
+    let at-start = c .before .before .before .before .before .before .before .before .before .before .before .before .before .before .before .before .before .before in
+    let s = c .before .before .before .before .before .before .before .before .before .before .stretch-at in
+    let marks = other-marked _ (c .before .before .before .before .before .before .before .before .before .before .before .if1 .left) in
+    let one = stretch-more (at-start .args .map .now) (l .col) (omega arith) marks in omega (arith, one, s .ensures)
+
+loop-again-2 : tie.Need-loop-again-2 Inv-loop μ-loop
+loop-again-2 c =
+    let l = c .before .before .before .before .before .before .before .before .before .before .before .before .before .before .loop in
+    let at-start = c .before .before .before .before .before .before .before .before .before .before .before .before .before .before .before .before .before .before in
+    let s = c .before .before .before .before .before .before .before .before .before .before .stretch-at in
+    let marks = other-marked _ (c .before .before .before .before .before .before .before .before .before .before .before .if1 .left) in
+    let a = at-start .args in (
+      listed-run (l .inv .0) (omega arith) marks (s .result) (s .ensures) _ (c .before .before .put-run .ensures),
+      filled-run (a .fill) (a .samples .now) (a .map .now) (s .result) _ _ (l .inv .1) (at-start .pre .1) (run-within (l .inv .0) (omega arith) marks (s .result) (s .ensures)) (s .ensures) (c .before .before .before .before .before .before .before .before .turns-at .ensures) (c .before .before .before .before .before .before .set-run .ensures),
+    )
+
+same-length : tie.Need-same-length Inv-loop μ-loop
+same-length c = search needs
+
+same-length-2 : tie.Need-same-length-2 Inv-loop μ-loop
+same-length-2 c = search needs
+
+returns : tie.Need-returns Inv-loop μ-loop
+returns c =
+    let l = c .before .loop in
+    let a = c .before .before .before .before .before .args in
+    let listed = listed-all (omega arith) (l .inv .0) in
+    (listed .0, (filled-done (a .fill) (a .samples .now) (a .map .now) (l .inv .1) (omega arith), listed .1))
+
+pub blank-marked-spec : {M : Type 1} → statement M
+blank-marked-spec =
+    tie.close
+    (tie.spec
+    Inv-loop
+    μ-loop
+    loop-holds
+    shared-slice-read-if1
+    add-col
+    loop-less
+    loop-again
+    stretch-at-requires
+    turns-at-requires
+    set-run-requires
+    put-run-requires
+    add-at
+    add-col-2
+    loop-less-2
+    loop-again-2
+    same-length
+    same-length-2
+    returns)
