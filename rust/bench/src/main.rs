@@ -57,7 +57,8 @@ fn tell_how(runs: usize) {
     println!(
         "ratio: time divided by the Rust's, decode_v0_reference for direct and for writers, decode_v0_with(.., false) for \
          two-phase, decode_v0_reference and decode_v2 together for v0_to_v2; of decode_v0_bands, with 8 bands and blocks of \
-         256 columns, by decode_v0's; of decode_v0_clean by decode_v0_reference's, both Razvolk's"
+         256 columns, by decode_v0's; of decode_v0_clean by decode_v0_reference's, both Razvolk's; of blank by \
+         blank_with's"
     );
 }
 
