@@ -947,7 +947,7 @@ static uint32_t unconvertible(const ask *a) {
 }
 
 /* The refusal of a decoded frame, or 0: 16 and 9. */
-static uint32_t unclean(const uint16_t *samples, const uint8_t *map, size_t n) {
+static uint32_t unfit(const uint16_t *samples, const uint8_t *map, size_t n) {
     uint32_t refused = 0;
     for (size_t i = 0; i < n; i++) {
         if (map[i] > 0)
@@ -1010,7 +1010,7 @@ static void play_converter(void) {
     calls++;
     if (refused == 0) {
         razvolk_decode_v0_reference_map(V0(&a), SAMPLES(old), BYTES(left));
-        refused = unclean((const uint16_t *)(const void *)old.data, left.data, cells(&a));
+        refused = unfit((const uint16_t *)(const void *)old.data, left.data, cells(&a));
     }
     numbers[refused]++;
     expect(out.answer.number == refused && out.answer.row == 0, "the converter's refusal");
