@@ -170,6 +170,18 @@ pub fn razvolk() -> Vec<Entry> {
     ]
 }
 
+/// Those for clean frames, which refuse others by 17 to 19.
+pub fn razvolk_clean() -> Vec<Entry> {
+    vec![
+        Entry::new("decode_v0_clean", Decoder::Direct, false, |a, l| {
+            answer(razvolk::decode_v0_clean(a.src, a.offsets, a.width, a.height, l.samples))
+        }),
+        Entry::new("decode_v0_clean_map", Decoder::Direct, true, |a, l| {
+            answer(razvolk::decode_v0_clean_map(a.src, a.offsets, a.width, a.height, l.samples, l.map))
+        }),
+    ]
+}
+
 /// Those of V0, or those of V2.
 pub fn razvolk_of(version: Version) -> Vec<Entry> {
     razvolk().into_iter().filter(|entry| entry.decoder.version() == version).collect()

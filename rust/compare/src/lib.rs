@@ -12,6 +12,7 @@ pub mod clean;
 pub mod convert;
 mod faults;
 pub mod jobs;
+pub mod late;
 pub mod lists;
 pub mod missing;
 pub mod planes;

@@ -4,7 +4,7 @@ use docs::definitions::{citations, definitions};
 use docs::{hold, text, texts};
 
 /// The crates whose `specs/` are rules.
-const CRATES: [&str; 6] = ["rules", "bands", "profile", "blanking", "writers", "frames"];
+const CRATES: [&str; 7] = ["rules", "bands", "profile", "blanking", "writers", "frames", "late"];
 
 #[test]
 fn every_definition_of_the_rules_is_told() {

@@ -69,7 +69,8 @@ impl<'a> Look<'a> {
     pub fn text(&self, name: &str, frame: &Frame) -> String {
         let marks = report::marks(self.decoded.map(|decoded| decoded.marks));
         let blanked = self.blanked.as_ref().map(|(fill, runs)| report::blanked(runs, *fill)).unwrap_or_default();
-        format!("{}\n{}\n{marks}{blanked}", report::heading(name, frame), report::answer(self.answer))
+        let standing = report::standing(self.answer);
+        format!("{}\n{}\n{standing}{marks}{blanked}", report::heading(name, frame), report::answer(self.answer))
     }
 }
 

@@ -43,6 +43,17 @@ pub fn answer(answer: Result<(), Refusal>) -> String {
     }
 }
 
+/// Which rows of a V2 frame stand that a refusal ended: those before it read only words that are there, so that no other bytes
+/// from its words on change them.
+pub fn standing(answer: Result<(), Refusal>) -> String {
+    match answer.err().filter(|refusal| refusal.has_begun()).map(|refusal| refusal.row()) {
+        None => String::new(),
+        Some(0) => "no row stands\n".into(),
+        Some(1) => "row 0 stands, whatever bytes come after it\n".into(),
+        Some(row) => format!("rows 0 to {} stand, whatever bytes come after them\n", row - 1),
+    }
+}
+
 /// That all samples rest on the stream; or how many rest on old values, and in which rows, and where words were missing, how
 /// many rest on those.
 pub fn marks(marks: Option<Marks>) -> String {

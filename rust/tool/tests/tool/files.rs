@@ -164,6 +164,10 @@ fn answers_in_words() {
         "refused 8, row 9: the stream ends in row 9"
     );
     assert_eq!(report::answer(Err(Refusal::TooLarge)), "refused 1: width or height is above 16,384");
+    let standing = |row| report::standing(Err(Refusal::Overrun { row, filler: 1 }));
+    assert_eq!(standing(9), "rows 0 to 8 stand, whatever bytes come after them\n");
+    assert_eq!(standing(1), "row 0 stands, whatever bytes come after it\n");
+    assert_eq!([report::standing(Ok(())), report::standing(Err(Refusal::TooLarge))], ["", ""]);
     assert_eq!(report::marks(None), "nothing was decoded\n");
     let run = |row, first, length| Run { row, first, length };
     let runs = [run(0, 0, 9), run(1, 0, 9), run(2, 0, 9), run(4, 0, 9), run(5, 2, 1), run(5, 4, 2)];

@@ -59,7 +59,7 @@ fn bare_streams() {
     let text = "v0: V0, 2 by 2, 16 bytes of stream\ndone\nall 4 samples rest on the stream\n";
     assert_eq!(folder.run("--v0 2x2 --offsets offsets v0"), done(text));
     folder.put("v2", [0; 16]);
-    let text = "v2: V2, 646 by 436, 16 bytes of stream\nrefused 8, row 0: the stream ends in row 0\n\
+    let text = "v2: V2, 646 by 436, 16 bytes of stream\nrefused 8, row 0: the stream ends in row 0\nno row stands\n\
         281016 of 281656 samples rest on what the buffer held before\n  row 0: 6 of 646\n  rows 1 to 435: 646 of 646 each\n\
         640 of 281656 samples rest on missing words: 7 words (28 bytes) were read past the end\n  row 0: 640 of 646\n";
     assert_eq!(folder.run("--v2 646x436 v2 --png v2.png"), refused(text));
@@ -172,7 +172,8 @@ fn refusals() {
     let text = "stream: V0, 5 by 5, 0 bytes of stream\nrefused 3: the sample buffer or the offset table is too short\nnothing \
         was decoded\n";
     assert_eq!(folder.run("--v0 5x5 --offsets offsets stream"), refused(text));
-    let text = "stream: V2, 646 by 436, 0 bytes of stream\nrefused 5, row 0: row 0 predicts from rows that do not exist\n\
+    let text = "stream: V2, 646 by 436, 0 bytes of stream\nrefused 5, row 0: row 0 predicts from rows that do not exist\nno row \
+        stands\n\
         281656 of 281656 samples rest on what the buffer held before\n  rows 0 to 435: 646 of 646 each\n\
         none of 281656 samples rests on missing words: 5 words (20 bytes) were read past the end\n";
     assert_eq!(folder.run("--v2 646x436 stream"), refused(text));

@@ -1,0 +1,8 @@
+-- What follows from the definitions: offset tables that agree at first, streams that agree at first, and the claim of calls.
+pub mod Offsets
+pub mod Trail
+pub mod V2Trail
+pub mod Stream
+pub mod Calls
+pub mod LateFault
+pub mod Examples
