@@ -147,7 +147,7 @@ fn of_v2(entries: &[Entry], random: &mut Random, seen: &mut Seen) -> Result<(), 
     let (options, width) = (random.below(16) as u32, 646 + random.index(20));
     let style = Style::any(random, options);
     let number = [5, 6, 7][random.index(3)];
-    let planted = random.once_in(2).then(|| Planted { number, row: 2, block: 0 });
+    let planted = random.once_in(2).then_some(Planted { number, row: 2, block: 0 });
     let frame = written(random, &style, width, 436, planted);
     let old = random.samples(frame.samples());
     for _ in 0..8 {
