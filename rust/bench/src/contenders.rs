@@ -2,7 +2,7 @@
 
 use crate::measure::Contender;
 use compare::bands::Cut;
-use compare::call::{Answer, Ask, Decoder, Entry, Lent, razvolk_of};
+use compare::call::{Ask, Decoder, Entry, Lent, razvolk_of};
 use razvolk::Bands;
 use std::cell::RefCell;
 use std::rc::Rc;
@@ -99,7 +99,7 @@ pub fn of<'a>(frame: &'a Frame, buffers: &'a RefCell<Buffers>) -> Vec<Contender<
             let run = move || {
                 let Buffers { samples, map, scratch } = &mut *buffers.borrow_mut();
                 let ask = Ask { cut: &cut, ..Ask::of(frame) };
-                entry.call(&ask, &mut Lent { samples, map, scratch }) == Answer::DONE
+                entry.call(&ask, &mut Lent { samples, map, scratch }).number == 0
             };
             contenders.push(Contender { name, against, run: Box::new(run) });
         }
