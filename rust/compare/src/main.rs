@@ -134,7 +134,7 @@ const COMPARISONS: [Comparison; 17] = [
     Comparison {
         name: "convert",
         quick: 2_000,
-        long: 50_250,
+        long: 150_000,
         run: |seed, n| Ok(convert::compare(&convert::compare::razvolk, seed, n, 250)?.to_string()),
     },
 ];
