@@ -26,7 +26,7 @@ extern "C" {
  *   number                                                                left behind
  *   0  done                                                               the frame, in the first N samples
  *   1  width or height is above 16,384                                    every buffer as it was
- *   2  V2: width is below 646 or height below 436                         every buffer as it was
+ *   2  V2: width is below 32 or height below 1                            every buffer as it was
  *   3  fewer than N samples are lent, or in V0 fewer offsets than rows    every buffer as it was
  *   4  the map is shorter than N bytes, or the scratch is too short       every buffer as it was
  *   5  V2: a block of row 0 or 1 predicts from the rows above             the blocks before it are written
@@ -83,8 +83,8 @@ typedef struct {
 
 /* The limits that they speak of. */
 #define RAZVOLK_MOST_SIDE 16384u       /* 1 */
-#define RAZVOLK_V2_LEAST_WIDTH 646u    /* 2 */
-#define RAZVOLK_V2_LEAST_HEIGHT 436u   /* 2 */
+#define RAZVOLK_V2_LEAST_WIDTH 32u     /* 2 */
+#define RAZVOLK_V2_LEAST_HEIGHT 1u     /* 2 */
 #define RAZVOLK_V0_MOST_SAMPLE 16383u  /* 9 */
 
 /* The parts of a map byte: 0 to 3, the sum of those that hold. */
@@ -154,8 +154,8 @@ razvolk_answer razvolk_decode_v0_bands(const uint8_t *src, size_t src_len, const
 #define RAZVOLK_STEPS(width, height, bands, block_width) \
     ((width) > 0 && (height) > 2 ? (((size_t)(width) - 1) / (size_t)(block_width) + 1) * (size_t)(bands) : (size_t)0)
 
-/* V2. The last (width modulo 16) samples of a row are not written: they keep what the buffer held, and later rows may build on
- * them.
+/* V2, a camera's frame or a crop of 32 by 1 or more. The last (width modulo 16) samples of a row are not written: they keep what
+ * the buffer held, and later rows may build on them.
  * 0        the first N samples are the frame's
  * 1, 2, 3  nothing is written
  * 5, 6, 7  the rows before `row` are written, and the blocks of that row that come before the one at fault; the rest of the

@@ -160,6 +160,9 @@ static void v0_bands(void) {
 static void v2(void) {
     const size_t n = 646 * 436;
     static const uint8_t zeros[16] = {0};
+    /* Two frames of 32 by 1. The first length is too long, and has the last bits; every sample is the initial one, 5. */
+    static const uint8_t long_length[20] = {0, 0, 0, 0, 0, 0, 0, 0, 0, 1, 0, 0, 0, 0, 0, 0, 0xff, 0xff, 0x01, 0xc0};
+    static const uint8_t crop[20] = {0, 13, 0, 0, 0, 0, 0, 0, 0, 4, 0, 0, 5, 0, 0, 0, 0, 0, 0, 0xf0};
     uint16_t *out = (uint16_t *)calloc(n, sizeof(uint16_t));
     uint8_t *marked = (uint8_t *)calloc(n, 1);
     razvolk_answer answer;
@@ -172,8 +175,15 @@ static void v2(void) {
     answer = razvolk_decode_v2_map(zeros, 16, 646, 436, out, n, marked, n);
     expect(answer.number == 8 && answer.row == 0 && answer.filler == 7, "decode_v2_map refuses sixteen zero bytes by 8");
     expect(out[639] == 1 && out[640] == 0 && marked[639] == 2 && marked[640] == 1, "and has written 640 samples");
-    answer = razvolk_decode_v2(zeros, 16, 645, 436, out, n);
-    expect(answer.number == 2 && answer.row == 0 && answer.filler == 0, "a width of 645 is refused by 2");
+    answer = razvolk_decode_v2(zeros, 16, 31, 1, out, n);
+    expect(answer.number == 2 && answer.row == 0 && answer.filler == 0, "a width of 31 is refused by 2");
+    answer = razvolk_decode_v2_map(zeros, 16, 32, 0, out, n, marked, n);
+    expect(answer.number == 2 && answer.row == 0 && answer.filler == 0, "a height of 0 is refused by 2");
+    answer = razvolk_decode_v2(long_length, sizeof long_length, 32, 1, out, n);
+    expect(answer.number == 7 && answer.row == 0 && answer.filler == 0, "no length past one that is too long is read");
+    answer = razvolk_decode_v2_map(crop, sizeof crop, 32, 1, out, n, marked, n);
+    expect(answer.number == 0 && answer.row == 0 && answer.filler == 0, "32 by 1 is decoded");
+    expect(out[0] == 5 && out[31] == 5 && out[32] == 1 && marked[31] == 0 && marked[32] == 2, "and all else is as it was");
     free(out);
     free(marked);
 }
@@ -263,9 +273,8 @@ static void blank(void) {
     expect(answer.number == 0 && memcmp(back, frame, sizeof back) == 0, "decoded, it is the blanked frame");
 }
 
-/* V0 into V2, of the smallest frame that V2 takes. */
 static void v0_to_v2(void) {
-    enum { WIDTH = 656, HEIGHT = 436, N = WIDTH * HEIGHT };
+    enum { WIDTH = 48, HEIGHT = 5, N = WIDTH * HEIGHT };
     static uint16_t frame[N], back[N];
     static uint8_t v0[RAZVOLK_V0_MOST(WIDTH, HEIGHT)], v2[RAZVOLK_V2_MOST(WIDTH, HEIGHT)], marks[N];
     static uint32_t table[HEIGHT];
@@ -275,10 +284,12 @@ static void v0_to_v2(void) {
     size_t length = (size_t)written.length;
     memset(v2, 9, sizeof v2);
     memset(marks, 9, sizeof marks);
-    written = razvolk_v0_to_v2(v0, length, table, HEIGHT, 640, HEIGHT, back, N, marks, N, v2, sizeof v2);
-    expect(written.answer.number == RAZVOLK_TOO_SMALL && written.length == 0, "640 columns are refused by 2");
-    written = razvolk_v0_to_v2(v0, length, table, HEIGHT, 655, HEIGHT, back, N, marks, N, v2, sizeof v2);
-    expect(written.answer.number == RAZVOLK_BAD_WIDTH && marks[0] == 9, "655 columns are refused by 15");
+    written = razvolk_v0_to_v2(v0, length, table, HEIGHT, 16, HEIGHT, back, N, marks, N, v2, sizeof v2);
+    expect(written.answer.number == RAZVOLK_TOO_SMALL && written.length == 0, "16 columns are refused by 2");
+    written = razvolk_v0_to_v2(v0, length, table, HEIGHT, WIDTH, 0, back, N, marks, N, v2, sizeof v2);
+    expect(written.answer.number == RAZVOLK_TOO_SMALL && written.length == 0, "no rows are refused by 2");
+    written = razvolk_v0_to_v2(v0, length, table, HEIGHT, 47, HEIGHT, back, N, marks, N, v2, sizeof v2);
+    expect(written.answer.number == RAZVOLK_BAD_WIDTH && marks[0] == 9, "47 columns are refused by 15");
     written = razvolk_v0_to_v2(v0, length, table, HEIGHT, WIDTH, HEIGHT, back, N, marks, N, v2, 15);
     expect(written.answer.number == RAZVOLK_SHORT_OUTPUT && v2[0] == 9, "15 bytes are refused by 10");
     expect(memcmp(back, frame, sizeof frame) == 0 && marks[0] == 0, "the frame is decoded under 10");
@@ -314,7 +325,7 @@ static void null(void) {
     expect(answer.number == RAZVOLK_DONE, "decode_v0_bands of NULL");
     answer = razvolk_decode_v2(NULL, 0, 646, 436, NULL, 0);
     expect(answer.number == RAZVOLK_SHORT_SAMPLES, "decode_v2 of NULL");
-    answer = razvolk_decode_v2_map(NULL, 0, 645, 436, NULL, 0, NULL, 0);
+    answer = razvolk_decode_v2_map(NULL, 0, 32, 0, NULL, 0, NULL, 0);
     expect(answer.number == RAZVOLK_TOO_SMALL, "decode_v2_map of NULL");
     answer = razvolk_to_planes(NULL, 0, 0, 9, NULL, 0);
     expect(answer.number == RAZVOLK_DONE, "to_planes of NULL");

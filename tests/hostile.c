@@ -156,7 +156,7 @@ static uint32_t refusal_of_cut(const ask *a) {
 static uint32_t refusal(const ask *a, bool with_map, bool with_scratch) {
     if (a->width > 16384 || a->height > 16384)
         return 1;
-    if (a->v2 && (a->height < 436 || a->width < 646))
+    if (a->v2 && (a->height < 1 || a->width < 32))
         return 2;
     if (a->samples < cells(a) || (!a->v2 && a->offsets.bytes / 4 < a->height))
         return 3;
@@ -287,8 +287,11 @@ static ask any_v0(void) {
     return a;
 }
 
+/* A camera's frame, or a crop. */
 static ask any_v2(void) {
     ask a = {true, {0}, {0}, 646 + below(40), 436 + below(4), 0, 0, 0, 0, 0, {0}};
+    if (below(2) == 0)
+        a.width = 32 + below(169), a.height = 1 + below(80);
     if (below(8) == 0)
         any_bytes(below(4096));
     else
@@ -298,10 +301,10 @@ static ask any_v2(void) {
     a.offsets = lend(0);
     switch (below(24)) {
     case 0:
-        a.width = 645;
+        a.width = below(32);
         break;
     case 1:
-        a.height = 435;
+        a.height = 0;
         break;
     case 2:
         a.width = 16385;
@@ -961,7 +964,9 @@ static uint32_t unfit(const uint16_t *samples, const uint8_t *map, size_t n) {
 /* A frame that V2 takes, its samples written as V0; now and then with a bit of the stream turned, or a first block that predicts
  * from the row above. */
 static ask convertible(void) {
-    ask a = {false, {0}, {0}, 656 + 16 * below(2), 436 + below(2), 0, 0, 0, 0, 0, {0}};
+    ask a = {false, {0}, {0}, 32 + 16 * below(10), 1 + below(40), 0, 0, 0, 0, 0, {0}};
+    if (below(4) == 0)
+        a.width = 656, a.height = 436;
     size_t n = cells(&a), most = RAZVOLK_V0_MOST(a.width, a.height);
     slice samples = lend(2 * n);
     uint16_t least = (uint16_t)below(12000), range = (uint16_t)(1 << below(13));
@@ -995,14 +1000,15 @@ static void decodes_as_v2(const ask *a, slice stream, size_t length, const uint8
     give_back(map);
 }
 
-/* Converts a frame, mostly one that is refused at once, and holds the call to the direct decoder's. */
+/* Converts a frame, a third of the time one that can be, and holds the call to the direct decoder's. */
 static void play_converter(void) {
-    bool large = below(12) == 0;
-    ask a = large ? convertible() : any_v0();
-    if (!large)
+    bool good = below(3) == 0;
+    ask a = good ? convertible() : any_v0();
+    if (!good)
         any_lengths(&a);
     uint32_t refused = unconvertible(&a);
-    slice samples = lend(2 * a.samples), map = lend(a.map), stream = lend(large ? RAZVOLK_V2_MOST(a.width, a.height) : below(99));
+    slice samples = lend(2 * a.samples), map = lend(a.map);
+    slice stream = lend(refused > 0 ? below(99) : RAZVOLK_V2_MOST(a.width, a.height));
     scatter(samples.data, samples.bytes);
     slice old = copy(samples.data, samples.bytes), left = lend(a.map);
     filled(map, 0), filled(left, 0), filled(stream, 0);

@@ -68,10 +68,8 @@ fn frames() -> Vec<Frame> {
         let whole = v0::encode(&scene, width, height);
         let band = v0::encode::with_band(&christening(width, height), width, height, 24.min(height));
         frames.extend([cut(&whole), damaged(&whole), whole, band]);
-        if width >= 646 {
-            let whole = v2::encode(&scene, width, height);
-            frames.extend([cut(&whole), damaged(&whole), whole]);
-        }
+        let whole = v2::encode(&scene, width, height);
+        frames.extend([cut(&whole), damaged(&whole), whole]);
     }
     frames
 }

@@ -184,7 +184,7 @@ refusals! {
     /// | Number | Given when | Left behind |
     /// |---|---|---|
     /// | 1 | width or height is above 16,384 | every buffer as it was |
-    /// | 2 | V2: width is below 646 or height below 436 | every buffer as it was |
+    /// | 2 | V2: width is below 32 or height below 1 | every buffer as it was |
     /// | 3 | fewer than N samples are lent, or in V0 fewer offsets than rows | every buffer as it was |
     /// | 4 | the map is shorter than N bytes, or the scratch is too short | every buffer as it was |
     /// | 5 | V2: a block of row 0 or 1 predicts from the rows above | the blocks before it are written |
@@ -218,7 +218,7 @@ refusals! {
     /// assert_eq!(refused.to_string(), "row 0 predicts from rows that do not exist");
     /// ```
     1 TooLarge "width or height is above 16,384";
-    2 TooSmall "the frame is smaller than 646 by 436";
+    2 TooSmall "the frame is smaller than 32 by 1";
     3 ShortSamples "the sample buffer or the offset table is too short";
     4 ShortMap "the map or the scratch is too short";
     5 EarlyMotion { row, filler } "row {row} predicts from rows that do not exist";

@@ -6,7 +6,7 @@ use crate::{MAX_SIDE, Refusal, ffi};
 /// `stream` on. Returns how many bytes the stream has; what lies past them stays as it was.
 ///
 /// [`crate::decode_v2`] gives the samples back, over any buffer, with no sample marked. A buffer of [`most_v2_bytes`] is always
-/// long enough. The width must be a multiple of 16, and the size one that V2 has.
+/// long enough. The width must be a multiple of 16, and 32 at least, and there must be a row.
 ///
 /// # Errors
 ///
@@ -15,7 +15,7 @@ use crate::{MAX_SIDE, Refusal, ffi};
 /// 16,383) and 10 (`stream` is too short for all that would be written), in this order, leave `stream` as it was.
 ///
 /// ```
-/// let (width, height) = (656, 436);
+/// let (width, height) = (320, 200);
 /// let samples: Vec<u16> = (0..width * height).map(|i| (i * 7 % 16_384) as u16).collect();
 /// let (v0, offsets) = razvolk::write_v0_to_vecs(&samples, width, height)?;
 ///
@@ -73,17 +73,18 @@ mod tests {
 
     #[test]
     fn refusals_before_decoding_leave_all_as_it_was() {
-        let n = 656 * 436;
-        let rows = vec![0; 436];
+        let n = 48 * 5;
+        let rows = [0; 5];
         let cases = [
-            ((16_385, 0), (n, n, 99), 436, 1),
+            ((16_385, 0), (n, n, 99), 5, 1),
             ((usize::MAX, usize::MAX), (0, 0, 0), 0, 1),
-            ((640, 436), (0, 0, 0), 0, 2),
-            ((656, 435), (n, n, 99), 436, 2),
-            ((656, 436), (n - 1, n - 1, 99), 436, 3),
-            ((656, 436), (n, n, 99), 435, 3),
-            ((656, 436), (n, n - 1, 99), 436, 4),
-            ((655, 436), (n, n - 1, 99), 436, 15),
+            ((16, 5), (0, 0, 0), 0, 2),
+            ((31, 1), (n, n, 99), 5, 2),
+            ((32, 0), (n, n, 99), 5, 2),
+            ((48, 5), (n - 1, n - 1, 99), 5, 3),
+            ((48, 5), (n, n, 99), 4, 3),
+            ((48, 5), (n, n - 1, 99), 5, 4),
+            ((47, 5), (n, n - 1, 99), 5, 15),
         ];
         for ((width, height), lens, offsets, number) in cases {
             let (answer, samples, map, stream) = called((&[], &rows[..offsets]), (width, height), lens);
@@ -94,7 +95,13 @@ mod tests {
 
     #[test]
     fn refusals_after_decoding_leave_the_stream_as_it_was() {
-        let (width, height, n) = (656, 436, 656 * 436);
+        for (width, height) in [(32, 2), (48, 5), (656, 436)] {
+            refused_after_decoding(width, height);
+        }
+    }
+
+    fn refused_after_decoding(width: usize, height: usize) {
+        let n = width * height;
         let dim: Vec<u16> = (0..n).map(|i| (i * 7 % 16_384) as u16).collect();
         let (v0, offsets) = write_v0_to_vecs(&dim, width, height).expect("within the limits");
         let size = (width, height);

@@ -254,7 +254,7 @@ mod tests {
             assert!(decoder.marks().is_none());
         }
         for (width, height, refusal) in
-            [(16_385, 436, Refusal::TooLarge), (645, 436, Refusal::TooSmall), (16_384, 16_384, Refusal::ShortSamples)]
+            [(16_385, 436, Refusal::TooLarge), (31, 436, Refusal::TooSmall), (16_384, 16_384, Refusal::ShortSamples)]
         {
             assert_eq!(decoder.decode_v2(&[], width, height, &mut out), Err(refusal));
             assert!(decoder.marks().is_none());

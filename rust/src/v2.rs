@@ -2,8 +2,8 @@
 
 use crate::{Refusal, ffi};
 
-/// Decodes a V2 frame. The last `width % 16` samples of each row are not written, and may be built on by later rows: they
-/// keep what `out` held, and [`decode_v2_map`] tells what rests on it.
+/// Decodes a V2 frame, a camera's or a crop of 32 by 1 or more. The last `width % 16` samples of each row are not written, and may
+/// be built on by later rows: they keep what `out` held, and [`decode_v2_map`] tells what rests on it.
 ///
 /// # Errors
 ///
@@ -70,14 +70,29 @@ mod tests {
     fn lengths_are_read_one_by_one() {
         // The first length of row 0 is too long, and has the last bits of the stream: no word is missing up to it.
         let stream = [0, 0, 0, 0, 0, 0, 0, 0, 0, 1, 0, 0, 0, 0, 0, 0, 0xff, 0xff, 0x01, 0xc0];
-        let (refusal, out, _) = decoded(&stream, 646, 436);
-        assert_eq!(refusal, Refusal::LongDifference { row: 0, filler: 0 });
-        assert!(out.iter().all(|&s| s == 7));
+        for (width, height) in [(32, 1), (646, 436)] {
+            let (refusal, out, map) = decoded(&stream, width, height);
+            assert_eq!(refusal, Refusal::LongDifference { row: 0, filler: 0 }, "{width} by {height}");
+            assert!(out.iter().all(|&s| s == 7) && map[..width * height].iter().all(|&m| m == 1));
+        }
+    }
+
+    #[test]
+    fn a_crop_of_the_least_size() {
+        // Depth 14, options 4, initial sample 5; both blocks repeat it, and have no lengths.
+        let stream = [0, 13, 0, 0, 0, 0, 0, 0, 0, 4, 0, 0, 5, 0, 0, 0, 0, 0, 0, 0xf0];
+        let (mut out, mut map) = ([7; 33], [9; 33]);
+        assert_eq!(decode_v2(&stream, 32, 1, &mut out), Ok(()));
+        assert_eq!((out[0], out[31], out[32]), (5, 5, 7));
+        assert_eq!(decode_v2_map(&stream, 32, 1, &mut out, &mut map), Ok(()));
+        assert!(map[..32].iter().all(|&m| m == 0) && map[32] == 9);
+        let refused = decode_v2(&stream[..16], 32, 1, &mut out);
+        assert_eq!(refused, Err(Refusal::Overrun { row: 0, filler: 1 }));
     }
 
     #[test]
     fn sizes_of_the_document() {
-        for (width, height, number) in [(645, 436, 2), (646, 435, 2), (16_385, 0, 1), (0, 16_385, 1), (647, 436, 3)] {
+        for (width, height, number) in [(31, 1, 2), (32, 0, 2), (16_385, 0, 1), (0, 16_385, 1), (647, 436, 3)] {
             let (refusal, out, map) = decoded(&[0; 16], width, height);
             assert_eq!(Some(refusal), Refusal::of(number, 0, 0), "{width} by {height}");
             assert!(out.iter().all(|&s| s == 7) && map.iter().all(|&m| m == 9));

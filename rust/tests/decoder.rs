@@ -17,9 +17,10 @@ fn frames() -> Vec<Frame> {
     }
     let whole = v2::encode(&christening(646, 436), 646, 436);
     let cut = whole.cut(20_000);
-    let small = Frame { width: 645, ..whole.clone() };
+    let crop = v2::encode(&christening(70, 9), 70, 9);
+    let small = Frame { width: 31, ..crop.clone() };
     let large = Frame { width: 16_385, ..whole.clone() };
-    frames.extend([whole, cut, small, large]);
+    frames.extend([whole, cut, crop, small, large]);
     frames
 }
 

@@ -139,7 +139,7 @@ module _ (a : Ask) (l : Lent) (ok : refusal a l ≡ 0) where
   size-most = let q = neither _ _ (fails 1) in (ltb-false _ _ (q .0), ltb-false _ _ (q .1))
 
   -- V2: it is no smaller than the least.
-  pub v2-size-least : a .decoder ≡ v2 → (646 ≤ a .size .width) × (436 ≤ a .size .height)
+  pub v2-size-least : a .decoder ≡ v2 → (32 ≤ a .size .width) × (1 ≤ a .size .height)
   unfolding too-small
   v2-size-least e = let q = neither _ _ (rw e at (fails 2)) in (ltb-false _ _ (q .1), ltb-false _ _ (q .0))
 

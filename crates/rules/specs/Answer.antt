@@ -59,11 +59,11 @@ lent samples map scratch = record { samples = samples; map = map; scratch = scra
 unfoldable pub too-large : Size → Bool
 too-large z = ltb 16_384 (z .width) || ltb 16_384 (z .height)
 
--- 2: in V2 height below 436 or width below 646.
+-- 2: in V2 height below 1 or width below 32.
 unfoldable pub too-small : Decoder → Size → Bool
 too-small direct z = false
 too-small two-phase z = false
-too-small v2 z = ltb (z .height) 436 || ltb (z .width) 646
+too-small v2 z = ltb (z .height) 1 || ltb (z .width) 32
 
 -- 3: fewer than N samples lent, or in V0 fewer offsets than height.
 unfoldable pub short-offsets : Decoder → List ℕ → Size → Bool

@@ -1,8 +1,8 @@
 -- Document 01, "Promises and proved examples": the lines marked P, as one list. `proofs/Examples.antt` proves the one claim, that
 -- in each what the rules give is what the document states.
-use Prim.Native.Nat.{ℕ, suc}
+use Prim.Native.Nat.{ℕ, suc, _*_}
 use mathlib.Core.List.{List, [], _∷_, _++_, map}
-use mathlib.Core.Option.{some}
+use mathlib.Core.Option.{none, some}
 use lib.IntN.{ℤ, pos, negsuc}
 use lib.ListN.{replicate}
 use Rattle.rules.specs.declared.answer.Size.{Size}
@@ -66,10 +66,10 @@ one-less depth =
 abbrev long-length : List ℕ
 long-length = replicate 9 0x00 ++ (0x01 ∷ []) ++ replicate 6 0x00 ++ (0xFF ∷ 0xFF ∷ 0x01 ∷ 0xC0 ∷ [])
 
--- What a V2 frame of 32 by 1 answers: number, row, and how many words were missing.
-abbrev answered : List ℕ → List ℕ
-answered s =
-    let a = V2.read-frame s (size 32 1) .answer in
+-- What a V2 call answers: number, row, and how many words were missing.
+abbrev answered : ℕ → ℕ → List ℕ → List ℕ
+answered w h s =
+    let a = Answer.answer (Answer.ask Answer.v2 s [] w h) (Answer.lent (w * h) none 0) in
     a .number ∷ a .row ∷ a .filler ∷ []
 
 -- A header of depth 8.
@@ -111,8 +111,9 @@ examples a b c d =
     ∷ record { given = tabulate 16 1 one-less; stated = replicate 16 7 }
     ∷ record { given = Map.v0-map spilt-filler (12 ∷ 0 ∷ []) (size 2 2); stated = 3 ∷ 3 ∷ 3 ∷ 3 ∷ [] }
     ∷ record { given = V0.frame-filler spilt-filler (12 ∷ 0 ∷ []) (size 2 2) ∷ []; stated = 1 ∷ [] }
-    ∷ record { given = answered long-length; stated = 7 ∷ 0 ∷ 0 ∷ [] }
-    ∷ record { given = answered []; stated = 5 ∷ 0 ∷ 5 ∷ [] }
+    ∷ record { given = answered 32 1 long-length; stated = 7 ∷ 0 ∷ 0 ∷ [] }
+    ∷ record { given = answered 32 1 []; stated = 5 ∷ 0 ∷ 5 ∷ [] }
+    ∷ record { given = answered 31 1 [] ++ answered 32 0 []; stated = 2 ∷ 0 ∷ 0 ∷ 2 ∷ 0 ∷ 0 ∷ [] }
     ∷ []
 
 -- Beside them the job program's example: its input, and the text "done", "0: 0* 131", "1: 0* 126".

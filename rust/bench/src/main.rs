@@ -83,10 +83,15 @@ fn time_blanking(runs: usize, part: usize) {
     bench::blank::time(V0.0 / part, V0.1 / part, runs);
 }
 
+/// Whether the Rust decodes V2 of this size, and there is a time to compare with.
+fn the_rust_takes(width: usize, height: usize) -> bool {
+    width >= 646 && height >= 436
+}
+
 fn time_v2(runs: usize, part: usize) {
     for part in [part, 2 * part, 4 * part] {
         let (width, height) = (V2.0 / part / 16 * 16, V2.1 / part);
-        if width >= 646 && height >= 436 {
+        if the_rust_takes(width, height) {
             time("V2, like a photograph", &v2::encode(&photo(width, height, 90.0, 2), width, height), runs);
         }
     }
@@ -113,7 +118,7 @@ fn time_written(name: &str, (width, height): (usize, usize), noise: f64, runs: u
 fn time_converters(runs: usize, part: usize) {
     for part in [part, 2 * part] {
         let (width, height) = (V0.0 / part / 16 * 16, V0.1 / part);
-        if width >= 646 && height >= 436 {
+        if the_rust_takes(width, height) {
             let converted = Converted::new(photo(width, height, 16.0, 1), width, height);
             let mut contenders = converted.contenders();
             converted.check(&mut contenders);

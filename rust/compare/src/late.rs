@@ -6,6 +6,7 @@
 use crate::bands::Cut;
 use crate::call::{Answer, Ask, Difference, Entry, Lent, razvolk_clean, razvolk_of};
 use crate::clean::frames::frame;
+use crate::v2::crops::v2_size;
 use crate::v2::model::{self, Fault};
 use std::fmt;
 use streams::random::Random;
@@ -142,16 +143,22 @@ fn first_past(frame: &Frame, p: usize) -> usize {
     if answer.filler > 0 { answer.row as usize } else { frame.height }
 }
 
-/// V2: other bytes from byte p on, more of them or fewer.
-fn of_v2(entries: &[Entry], random: &mut Random, seen: &mut Seen) -> Result<(), String> {
-    let (options, width) = (random.below(16) as u32, 646 + random.index(20));
+/// V2 of a size: other bytes from byte p on, more of them or fewer.
+fn of_v2(
+    entries: &[Entry],
+    (width, height): (usize, usize),
+    random: &mut Random,
+    seen: &mut Seen,
+) -> Result<(), String> {
+    let options = random.below(16) as u32;
     let style = Style::any(random, options);
     let number = [5, 6, 7][random.index(3)];
     let planted = random.once_in(2).then_some(Planted { number, row: 2, block: 0 });
-    let frame = written(random, &style, width, 436, planted);
+    let frame = written(random, &style, width, height, planted);
     let old = random.samples(frame.samples());
     for _ in 0..8 {
-        let row = if random.once_in(2) { random.index(5) } else { random.index(frame.height) };
+        let below = if random.once_in(2) { height.min(5) } else { height };
+        let row = random.index(below);
         let bytes = frame.row(row);
         let p = bytes.start + random.index(bytes.len());
         let mut stream = frame.stream[..p].to_vec();
@@ -180,7 +187,7 @@ fn of_v2(entries: &[Entry], random: &mut Random, seen: &mut Seen) -> Result<(), 
     Ok(())
 }
 
-/// Compares pairs of `frames` frames of V0, and for every sixty-fourth of a frame of V2.
+/// Compares pairs of `frames` frames of V0, and of V2 for every eighth of a crop, for every sixty-fourth of a larger frame.
 pub fn compare(v0: &[Entry], v2: &[Entry], seed: u64, frames: u64) -> Result<Seen, Difference> {
     let mut random = Random::new(seed);
     let mut seen = Seen { seed, ..Seen::default() };
@@ -189,8 +196,8 @@ pub fn compare(v0: &[Entry], v2: &[Entry], seed: u64, frames: u64) -> Result<See
         if !v0.is_empty() {
             of_v0(v0, &mut random, &mut seen).map_err(differs)?;
         }
-        if i % 64 == 0 && !v2.is_empty() {
-            of_v2(v2, &mut random, &mut seen).map_err(differs)?;
+        if let Some(size) = v2_size(&mut random, i).filter(|_| !v2.is_empty()) {
+            of_v2(v2, size, &mut random, &mut seen).map_err(differs)?;
         }
     }
     Ok(seen)

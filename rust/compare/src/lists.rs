@@ -5,13 +5,15 @@
 use crate::bands::Cut;
 use crate::call::{Answer, Ask, Decoder, Difference, Entry, Lent, NUMBERS};
 use crate::v0::compare::{both_parts, marks, rust};
+use crate::v2::compare::RUST_LEAST;
+use crate::v2::crops::any_size;
 use crate::v2::model;
 use std::fmt;
 use streams::random::Random;
 use streams::v2::any::{Planted, Style, written};
 use streams::{Frame, v0};
 
-/// The samples of the one buffer: enough for the least V2 frame, and some more.
+/// The samples of the one buffer: enough for the least V2 frame of a camera, and some more.
 const SAMPLES: usize = 646 * 436 + 50;
 
 /// What was compared.
@@ -62,7 +64,7 @@ struct Coming {
     scratch: usize,
 }
 
-/// Streams of V2 to draw from, with their marks; the last one has too few rows.
+/// Streams of V2 to draw from, a camera's and crops, with their marks; the last one has no rows.
 struct Pool(Vec<(Frame, Vec<u8>)>);
 
 impl Pool {
@@ -70,14 +72,15 @@ impl Pool {
         let mut streams = Vec::new();
         for i in 0..32 {
             let style = Style::any(random, (i + i / 4) % 16);
-            let row = random.index(436);
+            let (width, height) = if i % 8 < 4 { RUST_LEAST } else { any_size(random) };
+            let row = random.index(height);
             let (number, at) = [(5, row % 2), (6, 2), (7, row)][i as usize / 4 % 3];
             let planted = (i % 4 == 3).then_some(Planted { number, row: at, block: 0 });
-            let whole = written(random, &style, 646, 436, planted);
+            let whole = written(random, &style, width, height, planted);
             streams.push(if i % 4 == 1 { whole.cut_in_row(random, row) } else { whole });
         }
-        let small = Frame { height: 435, ..streams[0].clone() };
-        streams.push(small);
+        let none = Frame { height: 0, ..streams[0].clone() };
+        streams.push(none);
         let marks = |frame: &Frame| model::marked(model::Fault::None, &Ask::of(frame), &mut [0; SAMPLES]).1;
         Pool(streams.into_iter().map(|frame| (frame.clone(), marks(&frame))).collect())
     }

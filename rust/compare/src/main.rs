@@ -13,7 +13,7 @@ use streams::Version::{V0, V2};
 
 const USAGE: &str = "usage: compare quick [SEED]
        compare long [SEED]
-       compare reader|states|v0|bands|clean|v2|v2-full|missing|uploads|late|refusals|lists|planes|write|blank|convert COUNT [SEED]
+       compare reader|states|v0|bands|clean|v2|v2-crops|v2-full|missing|uploads|late|refusals|lists|planes|write|blank|convert COUNT [SEED]
        compare record FILE           writes recorded calls of the Rust
        compare record-check FILE     finds them equal
        compare jobs FOLDER           writes the job program's cases
@@ -28,7 +28,7 @@ struct Comparison {
     run: fn(u64, u64) -> Result<String, Difference>,
 }
 
-const COMPARISONS: [Comparison; 16] = [
+const COMPARISONS: [Comparison; 17] = [
     Comparison {
         name: "reader",
         quick: 20_000_000,
@@ -64,6 +64,12 @@ const COMPARISONS: [Comparison; 16] = [
         quick: 300,
         long: 20_000,
         run: |seed, n| of(&razvolk_of(V2), |entries| v2::compare(entries, seed, n)),
+    },
+    Comparison {
+        name: "v2-crops",
+        quick: 10_000,
+        long: 500_000,
+        run: |seed, n| of(&razvolk_of(V2), |entries| v2::crops::compare(entries, seed, n)),
     },
     Comparison {
         name: "v2-full",
@@ -128,7 +134,7 @@ const COMPARISONS: [Comparison; 16] = [
     Comparison {
         name: "convert",
         quick: 2_000,
-        long: 50_250,
+        long: 150_000,
         run: |seed, n| Ok(convert::compare(&convert::compare::razvolk, seed, n, 250)?.to_string()),
     },
 ];

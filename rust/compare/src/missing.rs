@@ -29,8 +29,8 @@ impl fmt::Display for Seen {
     }
 }
 
-/// Breaks `frames` small frames of V0 off after every byte; and for every thirty-second, a stream of V2 after every byte of the
-/// header, of the first two rows, and of the end. (V2 has no small frames.)
+/// Breaks `frames` small frames of V0 off after every byte; for every eighth, a small crop of V2; and for every thirty-second, a
+/// stream of V2 that the Rust takes, after every byte of the header, of the first two rows, and of the end.
 pub fn compare(of_v0: &[Entry], of_v2: &[Entry], seed: u64, frames: u64) -> Result<Seen, Difference> {
     let mut random = Random::new(seed);
     let mut seen = Seen { seed, ..Seen::default() };
@@ -40,6 +40,10 @@ pub fn compare(of_v0: &[Entry], of_v2: &[Entry], seed: u64, frames: u64) -> Resu
         if !of_v0.is_empty() {
             small(of_v0, &mut random, &mut seen.v0).map_err(differs)?;
         }
+        if !of_v2.is_empty() && i % 8 == 4 {
+            let whole = crop(&mut random, (i / 8 % 16) as u32);
+            each(of_v2, &whole, 0..=whole.stream.len(), &mut random, &mut seen.v2).map_err(differs)?;
+        }
         if !of_v2.is_empty() && i % 32 == 0 {
             let style = Style::any(&mut random, (i / 32 % 16) as u32);
             let planted = (i % 64 == 32).then(|| Planted { number: 7, row: random.index(2), block: random.index(40) });
@@ -47,7 +51,7 @@ pub fn compare(of_v0: &[Entry], of_v2: &[Entry], seed: u64, frames: u64) -> Resu
             let whole = written(&mut random, &style, width, 436, planted);
             let len = whole.stream.len();
             for lens in [0..=whole.row(2).start, len - 24..=len] {
-                large(of_v2, &whole, lens, &mut random, &mut seen.v2).map_err(differs)?;
+                each(of_v2, &whole, lens, &mut random, &mut seen.v2).map_err(differs)?;
             }
         }
     }
@@ -64,8 +68,17 @@ fn small(entries: &[Entry], random: &mut Random, seen: &mut v0::compare::Seen) -
         .try_for_each(|len| v0::compare::frame(entries, &whole.cut(len), random, seen).map_err(|what| (len, what)))
 }
 
-/// A frame of V2, after so many bytes. The buffers are kept: a frame has many, and little of it is written.
-fn large(
+/// A small crop of V2, now and then with a refusal to meet.
+fn crop(random: &mut Random, options: u32) -> Frame {
+    let style = Style::any(random, options);
+    let (width, height) = (32 + random.index(40), 1 + random.index(5));
+    let (number, row) = [(5, random.index(2)), (6, 2), (7, random.index(3))][random.index(3)];
+    let planted = random.once_in(3).then_some(Planted { number, row, block: 0 });
+    written(random, &style, width, height, planted)
+}
+
+/// A frame of V2, after so many bytes. The buffers are kept: a large frame has many, and little of it is written.
+fn each(
     entries: &[Entry],
     whole: &Frame,
     lens: RangeInclusive<usize>,

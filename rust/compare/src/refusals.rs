@@ -5,6 +5,9 @@ use crate::call::{Answer, Ask, Decoder, Difference, Entry, Lent, NUMBERS};
 use std::fmt;
 use streams::random::Random;
 
+/// The least width and height of V2.
+pub const V2_LEAST: (usize, usize) = (32, 1);
+
 /// How long the buffers of a call are.
 #[derive(Clone, Copy, Debug)]
 pub struct Lens {
@@ -32,7 +35,7 @@ pub fn number(decoder: Decoder, map: bool, width: usize, height: usize, lens: Le
     let v2 = decoder == Decoder::V2;
     let faults = [
         width > 16_384 || height > 16_384,
-        v2 && (height < 436 || width < 646),
+        v2 && (height < V2_LEAST.1 || width < V2_LEAST.0),
         (lens.samples as u128) < n || !v2 && lens.offsets < height,
         map && (lens.map as u128) < n || decoder.in_phases() && (lens.scratch as u128) < scratch,
     ];
@@ -53,7 +56,7 @@ fn size(random: &mut Random) -> (usize, usize) {
         6 | 7 => least,
         _ => random.below(small) as usize,
     };
-    (side(40, 646), side(9, 436))
+    (side(40, V2_LEAST.0), side(9, V2_LEAST.1))
 }
 
 /// About a wanted length: one short, just enough, one more, or none. Lengths above 300,000 count as too much to lend.

@@ -2,6 +2,7 @@
 //! and the same sample, over the same old samples. Here the rest of the stream is appended, or other bytes, or both in turn.
 
 use crate::call::{Ask, Difference, Entry, Lent};
+use crate::v2::crops::v2_size;
 use std::fmt;
 use streams::random::Random;
 use streams::v2::any::{Style, written};
@@ -91,11 +92,16 @@ fn of_v0(entries: &[Entry], i: u64, random: &mut Random, seen: &mut Seen) -> Res
     Ok(())
 }
 
-/// V2, cut in every row.
-fn of_v2(entries: &[Entry], random: &mut Random, seen: &mut Seen) -> Result<(), String> {
-    let (options, width) = (random.below(16) as u32, 646 + random.index(20));
+/// V2 of a size, cut in every row.
+fn of_v2(
+    entries: &[Entry],
+    (width, height): (usize, usize),
+    random: &mut Random,
+    seen: &mut Seen,
+) -> Result<(), String> {
+    let options = random.below(16) as u32;
     let style = Style::any(random, options);
-    let whole = written(random, &style, width, 436, None);
+    let whole = written(random, &style, width, height, None);
     let old = random.samples(whole.samples());
     for entry in entries {
         for row in 0..whole.height {
@@ -108,15 +114,15 @@ fn of_v2(entries: &[Entry], random: &mut Random, seen: &mut Seen) -> Result<(), 
     Ok(())
 }
 
-/// Cuts `frames` frames of V0, and for every sixty-fourth a stream of V2 in every row.
+/// Cuts `frames` frames of V0, and in every row for every eighth a crop of V2, for every sixty-fourth a larger frame.
 pub fn compare(v0: &[Entry], v2: &[Entry], seed: u64, frames: u64) -> Result<Seen, Difference> {
     let mut random = Random::new(seed);
     let mut seen = Seen { seed, ..Seen::default() };
     for i in 0..frames {
         let differs = |what: String| Difference(format!("uploads, seed {seed}, frame {i}: {what}"));
         of_v0(v0, i, &mut random, &mut seen).map_err(differs)?;
-        if i % 64 == 0 && !v2.is_empty() {
-            of_v2(v2, &mut random, &mut seen).map_err(differs)?;
+        if let Some(size) = v2_size(&mut random, i).filter(|_| !v2.is_empty()) {
+            of_v2(v2, size, &mut random, &mut seen).map_err(differs)?;
         }
     }
     Ok(seen)

@@ -37,10 +37,12 @@ fn one_that_refuses_otherwise_is_found_out() {
     let wrong: [(&str, Number); 10] = [
         ("a limit of 16,383", |d, m, w, h, l| if w == 16_384 { Some(1) } else { refusals::number(d, m, w, h, l) }),
         ("a limit of 16,385", |d, m, w, h, l| refusals::number(d, m, if w == 16_385 { 16_384 } else { w }, h, l)),
-        ("a least height of 435", |d, m, w, h, l| refusals::number(d, m, w, if h == 435 { 436 } else { h }, l)),
-        ("a least width of 645", |d, m, w, h, l| refusals::number(d, m, if w == 645 { 646 } else { w }, h, l)),
+        ("a least height of 0", |d, m, w, h, l| {
+            refusals::number(d, m, w, if d == Decoder::V2 { h.max(1) } else { h }, l)
+        }),
+        ("a least width of 31", |d, m, w, h, l| refusals::number(d, m, if w == 31 { 32 } else { w }, h, l)),
         ("2 before 1", |d, m, w, h, l| match refusals::number(d, m, w, h, l) {
-            Some(1) if d == Decoder::V2 && (w < 646 || h < 436) => Some(2),
+            Some(1) if d == Decoder::V2 && (w < 32 || h < 1) => Some(2),
             number => number,
         }),
         ("4 before 3", |d, m, w, h, l| match refusals::number(d, m, w, h, l) {

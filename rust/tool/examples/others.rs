@@ -20,6 +20,7 @@ fn main() -> io::Result<()> {
             fs::write(name("v0"), srw::Frame::new(coding, width, height, &encoded.stream).to_file())?;
             let (stream, offsets) = razvolk::write_v0_to_vecs(image, width, height).map_err(io::Error::other)?;
             fs::write(name("v0-written"), srw::Frame::new(Coding::V0(offsets), width, height, &stream).to_file())?;
+            // Other readers may refuse smaller ones, as the Rust does.
             if width >= 646 {
                 let encoded = v2::encode(image, width, height);
                 fs::write(name("v2"), srw::Frame::new(Coding::V2, width, height, &encoded.stream).to_file())?;

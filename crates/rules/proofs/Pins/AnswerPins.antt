@@ -55,6 +55,13 @@ of-option (some n) = 1 ∷ n ∷ []
 abbrev of-lent : Lent → List ℕ
 of-lent l = l .samples ∷ of-option (l .map) ++ (l .scratch ∷ [])
 
+-- A V2 frame of the least size, 32 by 1: depth 14, options 4, initial sample 5; both blocks keep motion 7 and have no lengths.
+abbrev least-bytes : List ℕ
+least-bytes = 0 ∷ 13 ∷ replicate 7 0 ++ (4 ∷ 0 ∷ 0 ∷ 5 ∷ 0 ∷ 0 ∷ 0 ∷ []) ++ (0 ∷ 0 ∷ 0 ∷ 0xF0 ∷ [])
+
+abbrev least : Ask
+least = ask v2 least-bytes [] 32 1
+
 abbrev pub examples : List Example
 examples =
     -- done-with, done, refused; ask, lent: each argument in its place
@@ -64,8 +71,8 @@ examples =
     ∷ are (lent 5 none 6 .samples ∷ lent 5 none 6 .scratch ∷ []) (5 ∷ 6 ∷ [])
     -- too-large: above 16,384 either way
     ∷ are (map (λ z. of-bool (too-large z)) (size 16_384 16_384 ∷ size 16_385 0 ∷ size 0 16_385 ∷ [])) (0 ∷ 1 ∷ 1 ∷ [])
-    -- too-small: V2 alone, below 646 wide or 436 high
-    ∷ are (map (λ z. of-bool (too-small v2 z)) (size 646 436 ∷ size 645 436 ∷ size 646 435 ∷ [])) (0 ∷ 1 ∷ 1 ∷ [])
+    -- too-small: V2 alone, below 32 wide or 1 high
+    ∷ are (map (λ z. of-bool (too-small v2 z)) (size 32 1 ∷ size 31 1 ∷ size 32 0 ∷ [])) (0 ∷ 1 ∷ 1 ∷ [])
     ∷ are (of-bool (too-small direct (size 0 0)) ∷ of-bool (too-small two-phase (size 0 0)) ∷ []) (0 ∷ 0 ∷ [])
     -- short-offsets: V0 alone, one for each row
     ∷ are (map (λ h. of-bool (short-offsets direct (0 ∷ 0 ∷ []) (size 9 h))) (1 ∷ 2 ∷ 3 ∷ [])) (0 ∷ 0 ∷ 1 ∷ [])
@@ -86,7 +93,7 @@ examples =
     ∷ are (first-of false false false true ∷ first-of false false false false ∷ []) (4 ∷ 0 ∷ [])
     -- refusal: 1, 2 and 3 before those after them; 4 for a map and for scratch; none
     ∷ is (refusal (ask v2 [] [] 16_385 0) (lent 0 (some 0) 0)) 1
-    ∷ is (refusal (ask v2 [] [] 645 436) (lent 0 (some 0) 0)) 2
+    ∷ is (refusal (ask v2 [] [] 31 1) (lent 0 (some 0) 0)) 2
     ∷ is (refusal (call two-phase) (lent 11 (some 0) 0)) 3
     ∷ is (refusal (call direct) (lent 12 (some 11) 0)) 4
     ∷ is (refusal (call two-phase) (lent 12 none 1)) 4
@@ -95,11 +102,12 @@ examples =
     ∷ are (of-answer (stream-answer direct frame-bytes (64 ∷ 0 ∷ 80 ∷ 4 ∷ []) (size 17 4))) (0 ∷ 0 ∷ 19 ∷ [])
     ∷ are (of-answer (stream-answer two-phase frame-bytes (64 ∷ 0 ∷ 80 ∷ 4 ∷ []) (size 17 4))) (0 ∷ 0 ∷ 0 ∷ [])
     ∷ are (of-answer (stream-answer v2 frame-bytes [] (size 17 4))) (8 ∷ 3 ∷ 1 ∷ [])
-    -- answer: the row of 1 to 4 is 0; a V2 frame of no bytes meets 5 in row 0, one of sixteen zeros 8
+    -- answer: the row of 1 to 4 is 0; a V2 frame of no bytes meets 5 in row 0, one of sixteen zeros 8; one of the least size is done
     ∷ are (of-answer (answer (call direct) too-few)) (3 ∷ 0 ∷ 0 ∷ [])
     ∷ are (of-answer (answer (call direct) enough)) (0 ∷ 0 ∷ 1 ∷ [])
     ∷ are (of-answer (answer (ask v2 [] [] 646 436) (lent 281_656 none 0))) (5 ∷ 0 ∷ 5 ∷ [])
     ∷ are (of-answer (answer (ask v2 (replicate 16 0) [] 646 436) (lent 281_656 none 0))) (8 ∷ 0 ∷ 7 ∷ [])
+    ∷ are (of-answer (answer least (lent 32 none 0))) (0 ∷ 0 ∷ 0 ∷ [])
     -- frame-samples, frame-marks, frame-scratch: by each decoder
     ∷ are (frame-samples direct rows-bytes rows-offsets (size 3 4) (tabulate 12 7 (λ i. i))) new-samples
     ∷ are (frame-samples two-phase rows-bytes rows-offsets (size 3 4) (tabulate 12 7 (λ i. i))) new-samples
@@ -115,6 +123,7 @@ examples =
     -- samples-after, map-after, scratch-after: what lies past the frame's stays; after 1 to 4 all does
     ∷ are (samples-after (call direct) enough old-samples) (new-samples ++ (19 ∷ 20 ∷ []))
     ∷ are (samples-after (call direct) too-few old-samples) old-samples
+    ∷ are (samples-after least (lent 33 none 0) (replicate 33 7)) (replicate 32 5 ++ (7 ∷ []))
     ∷ are (map-after (call direct) enough old-samples) (new-marks ++ (19 ∷ 20 ∷ []))
     ∷ are (map-after (call direct) too-few old-samples) old-samples
     ∷ are (scratch-after (call two-phase) enough (7 ∷ 8 ∷ 9 ∷ [])) (1 ∷ 0 ∷ 9 ∷ [])

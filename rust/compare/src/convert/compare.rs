@@ -3,6 +3,7 @@
 
 use super::plain::{Buffers, Fault, convert};
 use crate::call::{self, Answer, Difference, Entry, Lent, first_difference, razvolk_of};
+use crate::v2::compare::rust_takes;
 use crate::write::compare::frame as image;
 use crate::write::plain::{Written, plain as v0};
 use std::fmt;
@@ -121,7 +122,7 @@ fn back(entries: &[Entry], frame: &Frame, samples: &[u16], random: &mut Random, 
         }
     }
     seen.decoded += 1;
-    if frame.width >= 646 && frame.height >= 436 {
+    if rust_takes(frame.width, frame.height) {
         let mut new = random.samples(n);
         reference::decode_v2(&frame.stream, frame.width, frame.height, &mut new)
             .map_err(|e| format!("the Rust: {e:?}"))?;

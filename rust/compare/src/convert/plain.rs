@@ -2,6 +2,7 @@
 //! writer. It has a fault where wanted, and the comparison must find each fault out.
 
 use crate::call::{self, Answer, Decoder, Lent};
+use crate::refusals::V2_LEAST;
 use crate::v0::model;
 use crate::write::plain::Written;
 use streams::bits::{self, Writer};
@@ -34,9 +35,6 @@ crate::faults::faults!(
     OneLengthForAll,
 );
 
-/// The least width and height that V2 has.
-pub const LEAST: (usize, usize) = (646, 436);
-
 /// What is lent to be written.
 pub struct Buffers<'a> {
     pub samples: &'a mut [u16],
@@ -51,7 +49,7 @@ fn early(fault: Fault, ask: &call::Ask, lent: &Buffers) -> Option<u32> {
     let uneven = !width.is_multiple_of(16) && fault != Fault::NoFifteen && fault != Fault::FifteenAfterDecoding;
     let tests = [
         (1, width > 16_384 || height > 16_384),
-        (2, width < LEAST.0 || height < LEAST.1),
+        (2, width < V2_LEAST.0 || height < V2_LEAST.1),
         (15, fault == Fault::FifteenBeforeThree && uneven),
         (3, lent.samples.len() < n || ask.offsets.len() < height),
         (4, lent.map.len() < n),

@@ -1,4 +1,5 @@
-//! V2's entries against the Rust: the refusal's number, its row, samples over the whole buffer, and marks.
+//! V2's entries against the Rust, or where it refuses the size against the rules: the refusal's number, its row, samples over the
+//! whole buffer, and marks.
 
 use super::model::{self, Fault, Used};
 use crate::call::{Answer, Ask, Difference, Entry, Lent, NUMBERS, first_difference};
@@ -8,10 +9,20 @@ use streams::Frame;
 use streams::random::Random;
 use streams::v2::any::{Planted, Scale, Style, written};
 
+/// The least width and height that the Rust takes. Razvolk takes smaller ones.
+pub const RUST_LEAST: (usize, usize) = (646, 436);
+
+/// Whether the Rust takes frames of this size.
+pub fn rust_takes(width: usize, height: usize) -> bool {
+    width >= RUST_LEAST.0 && height >= RUST_LEAST.1
+}
+
 /// What was compared.
 #[derive(Debug, Default)]
 pub struct Seen {
     pub name: &'static str,
+    /// What decides.
+    pub with: &'static str,
     pub seed: u64,
     pub streams: u64,
     pub calls: u64,
@@ -31,7 +42,8 @@ pub struct Seen {
 
 impl fmt::Display for Seen {
     fn fmt(&self, f: &mut fmt::Formatter<'_>) -> fmt::Result {
-        let Seen { name, seed, streams, calls, samples, numbers, deep, marked, missing, filled, ends, used } = self;
+        let Seen { name, with, seed, streams, calls, samples, numbers, deep, marked, missing, filled, ends, used } =
+            self;
         writeln!(f, "{name}, seed {seed}: {streams} streams, {calls} calls, {samples} samples, {marked} of them old")?;
         let rows = ends.iter().filter(|&&n| n > 0).count();
         writeln!(f, "{name}: answers 0 to 12: {numbers:?}; done or refused after row 2: {deep}")?;
@@ -39,7 +51,7 @@ impl fmt::Display for Seen {
         let Used { motions, flags, none, scales, held } = used;
         writeln!(f, "{name}: motions 0 to 7: {motions:?}, flags 0 to 3: {flags:?}, blocks without lengths: {none}")?;
         writeln!(f, "{name}: scales from {} to {}, samples held to 0 and to the top: {held:?}", scales[0], scales[1])?;
-        write!(f, "{name}: {calls} calls compared with the Rust, no difference")
+        write!(f, "{name}: {calls} calls compared with {with}, no difference")
     }
 }
 
@@ -68,6 +80,16 @@ fn refusal(what: &str) -> Answer {
     }
 }
 
+/// What decides over old values: the Rust, or where it refuses the size the decoder of its own, which is written from the rules.
+pub fn decided(frame: &Frame, old: &[u16]) -> (Answer, Vec<u16>) {
+    if rust_takes(frame.width, frame.height) {
+        return rust(frame, old);
+    }
+    let mut own = old.to_vec();
+    let (answer, _, _) = model::marked(Fault::None, &Ask::of(frame), &mut own);
+    (answer, own)
+}
+
 /// What a stream must come to over old values.
 struct Expected {
     answer: Answer,
@@ -76,22 +98,22 @@ struct Expected {
     used: Used,
 }
 
-/// The Rust's number and samples. The rows of 5 to 7, the count of missing words and the marks are those of the decoder of its
-/// own, which must give the Rust's number and samples, and whose samples without an old part must be the Rust's over other old
-/// values, too.
+/// The number and samples are those of what decides. The rows of 5 to 7, the count of missing words and the marks are those of the
+/// decoder of its own, which must give the Rust's number and samples where it takes the size, and whose samples without an old part
+/// must be the same over other old values.
 fn expected(frame: &Frame, old: &[u16], other: &[u16]) -> Result<Expected, String> {
-    let (told, samples) = rust(frame, old);
+    let (told, samples) = decided(frame, old);
     let mut own = old.to_vec();
     let (answer, marks, used) = model::marked(Fault::None, &Ask::of(frame), &mut own);
     if answer.number != told.number || told.number == 8 && answer.row != told.row {
-        return Err(format!("the decoder of its own answers {answer}, the Rust {told}"));
+        return Err(format!("the decoder of its own answers {answer}, expected {told}"));
     }
     if let Some(what) = first_difference(&own, &samples) {
         return Err(format!("the decoder of its own, samples: {what}"));
     }
     // A frame of the largest size has half a gigabyte of samples.
     drop(own);
-    let (_, over_other) = rust(frame, other);
+    let (_, over_other) = decided(frame, other);
     let n = marks.len();
     if let Some(i) = (0..n).find(|&i| marks[i] & 1 == 0 && over_other[i] != samples[i]) {
         return Err(format!(
@@ -183,11 +205,23 @@ fn planted(random: &mut Random, i: u64, width: usize, height: usize) -> Option<P
     })
 }
 
-/// Compares `calls` streams: written ones with every value of the options in turn, and of each some that are broken off or
-/// damaged; of every hundredth, one broken off in each row.
+/// Compares `calls` streams with the Rust: written ones with every value of the options in turn, and of each some that are broken
+/// off or damaged; of every hundredth, one broken off in each row.
 pub fn compare(entries: &[Entry], seed: u64, calls: u64) -> Result<Seen, Difference> {
+    let seen = Seen { name: "V2", with: "the Rust", seed, ..Seen::default() };
+    compared(entries, seen, calls, size, style)
+}
+
+/// Compares `calls` streams of these sizes and styles, by the stream's number.
+pub fn compared(
+    entries: &[Entry],
+    mut seen: Seen,
+    calls: u64,
+    size: fn(&mut Random, u64) -> (usize, usize),
+    style: fn(&mut Random, u64) -> Style,
+) -> Result<Seen, Difference> {
+    let (name, seed) = (seen.name, seen.seed);
     let mut random = Random::new(seed);
-    let mut seen = Seen { name: "V2", seed, ..Seen::default() };
     while seen.calls < calls {
         let i = seen.streams;
         seen.streams += 1;
@@ -200,22 +234,24 @@ pub fn compare(entries: &[Entry], seed: u64, calls: u64) -> Result<Seen, Differe
                 Change::None => whole.clone(),
                 Change::Cut(row) => whole.cut_in_row(&mut random, row),
                 Change::Damage(row) => whole.damaged_in_row(&mut random, row),
+                Change::Header => whole.cut(random.index(16)),
             };
             frame(entries, &one, &mut random, &mut seen).map_err(|what| {
                 let stream = format!("stream {i}, {width} by {height}, {style:?}, {planted:?}, {change:?}");
-                Difference(format!("V2, seed {seed}, {stream}: {what}"))
+                Difference(format!("{name}, seed {seed}, {stream}: {what}"))
             })?;
         }
     }
     Ok(seen)
 }
 
-/// What is done to a stream, in a row.
+/// What is done to a stream, in a row or in the header.
 #[derive(Clone, Copy, Debug)]
 enum Change {
     None,
     Cut(usize),
     Damage(usize),
+    Header,
 }
 
 fn changes(random: &mut Random, i: u64, whole: &Frame) -> Vec<Change> {
@@ -228,6 +264,7 @@ fn changes(random: &mut Random, i: u64, whole: &Frame) -> Vec<Change> {
         _ => {
             changes.extend((0..4).map(|_| Change::Cut(random.index(height))));
             changes.push(Change::Damage(random.index(height)));
+            changes.extend((!rust_takes(whole.width, height)).then_some(Change::Header));
         }
     }
     changes

@@ -1,6 +1,8 @@
-//! V2: the comparison of its entries with the Rust, and a decoder of its own, wrong where wanted.
+//! V2: the comparison of its entries with the Rust, and of crops, which the Rust refuses, with a decoder of its own, wrong where
+//! wanted.
 
 pub mod compare;
+pub mod crops;
 pub mod full;
 pub mod model;
 

@@ -59,18 +59,25 @@ fn a_band_of_another_frame_is_marked() {
 
 #[test]
 fn a_v2_frame_is_found_and_decoded() {
-    let image = christening(646, 436);
-    let file = srw(&v2::encode(&image, 646, 436));
+    let text = "2616 of 281656 samples rest on what the buffer held before\n  rows 0 to 435: 6 of 646 each\n";
+    of_v2(646, 436, text);
+    of_v2(70, 9, "54 of 630 samples rest on what the buffer held before\n  rows 0 to 8: 6 of 70 each\n");
+    of_v2(32, 1, "all 32 samples rest on the stream\n");
+}
+
+/// A V2 frame of this size in a file, of which this is told.
+fn of_v2(width: usize, height: usize, text: &str) {
+    let image = christening(width, height);
+    let file = srw(&v2::encode(&image, width, height));
     let found = frame(&file).expect("a frame");
-    assert_eq!((&found.coding, found.width, found.height), (&Coding::V2, 646, 436));
+    assert_eq!((&found.coding, found.width, found.height), (&Coding::V2, width, height));
     let mut worker = worker_for(&[&found]);
     assert_eq!(worker.decode(&found, false), Ok(()));
     let (samples, marks) = worker.frame().expect("the frame is done");
     for (i, (sample, mark)) in samples.iter().zip(marks.bytes()).enumerate() {
-        let coded = i % 646 < 640;
+        let coded = i % width < width / 16 * 16;
         assert_eq!((*sample, *mark), if coded { (image[i], 0) } else { (0, 1) }, "sample {i}");
     }
-    let text = "2616 of 281656 samples rest on what the buffer held before\n  rows 0 to 435: 6 of 646 each\n";
     assert_eq!(report::marks(Some(marks)), text);
 }
 

@@ -103,11 +103,18 @@ fn a_v0_frame_written_as_v2_is_read_again() {
 
     let (status, _, fault) = folder.run("b.srw --to-v2 c.srw");
     assert_eq!((status, fault.as_str()), (2, "razvolk: c.srw: is V2 already\n"));
-    folder.put("odd.srw", srw(&v0::encode(&sitting(655, 436), 655, 436)));
-    let (status, _, fault) = folder.run("odd.srw --to-v2 c.srw");
-    let said = "razvolk: c.srw: can't be written as V2: the width is no multiple of 16\n";
-    assert_eq!((status, fault.as_str()), (2, said));
-    assert!(folder.get("c.srw").is_none());
+    let refused = [(655, 436, "the width is no multiple of 16"), (16, 9, "the frame is smaller than 32 by 1")];
+    for (width, height, why) in refused {
+        folder.put("odd.srw", srw(&v0::encode(&sitting(width, height), width, height)));
+        let (status, _, fault) = folder.run("odd.srw --to-v2 c.srw");
+        assert_eq!((status, fault), (2, format!("razvolk: c.srw: can't be written as V2: {why}\n")));
+        assert!(folder.get("c.srw").is_none());
+    }
+    folder.put("crop.srw", srw(&v0::encode(&sitting(48, 9), 48, 9)));
+    assert_eq!(folder.run("crop.srw --to-v2 c.srw").0, 0);
+    let (status, text, _) = folder.run("c.srw");
+    assert!(status == 0 && text.starts_with("c.srw: V2, 48 by 9, "), "{text}");
+    assert!(text.ends_with("\ndone\nall 432 samples rest on the stream\n"), "{text}");
 }
 
 #[test]
@@ -153,7 +160,7 @@ fn what_cannot_be_written_as_v0() {
     assert_eq!((status, fault.as_str()), (1, ""));
     assert_eq!(text.lines().last(), Some("x.srw: not written, since the frame is refused"));
     assert_eq!(folder.names(), ["bright.srw", "v2", "x.pgm"]);
-    let (status, text, _) = folder.run("--v2 645x436 v2 --write-v0 x.srw");
+    let (status, text, _) = folder.run("--v2 31x1 v2 --write-v0 x.srw");
     assert_eq!((status, text.lines().last()), (1, Some("x.srw: not written, since the frame is refused")));
     assert!(folder.get("x.srw").is_none());
 }
@@ -163,8 +170,9 @@ fn refusals() {
     let folder = Folder::new("refusals");
     folder.put("stream", []);
     folder.put("offsets", "0 0");
-    let text = "stream: V2, 645 by 436, 0 bytes of stream\nrefused 2: the frame is smaller than 646 by 436\nnothing was decoded\n";
-    assert_eq!(folder.run("--v2 645x436 stream --png none.png"), refused(text));
+    let text =
+        "stream: V2, 31 by 1, 0 bytes of stream\nrefused 2: the frame is smaller than 32 by 1\nnothing was decoded\n";
+    assert_eq!(folder.run("--v2 31x1 stream --png none.png"), refused(text));
     assert!(folder.get("none.png").is_none());
     let text = "stream: V0, 18446744073709551615 by 5, 0 bytes of stream\nrefused 1: width or height is above 16,384\nnothing \
         was decoded\n";
@@ -307,7 +315,7 @@ fn an_object_for_each_frame() {
         lines[2]
     );
     assert_eq!(lines.len(), 3);
-    let (status, text, _) = folder.run("--v2 645x436 --json b");
+    let (status, text, _) = folder.run("--v2 32x0 --json b");
     assert!(status == 1 && text.contains("\"answer\":2,\"row\":0") && !text.contains("\"old\""), "{text}");
 }
 
