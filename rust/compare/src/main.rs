@@ -13,7 +13,7 @@ use streams::Version::{V0, V2};
 
 const USAGE: &str = "usage: compare quick [SEED]
        compare long [SEED]
-       compare reader|states|v0|bands|clean|v2|v2-crops|v2-full|missing|uploads|late|refusals|lists|planes|write|blank|convert COUNT [SEED]
+       compare reader|states|v0|bands|clean|v2|v2-crops|v2-full|missing|uploads|late|refusals|lists|planes|write|blank|convert|convert-full COUNT [SEED]
        compare record FILE           writes recorded calls of the Rust
        compare record-check FILE     finds them equal
        compare jobs FOLDER           writes the job program's cases
@@ -28,7 +28,7 @@ struct Comparison {
     run: fn(u64, u64) -> Result<String, Difference>,
 }
 
-const COMPARISONS: [Comparison; 17] = [
+const COMPARISONS: &[Comparison] = &[
     Comparison {
         name: "reader",
         quick: 20_000_000,
@@ -136,6 +136,12 @@ const COMPARISONS: [Comparison; 17] = [
         quick: 2_000,
         long: 150_000,
         run: |seed, n| Ok(convert::compare(&convert::compare::razvolk, seed, n, 250)?.to_string()),
+    },
+    Comparison {
+        name: "convert-full",
+        quick: 0,
+        long: 200,
+        run: |seed, n| Ok(convert::compare::compare_full(&convert::compare::razvolk, seed, n)?.to_string()),
     },
 ];
 

@@ -173,10 +173,25 @@ fn one(
 
 /// Compares a converter on so many frames, of which one of `every` is large enough for the Rust.
 pub fn compare(converter: Convert, seed: u64, frames: u64, every: u64) -> Result<Seen, Difference> {
+    compare_sizes(converter, seed, frames, |random, i| size(random, i, every))
+}
+
+/// Compares a converter on so many frames of a camera's size.
+pub fn compare_full(converter: Convert, seed: u64, frames: u64) -> Result<Seen, Difference> {
+    compare_sizes(converter, seed, frames, |random, _| (16 * (250 + random.index(97)), 2_600 + random.index(1_113)))
+}
+
+/// The same on frames of sizes that are told by their numbers.
+fn compare_sizes(
+    converter: Convert,
+    seed: u64,
+    frames: u64,
+    size: impl Fn(&mut Random, u64) -> (usize, usize),
+) -> Result<Seen, Difference> {
     let (mut random, mut seen) = (Random::new(seed), Seen { seed, ..Seen::default() });
     let entries = razvolk_of(Version::V2);
     for i in 0..frames {
-        let (width, height) = size(&mut random, i, every);
+        let (width, height) = size(&mut random, i);
         let frame = frame(&mut random, width, height);
         one(converter, &entries, &frame, &mut random, &mut seen)
             .map_err(|what| Difference(format!("convert, seed {seed}, frame {i}, {width} by {height}: {what}")))?;
