@@ -97,13 +97,20 @@ pub fn files(named: &[PathBuf]) -> Result<Vec<PathBuf>, String> {
     Ok(files)
 }
 
-/// A file's name as it is printed: what would steer a terminal is escaped.
+/// Whether a character would steer a terminal: controls, and those that turn the direction of writing.
+pub fn steers(c: char) -> bool {
+    c.is_control() || matches!(c, '\u{200e}'..='\u{200f}' | '\u{202a}'..='\u{202e}' | '\u{2066}'..='\u{2069}')
+}
+
+/// A text as it is printed: what would steer a terminal is escaped.
+pub fn escaped(text: &str) -> String {
+    text.chars().map(|c| if steers(c) { c.escape_default().to_string() } else { c.to_string() }).collect()
+}
+
+/// A file's name as it is printed.
 pub fn shown(path: &Path) -> String {
-    let steers = |c: char| {
-        c.is_control() || matches!(c, '\u{200e}'..='\u{200f}' | '\u{202a}'..='\u{202e}' | '\u{2066}'..='\u{2069}')
-    };
-    let name = path.to_string_lossy();
-    name.chars().map(|c| if steers(c) { c.escape_default().to_string() } else { c.to_string() }).collect()
+    let name = escaped(&path.to_string_lossy());
+    if name.is_empty() { "''".into() } else { name }
 }
 
 /// What is wrong with a file, under its name.
@@ -118,5 +125,6 @@ mod tests {
     #[test]
     fn what_would_steer_a_terminal_is_escaped() {
         assert_eq!(shown(Path::new("a b\u{1b}[31m\n\u{202e}ö.srw")), "a b\\u{1b}[31m\\n\\u{202e}ö.srw");
+        assert_eq!((escaped("\u{9b}2J\u{7f}"), shown(Path::new(""))), ("\\u{9b}2J\\u{7f}".into(), "''".into()));
     }
 }
