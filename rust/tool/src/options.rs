@@ -7,7 +7,8 @@ use std::os::unix::ffi::OsStrExt;
 use std::path::{Path, PathBuf};
 
 pub const HELP: &str = "\
-razvolk: decodes Samsung raw frames, shows which samples rest on what the buffer held before, and writes V0
+razvolk: decodes Samsung raw frames, V0 and V2, tells which samples rest on what the buffer held before or on missing words, and
+writes V0 and V2
 
 usage: razvolk [OPTIONS] FILE.srw|FOLDER|- ...
        razvolk [OPTIONS] --v0 WIDTHxHEIGHT --offsets FILE STREAM|-
