@@ -59,7 +59,8 @@ impl Input {
     }
 }
 
-fn is_stdin(path: &Path) -> bool {
+/// Whether a path is the name of standard input.
+pub fn is_stdin(path: &Path) -> bool {
     path.as_os_str() == "-"
 }
 
@@ -87,7 +88,7 @@ pub fn files(named: &[PathBuf]) -> Result<Vec<PathBuf>, String> {
         }
         let entries = fs::read_dir(path).and_then(|entries| entries.map(|entry| Ok(entry?.path())).collect());
         let mut within: Vec<PathBuf> = entries.map_err(|e: io::Error| fault(path, e))?;
-        within.retain(|file| file.extension().is_some_and(|end| end.eq_ignore_ascii_case("srw")) && !file.is_dir());
+        within.retain(|file| file.extension().is_some_and(|end| end.eq_ignore_ascii_case("srw")) && is_file(file));
         if within.is_empty() {
             return Err(fault(path, "no .srw file is in this folder"));
         }
@@ -95,6 +96,11 @@ pub fn files(named: &[PathBuf]) -> Result<Vec<PathBuf>, String> {
         files.extend(within);
     }
     Ok(files)
+}
+
+/// Whether what is found in a folder is a file, or a link to nothing, which is told: to open a pipe would wait for its writer.
+fn is_file(path: &Path) -> bool {
+    fs::metadata(path).map_or(true, |metadata| metadata.is_file())
 }
 
 /// Whether a character would steer a terminal: controls, and those that turn the direction of writing.

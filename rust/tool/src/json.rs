@@ -24,6 +24,9 @@ pub fn frame(path: &Path, frame: &Frame, look: &Look) -> String {
     line.field("answer", refusal.map_or(0, |refusal| refusal.number()));
     line.field("row", refusal.map_or(0, |refusal| refusal.row()));
     line.field("text", string(&refusal.map_or("done".into(), |refusal| refusal.to_string())));
+    if let Some(over) = look.over {
+        line.field("over", over.map_or_else(|refusal| refusal.number(), |()| 0));
+    }
     if let Some(marks) = marks {
         line.field("samples", marks.bytes().len());
         line.field("old", marks.count_old()).field("old_rows", rows(marks.rows_old()));

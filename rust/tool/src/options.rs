@@ -1,6 +1,7 @@
 //! What is asked for on the command line.
 
 use crate::form::{Form, Picture};
+use crate::input::is_stdin;
 use std::ffi::{OsStr, OsString};
 use std::num::NonZeroU8;
 use std::os::unix::ffi::OsStrExt;
@@ -47,7 +48,7 @@ usage: razvolk [OPTIONS] FILE.srw|FOLDER|- ...
 
 JSON, an object a line: file; error where it can't be read or written or has no frame; else version, width, height, bits (as the
 container has them, or null), header (V2's own), stream_bytes, missing_bytes, missing_words (that were read past the end), answer
-(0 is done), row, text; of a stream that was begun samples, old and filler (how many rest on what the buffer held, and on missing
+(0 is done), row, text, over (the answer to that frame); of a stream that was begun samples, old and filler (how many rest on what the buffer held, and on missing
 words), old_rows and filler_rows (first, last, and samples of each row), runs of both (row, first column, length); and with --blank
 blanked: FILL, or null
 
@@ -173,7 +174,8 @@ pub fn read(words: impl IntoIterator<Item = OsString>) -> Result<Asked, String> 
         }
     }
     options.bare = bare(v0, v2, offsets)?;
-    let stdin = options.files.iter().filter(|file| file.as_os_str() == "-").count();
+    let read = options.files.iter().map(PathBuf::as_path).chain(options.over.as_deref()).chain(options.offsets());
+    let stdin = read.filter(|file| is_stdin(file)).count();
     match options.files.len() {
         0 => Err("no file is named".into()),
         2.. if options.bare.is_some() => Err("one bare stream at a time".into()),
@@ -283,6 +285,8 @@ mod tests {
             ("", "no file is named"),
             ("--v2 2x2 a b", "one bare stream at a time"),
             ("- a -", "standard input is read once"),
+            ("--over - -", "standard input is read once"),
+            ("--v0 2x2 --offsets - -", "standard input is read once"),
             ("--png", "--png needs a value"),
             ("--blank 65536 s", "65536 is no number up to 65535"),
             ("--blank=x s", "x is no number up to 65535"),

@@ -163,8 +163,9 @@ fn every_field_of_a_frame() {
         (Some("14"), Some("7"), Some("2616"))
     );
     assert!(get(&of_v2, "runs").is_some_and(|runs| runs.starts_with("[[0,640,6],[1,640,6],")));
-    let text = told("--json v2.srw --blank");
-    assert_eq!(get(&fields(text.trim_end()), "blanked"), Some("null"));
+    let text = told("--json --over cut.srw v2.srw --blank");
+    let of_v2 = fields(text.trim_end());
+    assert_eq!((get(&of_v2, "blanked"), get(&of_v2, "over")), (Some("null"), Some("0")));
     // A bare stream has no container that could tell bits; one that is not begun has no samples.
     let text = told("--json --v2 646x436 stream");
     let bare = fields(text.trim_end());

@@ -396,6 +396,17 @@ fn files_and_folders_at_once() {
     assert_eq!(fault, complaint(fault_of_gone));
 }
 
+/// A pipe, whose writer the tool would wait for, and another folder are passed over.
+#[test]
+fn what_is_no_file_in_a_folder() {
+    let folder = Folder::new("no_files");
+    folder.put("a.srw", srw(&v0::encode(&sitting(40, 6), 40, 6)));
+    assert_eq!(folder.ran(Command::new("mkfifo").arg("pipe.srw")), done(""));
+    fs::create_dir(folder.0.join("folder.srw")).expect("a folder");
+    let ran = folder.ran(Command::new("timeout").args(["20", env!("CARGO_BIN_EXE_razvolk"), "."]));
+    assert_eq!(ran, done("./a.srw: V0, 40 by 6, 408 bytes of stream\ndone\nall 240 samples rest on the stream\n"));
+}
+
 #[test]
 fn outputs_of_several_files_go_to_a_folder() {
     let folder = Folder::new("several_outputs");
