@@ -117,6 +117,17 @@ fn what_is_no_file_is_not_replaced() {
 }
 
 #[test]
+fn a_folder_that_is_not_there_is_not_made_a_file() {
+    let folder = folder("no_folder");
+    for name in ["new/", "new/.", "new//"] {
+        refused(&folder, &format!("a.srw --png {name}"), &format!("{name}: no such folder"));
+    }
+    fs::create_dir(folder.0.join("new")).expect("a folder");
+    assert!(is_done(&folder.run("a.srw --png new/")));
+    assert!(folder.get("new/a.png").is_some());
+}
+
+#[test]
 fn two_outputs_are_two_files() {
     let folder = folder("two");
     folder.put("old", "old");
