@@ -3,21 +3,26 @@
 archive = target/staticlib/librazvolk.a
 cargo_run = cd rust && cargo run --release --offline --locked
 made = rust/target/made
+# What proves ends here without the toolchain.
+need_rt = @command -v rt >/dev/null || { echo 'rt, the Rattle toolchain, is not installed. A release needs none: README.md, "A release".' >&2; exit 1; }
 
 # The main job: proves and builds the program, and decodes the example with it.
 run:
+	$(need_rt)
 	@echo 'Proving what is not proved yet: some five minutes the first time, and a line for each crate.'
 	rt check samrows
 	target/bin/samrows < crates/samrows/stdin
 
 # The gate.
 test:
+	$(need_rt)
 	bash .ci/run
 
 # The archive for C and Rust: proves what it is made of, and compiles it.
 archive: $(archive)
 
 $(archive): crates.txt $(shell find crates -type f)
+	$(need_rt)
 	rt staticlib razvolk
 
 # Header, archive and pkg-config file below PREFIX.

@@ -157,9 +157,9 @@ impl Decoder {
         self.frame.map(|(width, n, filler)| Marks::new(&self.map[..n], width).with_filler_words(filler))
     }
 
-    /// Sets the samples of the last frame that rest on what the buffer held, as [`Decoder::marks`] tells them, to what lies to
-    /// their left, as [`crate::blank`] does, and tells their runs. After that nothing of an earlier frame is left in the frame. `out` is the buffer that the frame was decoded
-    /// into; where there was no frame, nothing is set.
+    /// Sets the samples of the last frame that are marked, as [`Decoder::marks`] tells them, to what lies to their left, as
+    /// [`crate::blank`] does, and tells their runs. After that nothing of an earlier frame is left in the frame, and nothing made
+    /// of missing words. `out` is the buffer that the frame was decoded into; where there was no frame, nothing is set.
     ///
     /// # Errors
     ///

@@ -59,7 +59,8 @@ impl Input {
     }
 }
 
-fn is_stdin(path: &Path) -> bool {
+/// Whether a path is the name of standard input.
+pub fn is_stdin(path: &Path) -> bool {
     path.as_os_str() == "-"
 }
 
@@ -87,7 +88,7 @@ pub fn files(named: &[PathBuf]) -> Result<Vec<PathBuf>, String> {
         }
         let entries = fs::read_dir(path).and_then(|entries| entries.map(|entry| Ok(entry?.path())).collect());
         let mut within: Vec<PathBuf> = entries.map_err(|e: io::Error| fault(path, e))?;
-        within.retain(|file| file.extension().is_some_and(|end| end.eq_ignore_ascii_case("srw")) && !file.is_dir());
+        within.retain(|file| file.extension().is_some_and(|end| end.eq_ignore_ascii_case("srw")) && is_file(file));
         if within.is_empty() {
             return Err(fault(path, "no .srw file is in this folder"));
         }
@@ -97,13 +98,25 @@ pub fn files(named: &[PathBuf]) -> Result<Vec<PathBuf>, String> {
     Ok(files)
 }
 
-/// A file's name as it is printed: what would steer a terminal is escaped.
+/// Whether what is found in a folder is a file, or a link to nothing, which is told: to open a pipe would wait for its writer.
+fn is_file(path: &Path) -> bool {
+    fs::metadata(path).map_or(true, |metadata| metadata.is_file())
+}
+
+/// Whether a character would steer a terminal: controls, and those that turn the direction of writing.
+pub fn steers(c: char) -> bool {
+    c.is_control() || matches!(c, '\u{200e}'..='\u{200f}' | '\u{202a}'..='\u{202e}' | '\u{2066}'..='\u{2069}')
+}
+
+/// A text as it is printed: what would steer a terminal is escaped.
+pub fn escaped(text: &str) -> String {
+    text.chars().map(|c| if steers(c) { c.escape_default().to_string() } else { c.to_string() }).collect()
+}
+
+/// A file's name as it is printed.
 pub fn shown(path: &Path) -> String {
-    let steers = |c: char| {
-        c.is_control() || matches!(c, '\u{200e}'..='\u{200f}' | '\u{202a}'..='\u{202e}' | '\u{2066}'..='\u{2069}')
-    };
-    let name = path.to_string_lossy();
-    name.chars().map(|c| if steers(c) { c.escape_default().to_string() } else { c.to_string() }).collect()
+    let name = escaped(&path.to_string_lossy());
+    if name.is_empty() { "''".into() } else { name }
 }
 
 /// What is wrong with a file, under its name.
@@ -118,5 +131,6 @@ mod tests {
     #[test]
     fn what_would_steer_a_terminal_is_escaped() {
         assert_eq!(shown(Path::new("a b\u{1b}[31m\n\u{202e}ö.srw")), "a b\\u{1b}[31m\\n\\u{202e}ö.srw");
+        assert_eq!((escaped("\u{9b}2J\u{7f}"), shown(Path::new(""))), ("\\u{9b}2J\\u{7f}".into(), "''".into()));
     }
 }

@@ -1,55 +1,83 @@
 //! What is told of a frame, for scripts: one object a frame, on a line of its own.
 
+use crate::input::steers;
+use crate::look::Look;
 use crate::report::{Rows, alike};
-use razvolk::srw::Frame;
-use razvolk::{Marks, Refusal, Run};
-use std::fmt::Write;
+use razvolk::Marks;
+use razvolk::srw::{Frame, V2Header};
+use std::fmt::{Display, Write};
 use std::path::Path;
 
 /// A frame that was decoded, or refused.
-pub fn frame(
-    path: &Path,
-    frame: &Frame,
-    answer: Result<(), Refusal>,
-    marks: Option<Marks>,
-    blanked: Option<&(Option<u16>, Vec<Run>)>,
-) -> String {
-    let Frame { coding, width, height, stream, missing, .. } = frame;
-    let (number, row) = answer.err().map_or((0, 0), |refusal| (refusal.number(), refusal.row()));
-    let text = answer.err().map_or("done".into(), |refusal| refusal.to_string());
-    let file = string(&path.to_string_lossy());
-    let mut line = format!("{{\"file\":{file},\"version\":\"{coding}\",\"width\":{width},\"height\":{height}");
-    let bytes = stream.len();
-    let words = marks.map_or(0, Marks::filler_words);
-    write!(line, ",\"stream_bytes\":{bytes},\"missing_bytes\":{missing},\"missing_words\":{words}").expect("a string");
-    write!(line, ",\"answer\":{number},\"row\":{row}").expect("a string");
-    write!(line, ",\"text\":{}", string(&text)).expect("a string");
+pub fn frame(path: &Path, frame: &Frame, look: &Look) -> String {
+    let Frame { coding, width, height, stream, missing, bits, .. } = frame;
+    let marks = look.decoded.map(|decoded| decoded.marks);
+    let refusal = look.answer.err();
+    let mut line = Line::of(path);
+    line.field("version", string(&coding.to_string())).field("width", width).field("height", height);
+    line.field("bits", number(*bits));
+    if let Some(V2Header { width, height, depth }) = frame.v2_header() {
+        line.field("header", format!("{{\"width\":{width},\"height\":{height},\"bits\":{depth}}}"));
+    }
+    line.field("stream_bytes", stream.len()).field("missing_bytes", missing);
+    line.field("missing_words", marks.map_or(0, Marks::filler_words));
+    line.field("answer", refusal.map_or(0, |refusal| refusal.number()));
+    line.field("row", refusal.map_or(0, |refusal| refusal.row()));
+    line.field("text", string(&refusal.map_or("done".into(), |refusal| refusal.to_string())));
+    if let Some(over) = look.over {
+        line.field("over", over.map_or_else(|refusal| refusal.number(), |()| 0));
+    }
     if let Some(marks) = marks {
-        write!(line, ",\"samples\":{}", marks.bytes().len()).expect("a string");
-        write!(line, ",\"old\":{},\"old_rows\":{}", marks.count_old(), runs(marks.rows_old())).expect("a string");
-        write!(line, ",\"filler\":{},\"filler_rows\":{}", marks.count_filler(), runs(marks.rows_filler()))
-            .expect("a string");
+        line.field("samples", marks.bytes().len());
+        line.field("old", marks.count_old()).field("old_rows", rows(marks.rows_old()));
+        line.field("filler", marks.count_filler()).field("filler_rows", rows(marks.rows_filler()));
+        line.field("runs", list(marks.runs().map(|run| format!("[{},{},{}]", run.row, run.first, run.length))));
     }
-    if let Some((fill, runs)) = blanked {
-        let run = |run: &Run| format!("[{},{},{}]", run.row, run.first, run.length);
-        let runs: Vec<String> = runs.iter().map(run).collect();
+    if let Some((fill, _)) = look.blanked {
         // Where no fill is stated there is no number to tell.
-        let fill = fill.map_or("null".into(), |fill| fill.to_string());
-        write!(line, ",\"blanked\":{fill},\"runs\":[{}]", runs.join(",")).expect("a string");
+        line.field("blanked", number(fill));
     }
-    line + "}\n"
+    line.0 + "}\n"
+}
+
+/// What is told of a file that has no frame, or can't be read or written: one object, with what was told of it before.
+pub fn fault(path: &Path, told: &str, what: &str) -> String {
+    let mut line = told.strip_suffix("}\n").map_or_else(|| Line::of(path), |told| Line(told.into()));
+    line.field("error", string(what));
+    line.0 + "}\n"
+}
+
+/// An object that is not ended.
+struct Line(String);
+
+impl Line {
+    fn of(path: &Path) -> Line {
+        Line(format!("{{\"file\":{}", string(&path.to_string_lossy())))
+    }
+
+    fn field(&mut self, name: &str, value: impl Display) -> &mut Line {
+        write!(self.0, ",\"{name}\":{value}").expect("a string");
+        self
+    }
+}
+
+fn number(number: Option<impl Display>) -> String {
+    number.map_or("null".into(), |number| number.to_string())
 }
 
 /// Runs of rows that have as many such samples each.
-fn runs(rows: impl Iterator<Item = (usize, usize)>) -> String {
+fn rows(rows: impl Iterator<Item = (usize, usize)>) -> String {
     let run = |Rows { first, last, count }| format!("{{\"first\":{first},\"last\":{last},\"samples\":{count}}}");
-    let runs: Vec<String> = alike(rows).into_iter().map(run).collect();
-    format!("[{}]", runs.join(","))
+    list(alike(rows).into_iter().map(run))
 }
 
-/// A file that has no frame, or can't be read or written.
-pub fn fault(path: &Path, what: &str) -> String {
-    format!("{{\"file\":{},\"error\":{}}}\n", string(&path.to_string_lossy()), string(what))
+fn list(values: impl Iterator<Item = String>) -> String {
+    let mut list = String::from("[");
+    for (i, value) in values.enumerate() {
+        list += if i == 0 { "" } else { "," };
+        list += &value;
+    }
+    list + "]"
 }
 
 fn string(text: &str) -> String {
@@ -57,7 +85,8 @@ fn string(text: &str) -> String {
     for c in text.chars() {
         match c {
             '"' | '\\' => quoted.extend(['\\', c]),
-            c if c < ' ' || c == '\u{7f}' => write!(quoted, "\\u{:04x}", u32::from(c)).expect("a string"),
+            // All of them have four digits.
+            c if steers(c) => write!(quoted, "\\u{:04x}", u32::from(c)).expect("a string"),
             c => quoted.push(c),
         }
     }
@@ -71,5 +100,6 @@ mod tests {
     #[test]
     fn strings_are_quoted() {
         assert_eq!(string("a\"b\\c\n\u{1b}ö"), "\"a\\\"b\\\\c\\u000a\\u001bö\"");
+        assert_eq!(string("\u{7f}\u{9b}\u{202e}"), "\"\\u007f\\u009b\\u202e\"");
     }
 }

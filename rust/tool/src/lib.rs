@@ -31,12 +31,20 @@ pub fn main(words: impl IntoIterator<Item = OsString>) -> ExitCode {
         Ok(Asked::Help) => told(options::HELP).map(|()| 0),
         Ok(Asked::Version) => told(concat!("razvolk ", env!("CARGO_PKG_VERSION"), "\n")).map(|()| 0),
         Ok(Asked::Look(options)) => queue::look(&options),
-        Err(fault) => Err(format!("{fault}\nrazvolk --help lists what there is")),
+        Err(fault) => Err(fault),
     };
     ExitCode::from(done.unwrap_or_else(|fault| {
-        let _ = writeln!(io::stderr(), "razvolk: {fault}");
+        let _ = io::stderr().write_all((complaint(&fault) + POINTER).as_bytes());
         2
     }))
+}
+
+/// What ends everything that is said of errors.
+const POINTER: &str = "razvolk --help lists what there is\n";
+
+/// What went wrong, on a line of its own, whatever words of a command line or of a file are in it.
+fn complaint(fault: &str) -> String {
+    format!("razvolk: {}\n", input::escaped(fault))
 }
 
 /// Prints a text. (`println!` would panic where nobody reads the output.)

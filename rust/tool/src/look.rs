@@ -67,7 +67,7 @@ impl<'a> Look<'a> {
 
     /// What is told of it.
     pub fn text(&self, name: &str, frame: &Frame) -> String {
-        let marks = report::marks(self.decoded.map(|decoded| decoded.marks));
+        let marks = report::marks(self.decoded.map(|decoded| decoded.marks), self.missing);
         let blanked = self.blanked.as_ref().map(|(fill, runs)| report::blanked(runs, *fill)).unwrap_or_default();
         let standing = report::standing(self.answer);
         format!("{}\n{}\n{standing}{marks}{blanked}", report::heading(name, frame), report::answer(self.answer))

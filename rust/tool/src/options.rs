@@ -1,12 +1,15 @@
 //! What is asked for on the command line.
 
 use crate::form::{Form, Picture};
+use crate::input::is_stdin;
 use std::ffi::{OsStr, OsString};
+use std::num::NonZeroU8;
 use std::os::unix::ffi::OsStrExt;
 use std::path::{Path, PathBuf};
 
 pub const HELP: &str = "\
-razvolk: decodes Samsung raw frames, shows which samples rest on what the buffer held before, and writes V0
+razvolk: decodes Samsung raw frames, V0 and V2, tells which samples rest on what the buffer held before or on missing words, and
+writes V0 and V2
 
 usage: razvolk [OPTIONS] FILE.srw|FOLDER|- ...
        razvolk [OPTIONS] --v0 WIDTHxHEIGHT --offsets FILE STREAM|-
@@ -23,7 +26,7 @@ usage: razvolk [OPTIONS] FILE.srw|FOLDER|- ...
   --clean          decode a V0 frame only if it is clean: no block of rows 0 and 1 looks up, no length is outside 0 to 16, and
                    no word is missing; else the first fault is told, and nothing is written
   --jobs N         decode with N workers, one buffer each; else one for each processor
-  --json           tell in JSON, one object a frame
+  --json           tell in JSON, one object a frame (below)
 
  to write, each with a FILE, or with a FOLDER that is there, in which outputs are named after their frames:
   --pgm FILE       the samples, 16 bits each
@@ -42,6 +45,12 @@ usage: razvolk [OPTIONS] FILE.srw|FOLDER|- ...
   --half           one pixel for each square of four samples
 
   --help, -h, --version, -V
+
+JSON, an object a line: file; error where it can't be read or written or has no frame; else version, width, height, bits (as the
+container has them, or null), header (V2's own), stream_bytes, missing_bytes, missing_words (that were read past the end), answer
+(0 is done), row, text, over (the answer to that frame); of a stream that was begun samples, old and filler (how many rest on what the buffer held, and on missing
+words), old_rows and filler_rows (first, last, and samples of each row), runs of both (row, first column, length); and with --blank
+blanked: FILL, or null
 
 exit status, of several frames the first that there is of 2, 1, 3, 0:
   0  all frames are done, and clean
@@ -127,7 +136,10 @@ pub fn read(words: impl IntoIterator<Item = OsString>) -> Result<Asked, String> 
             once(&name, &mut options.blank, fill)?;
             continue;
         }
-        let mut value = || told.take().or_else(|| words.next()).ok_or(format!("{name} needs a value"));
+        let mut value = || {
+            let value = told.take().or_else(|| words.next());
+            value.filter(|value| !value.is_empty()).ok_or(format!("{name} needs a value"))
+        };
         match name.as_str() {
             "--help" | "-h" => return Ok(Asked::Help),
             "--version" | "-V" => return Ok(Asked::Version),
@@ -135,15 +147,15 @@ pub fn read(words: impl IntoIterator<Item = OsString>) -> Result<Asked, String> 
             "--v2" => once(&name, &mut v2, size(&value()?)?)?,
             "--offsets" => once(&name, &mut offsets, value()?.into())?,
             "--over" => once(&name, &mut options.over, value()?.into())?,
-            "--pgm" => once(&name, &mut options.pgm, value()?.into())?,
-            "--png" => once(&name, &mut options.png, value()?.into())?,
-            "--planes" => once(&name, &mut options.planes, value()?.into())?,
-            "--write-v0" => once(&name, &mut options.write_v0, value()?.into())?,
-            "--to-v2" => once(&name, &mut options.to_v2, value()?.into())?,
+            "--pgm" => once(&name, &mut options.pgm, output(value()?)?)?,
+            "--png" => once(&name, &mut options.png, output(value()?)?)?,
+            "--planes" => once(&name, &mut options.planes, output(value()?)?)?,
+            "--write-v0" => once(&name, &mut options.write_v0, output(value()?)?)?,
+            "--to-v2" => once(&name, &mut options.to_v2, output(value()?)?)?,
             "--white" => once(&name, &mut options.picture.white, number(&value()?, "number up to 65535")?)?,
             "--jobs" => {
-                let jobs: u8 = number(&value()?, "number of workers, 1 to 255")?;
-                once(&name, &mut options.jobs, usize::from(jobs.max(1)))?;
+                let jobs: NonZeroU8 = number(&value()?, "number of workers, 1 to 255")?;
+                once(&name, &mut options.jobs, usize::from(jobs.get()))?;
             }
             "--linear" => options.picture.linear = true,
             "--half" => options.picture.half = true,
@@ -162,7 +174,8 @@ pub fn read(words: impl IntoIterator<Item = OsString>) -> Result<Asked, String> 
         }
     }
     options.bare = bare(v0, v2, offsets)?;
-    let stdin = options.files.iter().filter(|file| file.as_os_str() == "-").count();
+    let read = options.files.iter().map(PathBuf::as_path).chain(options.over.as_deref()).chain(options.offsets());
+    let stdin = read.filter(|file| is_stdin(file)).count();
     match options.files.len() {
         0 => Err("no file is named".into()),
         2.. if options.bare.is_some() => Err("one bare stream at a time".into()),
@@ -188,6 +201,14 @@ fn once<T>(name: &str, place: &mut Option<T>, value: T) -> Result<(), String> {
     match place.replace(value) {
         None => Ok(()),
         Some(_) => Err(format!("{name} is told twice")),
+    }
+}
+
+/// Standard output has what is told, and an output is a file.
+fn output(word: OsString) -> Result<PathBuf, String> {
+    match word.as_bytes() {
+        b"-" => Err("outputs go to files, not to standard output; ./- is a file of that name".into()),
+        _ => Ok(word.into()),
     }
 }
 
@@ -264,6 +285,8 @@ mod tests {
             ("", "no file is named"),
             ("--v2 2x2 a b", "one bare stream at a time"),
             ("- a -", "standard input is read once"),
+            ("--over - -", "standard input is read once"),
+            ("--v0 2x2 --offsets - -", "standard input is read once"),
             ("--png", "--png needs a value"),
             ("--blank 65536 s", "65536 is no number up to 65535"),
             ("--blank=x s", "x is no number up to 65535"),
@@ -283,6 +306,9 @@ mod tests {
             ("--v2 99999999999999999999x2 s", "99999999999999999999x2 is no size, as 5546x3714 is"),
             ("--white 65536 s", "65536 is no number up to 65535"),
             ("--jobs many s", "many is no number of workers, 1 to 255"),
+            ("--jobs 0 s", "0 is no number of workers, 1 to 255"),
+            ("--png= s", "--png needs a value"),
+            ("--to-v2 - s", "outputs go to files, not to standard output; ./- is a file of that name"),
         ] {
             assert_eq!(asked(line), Err(text.into()), "{line}");
         }

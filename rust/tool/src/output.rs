@@ -7,6 +7,7 @@ use std::collections::HashSet;
 use std::fmt::Display;
 use std::fs::{self, File, Metadata, OpenOptions, Permissions};
 use std::io::{self, ErrorKind, Write};
+use std::os::unix::ffi::OsStrExt;
 use std::path::{Path, PathBuf};
 use std::process;
 
@@ -74,6 +75,10 @@ impl Place {
     fn of_nothing(name: &Path) -> Result<Place, String> {
         if fs::symlink_metadata(name).is_ok() {
             return Err("there already, and a link to nothing".into());
+        }
+        // Only a folder is called so; a path leaves the end out.
+        if [&b"/"[..], b"/."].iter().any(|end| name.as_os_str().as_bytes().ends_with(end)) {
+            return Err("no such folder".into());
         }
         let folder = name.parent().filter(|folder| *folder != Path::new("")).unwrap_or(Path::new("."));
         let folder = fs::canonicalize(folder).map_err(|e| e.to_string())?;

@@ -7,7 +7,7 @@ use crate::look::{Look, Wanted};
 use crate::options::{self, Bare, Options};
 use crate::output::{self, Place, Staged};
 use crate::worker::Worker;
-use crate::{json, report, told};
+use crate::{POINTER, complaint, json, report};
 use razvolk::srw::{self, Coding, Frame};
 use std::collections::BTreeMap;
 use std::io::{self, IsTerminal, Write};
@@ -90,44 +90,65 @@ fn run(jobs: &[Job], shared: &Shared) -> Result<u8, String> {
             });
         }
         drop(sender);
-        let done = tell(jobs, outcomes.iter(), shared.options.json);
+        let progress = jobs.len() > 1 && io::stderr().is_terminal();
+        let to = Told { out: &mut io::stdout(), err: &mut io::stderr(), progress, json: shared.options.json };
+        let done = tell(jobs, outcomes.iter(), to).map_err(|e| format!("standard output: {e}"));
         // Where nobody listens any more, no further file is begun.
         next.store(jobs.len(), Ordering::Relaxed);
         done
     })
 }
 
+/// Where what is told goes, and how.
+struct Told<'a> {
+    out: &'a mut dyn Write,
+    err: &'a mut dyn Write,
+    /// A line on `err` that tells how far it is, and goes again.
+    progress: bool,
+    json: bool,
+}
+
 /// Tells what came of the files, in their order, and of several files how many came out how.
-fn tell(jobs: &[Job], outcomes: impl Iterator<Item = (usize, Outcome)>, json: bool) -> Result<u8, String> {
-    let show_progress = jobs.len() > 1 && io::stderr().is_terminal();
+fn tell(jobs: &[Job], outcomes: impl Iterator<Item = (usize, Outcome)>, to: Told) -> io::Result<u8> {
+    let Told { out, err, progress, json } = to;
     let (mut early, mut turn, mut statuses) = (BTreeMap::new(), 0, [0; 4]);
     for (done, (i, outcome)) in (1..).zip(outcomes) {
         early.insert(i, outcome);
-        if show_progress {
-            let _ = write!(io::stderr(), "\r\x1b[K");
+        if progress {
+            let _ = write!(err, "\r\x1b[K");
         }
         while let Some(Outcome { text, fault, status }) = early.remove(&turn) {
-            told(&text)?;
             match fault {
-                Some(fault) if json => told(&json::fault(&jobs[turn].path, &fault))?,
-                Some(fault) => drop(writeln!(io::stderr(), "razvolk: {fault}")),
-                None => {}
+                Some(fault) if json => out.write_all(json::fault(&jobs[turn].path, &text, &fault).as_bytes())?,
+                Some(fault) => {
+                    out.write_all(text.as_bytes())?;
+                    let _ = err.write_all(complaint(&fault).as_bytes());
+                }
+                None => out.write_all(text.as_bytes())?,
             }
             statuses[usize::from(status)] += 1;
             turn += 1;
         }
-        if show_progress && done < jobs.len() {
-            let _ = write!(io::stderr(), "{done} of {} files", jobs.len());
+        if progress && done < jobs.len() {
+            let _ = write!(err, "{done} of {} files", jobs.len());
         }
     }
-    if jobs.len() > 1 && !json {
-        let [clean, refused, unread, marked] = statuses;
-        let all = jobs.len();
-        told(&format!(
-            "{all} files: {clean} clean, {marked} with samples old or missing, {refused} refused, {unread} not read or written\n"
-        ))?;
+    if !json {
+        out.write_all(summary(statuses).as_bytes())?;
+        let _ = err.write_all(if statuses[2] > 0 { POINTER } else { "" }.as_bytes());
     }
     Ok([2, 1, 3].into_iter().find(|&status| statuses[usize::from(status)] > 0).unwrap_or(0))
+}
+
+/// Of several files, how many came out how, by their statuses.
+fn summary(statuses: [usize; 4]) -> String {
+    let [clean, refused, unread, marked] = statuses;
+    match statuses.iter().sum::<usize>() {
+        0 | 1 => String::new(),
+        all => format!(
+            "{all} files: {clean} clean, {marked} with samples old or missing, {refused} refused, {unread} not read or written\n"
+        ),
+    }
 }
 
 /// Decodes one file's frame, and writes its outputs.
@@ -158,7 +179,7 @@ fn decode(worker: &mut Worker, job: &Job, shared: &Shared, text: &mut String) ->
     let look = Look::at(worker, &frame, over_frame, wanted).map_err(|fault| file.fault(fault))?;
     let marks = look.decoded.map(|decoded| decoded.marks);
     if options.json {
-        *text += &json::frame(&job.path, &frame, look.answer, marks, look.blanked.as_ref());
+        *text += &json::frame(&job.path, &frame, &look);
     } else {
         if let Some(((name, over), answer)) = over.as_ref().zip(look.over) {
             *text += &format!("over {}\n{}\n", report::heading(name, over), report::answer(answer));
@@ -190,4 +211,48 @@ fn write(job: &Job, look: &Look, options: &Options) -> Result<(), String> {
 
 fn camera(file: &Input) -> Result<Frame<'_>, String> {
     srw::frame(&file.bytes).map_err(|fault| file.fault(fault))
+}
+
+#[cfg(test)]
+mod tests {
+    use super::*;
+
+    /// What is printed of three files, of which the second is done first.
+    fn printed(progress: bool, json: bool) -> (u8, String, String) {
+        let job = |name: &str| Job { path: name.into(), identity: None, outputs: Vec::new() };
+        let jobs = ["a", "b", "c"].map(job);
+        let outcome = |text: &str, fault: Option<&str>, status| {
+            let text = if json && !text.is_empty() { format!("{{\"file\":{text:?}}}\n") } else { format!("{text}\n") };
+            Outcome { text, fault: fault.map(str::to_string), status }
+        };
+        let bad = |text| outcome(text, Some("b\u{1b}: bad"), 2);
+        let outcomes = [(1, bad("B")), (0, outcome("A", None, 0)), (2, outcome("C", None, 3))];
+        let (mut out, mut err) = (Vec::new(), Vec::new());
+        let status = tell(&jobs, outcomes.into_iter(), Told { out: &mut out, err: &mut err, progress, json });
+        let text = |bytes| String::from_utf8(bytes).expect("text");
+        (status.expect("there is room"), text(out), text(err))
+    }
+
+    const SUMMARY: &str = "3 files: 1 clean, 1 with samples old or missing, 0 refused, 1 not read or written\n";
+
+    #[test]
+    fn progress_is_a_line_that_goes_again() {
+        let complaint = "razvolk: b\\u{1b}: bad\n";
+        let (out, clear) = (format!("A\nB\nC\n{SUMMARY}"), "\r\x1b[K");
+        assert_eq!(printed(false, false), (2, out.clone(), format!("{complaint}{POINTER}")));
+        let shown = format!("{clear}1 of 3 files{clear}{complaint}2 of 3 files{clear}{POINTER}");
+        assert_eq!(printed(true, false), (2, out, shown));
+    }
+
+    #[test]
+    fn a_fault_stands_in_the_object_of_its_frame() {
+        let (status, out, err) = printed(false, true);
+        let lines = ["{\"file\":\"A\"}", "{\"file\":\"B\",\"error\":\"b\\u001b: bad\"}", "{\"file\":\"C\"}", ""];
+        assert_eq!((status, out, err.as_str()), (2, lines.join("\n"), ""));
+    }
+
+    #[test]
+    fn one_file_has_no_summary() {
+        assert_eq!((summary([0, 0, 1, 0]), summary([1, 0, 1, 1])), (String::new(), SUMMARY.into()));
+    }
 }

@@ -6,8 +6,9 @@ use razvolk::{Marks, Refusal, Run};
 use std::fmt::Write;
 use std::path::Path;
 
-/// The most lines of rows that are listed.
+/// The most lines of rows that are listed, and the most runs of a line.
 const MOST_LINES: usize = 12;
+const MOST_RUNS: usize = 8;
 
 /// What the file holds.
 pub fn heading(name: &str, frame: &Frame) -> String {
@@ -54,14 +55,17 @@ pub fn standing(answer: Result<(), Refusal>) -> String {
     }
 }
 
-/// That all samples rest on the stream; or how many rest on old values, and in which rows, and where words were missing, how
-/// many rest on those.
-pub fn marks(marks: Option<Marks>) -> String {
+/// That all samples rest on the stream, of which so many bytes are missing; or how many rest on old values, and in which rows, and
+/// where words were missing, how many rest on those.
+pub fn marks(marks: Option<Marks>, missing: usize) -> String {
     let Some(marks) = marks else { return "nothing was decoded\n".into() };
     let all = marks.bytes().len();
     let words = marks.filler_words();
     if marks.is_clean() && words == 0 {
-        return format!("all {all} samples rest on the stream\n");
+        return match missing {
+            0 => format!("all {all} samples rest on the stream\n"),
+            _ => format!("none of the missing bytes was read: all {all} samples are final\n"),
+        };
     }
     let rest = |count: usize| match count {
         0 => format!("none of {all} samples rests"),
@@ -89,35 +93,54 @@ fn listing(runs: &[Rows], width: usize) -> String {
         }
         .expect("a string");
     }
-    if !more.is_empty() {
-        let rows: usize = more.iter().map(|rows| rows.last - rows.first + 1).sum();
-        writeln!(text, "  and {rows} more rows").expect("a string");
-    }
-    text
+    text + &unlisted(more.iter().map(|rows| rows.last - rows.first + 1).sum())
 }
 
-/// What was set: how many samples, to what, and in which columns of which rows.
+/// How many rows a listing that is cut leaves out.
+fn unlisted(rows: usize) -> String {
+    match rows {
+        0 => String::new(),
+        _ => format!("  and {}\n", plural(rows, "more row")),
+    }
+}
+
+fn plural(n: usize, name: &str) -> String {
+    format!("{n} {name}{}", if n == 1 { "" } else { "s" })
+}
+
+/// What was set: how many samples, to what, and in which columns of which rows, up to so many lines.
 pub fn blanked(runs: &[Run], fill: Option<u16>) -> String {
-    let plural = |n, name: &str| format!("{n} {name}{}", if n == 1 { "" } else { "s" });
-    let set = runs.iter().map(|run| run.length).sum::<usize>();
-    let fill = fill.map_or("what lies left".into(), |fill| fill.to_string());
     if runs.is_empty() {
         return "nothing to blank\n".into();
     }
+    let set = runs.iter().map(|run| run.length).sum::<usize>();
+    let fill = fill.map_or("what lies left".into(), |fill| fill.to_string());
     let mut text = format!("blanked to {fill}: {} in {}\n", plural(set, "sample"), plural(runs.len(), "run"));
     // Rows that follow one another and have the same columns are told once.
-    let columns = |runs: &[Run]| runs.iter().map(|run| (run.first, run.length)).collect::<Vec<_>>();
+    let same = |one: &[Run], next: &[Run]| one.iter().map(columns).eq(next.iter().map(columns));
     let rows: Vec<&[Run]> = runs.chunk_by(|one, next| one.row == next.row).collect();
-    for alike in rows.chunk_by(|one, next| one[0].row + 1 == next[0].row && columns(one) == columns(next)) {
-        let (first, last) = (alike[0][0].row, alike[alike.len() - 1][0].row);
+    let mut alike = rows.chunk_by(|one, next| one[0].row + 1 == next[0].row && same(one, next));
+    for rows in alike.by_ref().take(MOST_LINES) {
+        let (first, last) = (rows[0][0].row, rows[rows.len() - 1][0].row);
         let name = if first == last { format!("row {first}") } else { format!("rows {first} to {last}") };
-        let told = columns(alike[0]).into_iter().map(|(first, length)| match length {
-            1 => format!("{first}"),
-            _ => format!("{first} to {}", first + length - 1),
-        });
-        writeln!(text, "  {name}: columns {}", told.collect::<Vec<_>>().join(", ")).expect("a string");
+        writeln!(text, "  {name}: columns {}", listed(rows[0])).expect("a string");
     }
-    text
+    text + &unlisted(alike.map(<[_]>::len).sum())
+}
+
+fn columns(run: &Run) -> (usize, usize) {
+    (run.first, run.length)
+}
+
+/// The columns of a row's runs, up to so many.
+fn listed(runs: &[Run]) -> String {
+    let (listed, more) = runs.split_at(runs.len().min(MOST_RUNS));
+    let told = listed.iter().map(|run| match columns(run) {
+        (first, 1) => format!("{first}"),
+        (first, length) => format!("{first} to {}", first + length - 1),
+    });
+    let more = Some(more.len()).filter(|&more| more > 0).map(|more| format!("and {}", plural(more, "more run")));
+    told.chain(more).collect::<Vec<_>>().join(", ")
 }
 
 /// What is to be known of a frame that is to be stored: one that was refused isn't, and marks are not stored.
@@ -164,5 +187,27 @@ mod tests {
         assert_eq!(text.lines().count(), 13);
         assert!(text.ends_with("  rows 110 to 111: 12 of 40 each\n  and 12 more rows\n"), "{text}");
         assert!(!listing(&runs[..12], 40).contains("more"));
+        assert!(listing(&runs[..13], 40).ends_with("\n  and 1 more row\n"));
+    }
+
+    /// Of rows in which every other sample is marked, and each has other columns than the one before.
+    #[test]
+    fn a_long_listing_of_blanked_columns_is_cut() {
+        let runs = |rows: usize, runs: usize| {
+            let run = move |row, i| Run { row, first: row % 2 + 2 * i, length: 1 };
+            (0..rows).flat_map(move |row| (0..runs).map(move |i| run(row, i))).collect::<Vec<_>>()
+        };
+        let text = blanked(&runs(15, 10), Some(7));
+        assert!(text.starts_with("blanked to 7: 150 samples in 150 runs\n"), "{text}");
+        assert!(
+            text.contains("\n  row 0: columns 0, 2, 4, 6, 8, 10, 12, 14, and 2 more runs\n  row 1: columns 1, 3,"),
+            "{text}"
+        );
+        assert!(
+            text.ends_with("  row 11: columns 1, 3, 5, 7, 9, 11, 13, 15, and 2 more runs\n  and 3 more rows\n"),
+            "{text}"
+        );
+        assert!(!blanked(&runs(12, 8), Some(7)).contains("more"));
+        assert!(blanked(&runs(13, 9), Some(7)).ends_with(", and 1 more run\n  and 1 more row\n"));
     }
 }

@@ -54,7 +54,7 @@ fn a_band_of_another_frame_is_marked() {
     assert_eq!(samples[20 * width], first[0], "the band carries down what the first rows held");
     assert_eq!(samples[24 * width..], christening(width, height)[24 * width..]);
     let text = "7680 of 64000 samples rest on what the buffer held before\n  rows 0 to 23: 320 of 320 each\n";
-    assert_eq!(report::marks(Some(marks)), text);
+    assert_eq!(report::marks(Some(marks), 0), text);
 }
 
 #[test]
@@ -78,7 +78,7 @@ fn of_v2(width: usize, height: usize, text: &str) {
         let coded = i % width < width / 16 * 16;
         assert_eq!((*sample, *mark), if coded { (image[i], 0) } else { (0, 1) }, "sample {i}");
     }
-    assert_eq!(report::marks(Some(marks)), text);
+    assert_eq!(report::marks(Some(marks), 0), text);
 }
 
 #[test]
@@ -175,7 +175,7 @@ fn answers_in_words() {
     assert_eq!(standing(9), "rows 0 to 8 stand, whatever bytes come after them\n");
     assert_eq!(standing(1), "row 0 stands, whatever bytes come after it\n");
     assert_eq!([report::standing(Ok(())), report::standing(Err(Refusal::TooLarge))], ["", ""]);
-    assert_eq!(report::marks(None), "nothing was decoded\n");
+    assert_eq!(report::marks(None, 0), "nothing was decoded\n");
     let run = |row, first, length| Run { row, first, length };
     let runs = [run(0, 0, 9), run(1, 0, 9), run(2, 0, 9), run(4, 0, 9), run(5, 2, 1), run(5, 4, 2)];
     let text = "blanked to 512: 39 samples in 6 runs\n  rows 0 to 2: columns 0 to 8\n  row 4: columns 0 to 8\n  \

@@ -72,10 +72,10 @@ pub fn refused(text: &str) -> Ran {
 }
 
 pub fn bad(text: &str) -> Ran {
-    (2, String::new(), format!("razvolk: {text}\n"))
+    (2, String::new(), complaint(text))
 }
 
-/// A line that the tool does not understand.
-pub fn misread(text: &str) -> Ran {
-    bad(&format!("{text}\nrazvolk --help lists what there is"))
+/// What is said of an error ends with where to look.
+pub fn complaint(text: &str) -> String {
+    format!("razvolk: {text}\nrazvolk --help lists what there is\n")
 }

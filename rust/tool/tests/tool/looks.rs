@@ -1,11 +1,11 @@
 //! What is printed of a frame, and written of it.
 
-use crate::folder::{Folder, Ran, bad, done, marked, misread, refused, srw};
+use crate::folder::{Folder, Ran, bad, complaint, done, marked, refused, srw};
 use std::fs;
 use std::path::PathBuf;
 use std::process::Command;
 use streams::images::{christening, photo, sitting};
-use streams::v0::encode::with_band;
+use streams::v0::encode::{with_band, with_corner};
 use streams::{Frame, Version, v0, v2};
 
 #[test]
@@ -31,16 +31,27 @@ fn the_readme_shows_what_the_tool_does() {
     let folder = Folder::new("readme");
     folder.put("sitting.srw", srw(&v0::encode(&sitting(320, 200), 320, 200)));
     folder.put("christening.srw", srw(&with_band(&christening(320, 200), 320, 200, 24)));
+    folder.put("corner.srw", srw(&with_corner(&christening(320, 200), 320, 200, 24, 96)));
     let whole = v0::encode(&christening(320, 200), 320, 200);
     let missing = whole.stream.len() - whole.row(100).start;
     let file = srw(&whole);
     folder.put("upload.srw", &file[..file.len() - missing]);
     let top = PathBuf::from(env!("CARGO_MANIFEST_DIR")).join("../..");
     let readme = fs::read_to_string(top.join("README.md")).expect("README.md");
-    for (frames, picture) in [("--over sitting.srw christening.srw", "marked.png"), ("upload.srw", "upload.png")] {
-        let (status, text, _) = folder.run(&format!("{frames} --png {picture}"));
+    for (line, picture) in [
+        ("--over sitting.srw christening.srw", "marked.png"),
+        ("--over sitting.srw christening.srw --blank 6000", "blanked.png"),
+        ("--over sitting.srw corner.srw --blank", "softened.png"),
+        ("upload.srw", "upload.png"),
+    ] {
+        let line = format!("{line} --png {picture}");
+        let (status, text, _) = folder.run(&line);
         assert!(status == 3 && folder.get(picture) == fs::read(top.join("docs").join(picture)).ok(), "{picture}");
-        let shown: String = text.lines().map(|line| format!("    {line}\n")).collect();
+        // Of what was shown above, the README has the last lines alone.
+        let text = text.find("blanked to").map_or(text.as_str(), |at| &text[at..]);
+        let cut = if text.starts_with("blanked") { "    ..\n" } else { "" };
+        let told: String = text.lines().map(|line| format!("    {line}\n")).collect();
+        let shown = format!("    $ razvolk {line}\n{cut}{told}");
         assert!(readme.contains(&shown), "the README has\n{shown}");
     }
 }
@@ -102,12 +113,12 @@ fn a_v0_frame_written_as_v2_is_read_again() {
     assert!(samples("first.pgm").ends_with(&samples("again.pgm")[9..]), "the samples are the same");
 
     let (status, _, fault) = folder.run("b.srw --to-v2 c.srw");
-    assert_eq!((status, fault.as_str()), (2, "razvolk: c.srw: is V2 already\n"));
+    assert_eq!((status, fault), (2, complaint("c.srw: is V2 already")));
     let refused = [(655, 436, "the width is no multiple of 16"), (16, 9, "the frame is smaller than 32 by 1")];
     for (width, height, why) in refused {
         folder.put("odd.srw", srw(&v0::encode(&sitting(width, height), width, height)));
         let (status, _, fault) = folder.run("odd.srw --to-v2 c.srw");
-        assert_eq!((status, fault), (2, format!("razvolk: c.srw: can't be written as V2: {why}\n")));
+        assert_eq!((status, fault), (2, complaint(&format!("c.srw: can't be written as V2: {why}"))));
         assert!(folder.get("c.srw").is_none());
     }
     folder.put("crop.srw", srw(&v0::encode(&sitting(48, 9), 48, 9)));
@@ -152,7 +163,7 @@ fn what_cannot_be_written_as_v0() {
     folder.put("bright.srw", srw(&v0::encode(&bright, 40, 6)));
     let (status, text, fault) = folder.run("bright.srw --pgm x.pgm --write-v0 x.srw");
     assert_eq!((status, text.lines().last()), (2, Some("all 240 samples rest on the stream")));
-    assert_eq!(fault, "razvolk: x.srw: can't be written as V0: a sample is above 16,383\n");
+    assert_eq!(fault, complaint("x.srw: can't be written as V0: a sample is above 16,383"));
     assert_eq!(folder.names(), ["bright.srw"]);
     // A frame that is refused: its picture is written, and no frame that would pass for a whole one.
     folder.put("v2", [0; 16]);
@@ -198,7 +209,7 @@ fn bad_input() {
     assert_eq!(folder.run("gone"), bad("gone: No such file or directory (os error 2)"));
     assert_eq!(folder.run("."), bad(".: no .srw file is in this folder"));
     assert_eq!(folder.run("--v0 2x2 --offsets offsets text"), bad("offsets: x is no number below 2^32"));
-    assert_eq!(folder.run("--what"), misread("there is no option --what"));
+    assert_eq!(folder.run("--what"), bad("there is no option --what"));
     let text = "a frame of 16384 by 16384 is too large to look at: the limit is 67108864 samples";
     assert_eq!(folder.run("--v2 16384x16384 none"), bad(&format!("none: {text}")));
     folder.put("large.srw", srw(&Frame::new(Version::V2, 16_384, 16_384)));
@@ -210,11 +221,11 @@ fn output_that_cannot_be_written() {
     let folder = Folder::new("output");
     folder.put("v2.srw", srw(&Frame { stream: vec![0; 16], ..Frame::new(Version::V2, 646, 436) }));
     let (status, _, fault) = folder.run("v2.srw --pgm gone/x.pgm");
-    assert_eq!((status, fault.as_str()), (2, "razvolk: gone/x.pgm: No such file or directory (os error 2)\n"));
+    assert_eq!((status, fault), (2, complaint("gone/x.pgm: No such file or directory (os error 2)")));
     folder.put("offsets", "");
     let (status, text, fault) = folder.run("--v0 5x0 --offsets offsets offsets --png x.png");
     assert_eq!((status, text.lines().last()), (2, Some("all 0 samples rest on the stream")));
-    assert_eq!(fault, "razvolk: x.png: a frame of no samples makes no picture\n");
+    assert_eq!(fault, complaint("x.png: a frame of no samples makes no picture"));
 }
 
 #[test]
@@ -226,7 +237,7 @@ fn help_and_version() {
     for word in ["--version", "-V"] {
         assert_eq!(folder.run(word), done(concat!("razvolk ", env!("CARGO_PKG_VERSION"), "\n")));
     }
-    assert_eq!(folder.run(""), misread("no file is named"));
+    assert_eq!(folder.run(""), bad("no file is named"));
 }
 
 #[test]
@@ -256,6 +267,48 @@ fn a_frame_that_is_cut_is_not_clean() {
     assert!(text.contains("\nnone of 64000 samples rests on what the buffer held before\n"), "{text}");
     assert!(text.contains(" samples rest on missing words: "), "{text}");
     assert!(text.ends_with(" to 199: 320 of 320 each\n"), "{text}");
+}
+
+/// Where the file lacks bytes, nothing is called to rest on the stream, though none of them was read.
+#[test]
+fn missing_bytes_that_nobody_reads_are_told() {
+    let folder = Folder::new("padded");
+    let mut made = v0::encode(&sitting(40, 6), 40, 6);
+    made.stream.extend([0; 100]);
+    let file = srw(&made);
+    folder.put("a.srw", &file[..file.len() - 60]);
+    let text = "a.srw: V0, 40 by 6, 448 bytes of stream, 60 more are missing\ndone\n\
+        none of the missing bytes was read: all 240 samples are final\n";
+    assert_eq!(folder.run("a.srw"), marked(text));
+}
+
+/// Words of the command line and of a table, too, are printed so that they don't steer the terminal.
+#[test]
+fn words_do_not_steer_the_terminal() {
+    let folder = Folder::new("words");
+    folder.put("offsets", "0 \u{1b}[31mx\u{7}");
+    folder.put("stream", []);
+    let fault = "offsets: \\u{1b}[31mx\\u{7} is no number below 2^32";
+    assert_eq!(folder.run("--v0 2x2 --offsets offsets stream"), bad(fault));
+    assert_eq!(folder.run("--\u{1b}c"), bad("there is no option --\\u{1b}c"));
+    assert_eq!(folder.run("--v2 \u{9b}x2 stream"), bad("\\u{9b}x2 is no size, as 5546x3714 is"));
+}
+
+/// Where nobody reads what is told, it ends, with a word on standard error and no fault of its own.
+#[test]
+fn a_pipe_that_is_closed() {
+    let folder = Folder::new("pipe");
+    for i in 0..4 {
+        folder.put(&format!("{i}.srw"), srw(&v0::encode(&sitting(40, 6), 40, 6)));
+    }
+    let tool = env!("CARGO_BIN_EXE_razvolk");
+    for line in [".", "--json .", "--help"] {
+        // The reader is gone before the tool begins.
+        let line = format!("{{ sleep 0.2; {tool} {line}; echo $? > status; }} | :");
+        let (_, _, fault) = folder.ran(Command::new("sh").args(["-c", &line]));
+        assert_eq!(fault, complaint("standard output: Broken pipe (os error 32)"));
+        assert_eq!(folder.get("status").as_deref(), Some(&b"2\n"[..]));
+    }
 }
 
 /// With `--clean` a V0 frame is decoded if nothing in it is inherited or missing, and else the first fault is told, by rows; V2
@@ -305,9 +358,9 @@ fn an_object_for_each_frame() {
     let (status, text, fault) = folder.run("--json a.srw b c.srw");
     assert_eq!((status, fault.as_str()), (2, ""));
     let lines: Vec<&str> = text.lines().collect();
-    let a = "{\"file\":\"a.srw\",\"version\":\"V0\",\"width\":40,\"height\":6,\"stream_bytes\":200,\"missing_bytes\":0,\
+    let a = "{\"file\":\"a.srw\",\"version\":\"V0\",\"width\":40,\"height\":6,\"bits\":14,\"stream_bytes\":200,\"missing_bytes\":0,\
         \"missing_words\":0,\"answer\":0,\"row\":0,\"text\":\"done\",\"samples\":240,\"old\":80,\"old_rows\":[{\"first\":0,\"last\":1,\"samples\":40}],\
-        \"filler\":0,\"filler_rows\":[]}";
+        \"filler\":0,\"filler_rows\":[],\"runs\":[[0,0,40],[1,0,40]]}";
     assert_eq!(lines[..2], [a, "{\"file\":\"b\",\"error\":\"b: not a TIFF file\"}"]);
     assert!(
         lines[2].contains("\"missing_words\":7,\"answer\":8,\"row\":0,\"text\":\"the stream ends in row 0\""),
@@ -348,7 +401,19 @@ fn files_and_folders_at_once() {
         text.ends_with("3 files: 1 clean, 0 with samples old or missing, 0 refused, 2 not read or written\n"),
         "{text}"
     );
-    assert_eq!(fault, "razvolk: gone: No such file or directory (os error 2)\nrazvolk: other.txt: not a TIFF file\n");
+    let fault_of_gone = "gone: No such file or directory (os error 2)\nrazvolk: other.txt: not a TIFF file";
+    assert_eq!(fault, complaint(fault_of_gone));
+}
+
+/// A pipe, whose writer the tool would wait for, and another folder are passed over.
+#[test]
+fn what_is_no_file_in_a_folder() {
+    let folder = Folder::new("no_files");
+    folder.put("a.srw", srw(&v0::encode(&sitting(40, 6), 40, 6)));
+    assert_eq!(folder.ran(Command::new("mkfifo").arg("pipe.srw")), done(""));
+    fs::create_dir(folder.0.join("folder.srw")).expect("a folder");
+    let ran = folder.ran(Command::new("timeout").args(["20", env!("CARGO_BIN_EXE_razvolk"), "."]));
+    assert_eq!(ran, done("./a.srw: V0, 40 by 6, 408 bytes of stream\ndone\nall 240 samples rest on the stream\n"));
 }
 
 #[test]
@@ -391,15 +456,19 @@ fn standard_input() {
     );
 }
 
-/// A noisy picture takes about as many bits a pixel as its noise has.
+/// A picture with little noise, with some and with much takes about as many bytes as zlib's level 6 makes of the same filtered
+/// rows: those were counted with zlib 1.2.13.
 #[test]
 fn pictures_are_small() {
     let folder = Folder::new("small");
-    let image = photo(400, 300, 60.0, 1);
-    folder.put("a.srw", srw(&v0::encode(&image, 400, 300)));
-    assert_eq!(folder.run("a.srw --png a.png").0, 0);
+    for (noise, by_zlib) in [(4.0, 35_643), (60.0, 148_683), (300.0, 302_096)] {
+        folder.put("a.srw", srw(&v0::encode(&photo(800, 600, noise, 1), 800, 600)));
+        assert_eq!(folder.run("a.srw --force --png a.png").0, 0);
+        let bytes = folder.get("a.png").expect("a picture").len();
+        // What stands around the rows, the palette above all, takes less than a thousand bytes.
+        assert!(bytes < by_zlib + by_zlib / 100 + 1_000, "{bytes} bytes with noise {noise}");
+    }
     assert_eq!(folder.run("a.srw --half --png half.png").0, 0);
-    let [whole, half] = ["a.png", "half.png"].map(|name| folder.get(name).expect("a picture"));
-    assert!(whole.len() < 400 * 300 * 5 / 8, "{} bytes", whole.len());
-    assert_eq!(half[16..24], [0, 0, 0, 200, 0, 0, 0, 150]);
+    let half = folder.get("half.png").expect("a picture");
+    assert_eq!(half[16..24], [0, 0, 1, 144, 0, 0, 1, 44]);
 }

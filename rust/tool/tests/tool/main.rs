@@ -2,5 +2,6 @@
 
 mod files;
 mod folder;
+mod json;
 mod looks;
 mod outputs;

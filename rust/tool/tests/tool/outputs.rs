@@ -1,6 +1,6 @@
 //! That no file is harmed: each test runs the tool where a careless one would.
 
-use crate::folder::{Folder, Ran, bad, srw};
+use crate::folder::{Folder, Ran, bad, complaint, srw};
 use std::fs;
 use std::os::unix::fs::{MetadataExt, PermissionsExt, symlink};
 use std::os::unix::net::UnixListener;
@@ -41,14 +41,15 @@ fn a_raw_file_taken_for_the_output_is_kept() {
 #[test]
 fn a_file_that_is_there_is_replaced_by_force_alone() {
     let folder = folder("there");
-    for output in ["--pgm", "--png", "--planes", "--write-v0"] {
+    folder.put("wide.srw", srw(&v0::encode(&sitting(656, 436), 656, 436)));
+    for output in ["--pgm", "--png", "--planes", "--write-v0", "--to-v2"] {
         folder.put("old", "old");
-        refused(&folder, &format!("a.srw {output} old"), &format!("old: {THERE}"));
-        assert!(is_done(&folder.run(&format!("a.srw {output} old --force"))));
+        refused(&folder, &format!("wide.srw {output} old"), &format!("old: {THERE}"));
+        assert!(is_done(&folder.run(&format!("wide.srw {output} old --force"))));
         assert!(folder.get("old").expect("a file").len() > 100);
     }
     assert!(is_done(&folder.run("a.srw --force --pgm new")), "by force, too, a new file is written");
-    assert_eq!(folder.names(), ["a.srw", "b.srw", "new", "old"], "nothing is left beside them");
+    assert_eq!(folder.names(), ["a.srw", "b.srw", "new", "old", "wide.srw"], "nothing is left beside them");
 }
 
 #[test]
@@ -116,6 +117,17 @@ fn what_is_no_file_is_not_replaced() {
 }
 
 #[test]
+fn a_folder_that_is_not_there_is_not_made_a_file() {
+    let folder = folder("no_folder");
+    for name in ["new/", "new/.", "new//"] {
+        refused(&folder, &format!("a.srw --png {name}"), &format!("{name}: no such folder"));
+    }
+    fs::create_dir(folder.0.join("new")).expect("a folder");
+    assert!(is_done(&folder.run("a.srw --png new/")));
+    assert!(folder.get("new/a.png").is_some());
+}
+
+#[test]
 fn two_outputs_are_two_files() {
     let folder = folder("two");
     folder.put("old", "old");
@@ -144,12 +156,12 @@ fn a_failure_leaves_the_old_file() {
     folder.put("old.png", "old");
     let line = "a.srw --force --pgm old.pgm --png old.png";
     let (status, _, fault) = run_out_of_room(&folder, "trap '' XFSZ;", line);
-    assert_eq!((status, fault.as_str()), (2, "razvolk: old.pgm: File too large (os error 27)\n"));
+    assert_eq!((status, fault), (2, complaint("old.pgm: File too large (os error 27)")));
     // The samples have room, the picture of their noise and its palette have not: both files stay as they were.
     let noise: Vec<u16> = (0..400u32).map(|i| (i * i * 31 % 16_384) as u16).collect();
     folder.put("b.srw", srw(&v0::encode(&noise, 20, 20)));
     let (status, _, fault) = run_out_of_room(&folder, "trap '' XFSZ;", "b.srw --force --pgm old.pgm --png old.png");
-    assert_eq!((status, fault.as_str()), (2, "razvolk: old.png: File too large (os error 27)\n"));
+    assert_eq!((status, fault), (2, complaint("old.png: File too large (os error 27)")));
     assert_eq!(folder.names(), ["a.srw", "b.srw", "old.pgm", "old.png"], "nothing is left beside them");
     // A tool that is ended while it writes leaves a file beside the old one, at most.
     assert_eq!(run_out_of_room(&folder, "", line).0, -1);
