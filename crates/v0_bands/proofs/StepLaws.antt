@@ -3,7 +3,7 @@ use Prim.Native.Nat.{ℕ, zero, suc, _+_, _-_, _*_, _/_, _%_, _≤_, _<_, min}
 use mathlib.Core.Path.{_≡_, refl, sym, ap, _∙_}
 use mathlib.Core.List.{List}
 use native.Mathlib.Omega.{arith}
-use native.Mathlib.Nat.{mul-assoc, mul-le-mul-right, suc-mul, div-lt-iff-lt-mul, mod-lt}
+use native.Mathlib.Nat.{mul-assoc, mul-le-mul, mul-le-mul-right, suc-mul, div-lt-iff-lt-mul, mod-lt}
 use mathlib.Core.Logic.{_≢_}
 use native.Mathlib.Numerals.{add-one}
 use lib.Dec.{eqb}
@@ -81,6 +81,10 @@ module _ (g : Stage ℕ) (w b block n row : ℕ) (ds : List ℕ) where
   pub band-done : (f₀ f : List ℕ) (r : ℕ) → n ≤ r → Band f₀ f r → f ≡ predict-band g w b block n row ds f₀
   unfolding predict-band
   band-done f₀ f r l p = let none : n - r ≡ 0 = omega arith in rw none at (p .cells-are)
+
+-- A row's number times the blocks of a row fits a machine word.
+pub small-product : (x y : ℕ) → x ≤ 16_384 → y ≤ 1_024 → x * y < 18_446_744_073_709_551_616
+small-product x y p q = let m : x * y ≤ 16_384 * 1_024 = mul-le-mul p q in omega arith
 
 module _ {w b block row n : ℕ} {f dirs : List ℕ} (p : BandLent w b block row n f dirs) where
   -- A block of a band begins at so many blocks of 16.
