@@ -1,5 +1,6 @@
 -- What follows from the definitions: every good list leaves what phase two leaves, the good lists are those that do each block
 -- once, always ready; and the laws of the list's check.
+pub mod ACut
 pub mod Finished
 pub mod Counters
 pub mod AnySequence

@@ -1,23 +1,24 @@
 -- The rows of a band, and the steps of a list: what is left from here comes to the whole from the start.
 use Prim.Native.Nat.{ℕ, zero, suc, _+_, _-_, _*_, _/_, _%_, _≤_, _<_, min}
 use mathlib.Core.Path.{_≡_, refl, sym, ap, _∙_}
-use mathlib.Core.List.{List, [], _∷_}
+use mathlib.Core.List.{List}
 use native.Mathlib.Omega.{arith}
-use native.Mathlib.Nat.{mul-assoc, mul-le-mul-right, suc-mul, div-lt-iff-lt-mul, div-mul-le-self, mod-lt}
+use native.Mathlib.Nat.{mul-assoc, mul-le-mul, mul-le-mul-right, suc-mul, div-lt-iff-lt-mul, mod-lt}
 use mathlib.Core.Logic.{_≢_}
-use borrow.Author.Tests.{eq-eqb, ne-eqb}
 use native.Mathlib.Numerals.{add-one}
 use lib.Dec.{eqb}
 use lib.ListN.{length, getD, take, drop, length-take, length-drop, drop-of-length-le}
 use lib.Seq.{drop-cons, getD-take, getD-drop, ext-getD}
-use Rattle.rules.specs.V0.{order, blocks-in}
-use Rattle.rules.specs.Phases.{Stage, upward, predict-samples, predict-blocks}
-use Rattle.bands.specs.Bands.{Cut, cut, sized, late-rows, band-start, blocks-per-band, step-count, in-turn, none-done, good, block-directions, predict-band, do-step, do-steps}
+use Rattle.rules.specs.V0.{blocks-in}
+use Rattle.rules.specs.Phases.{Stage, sample-stage, predict-blocks}
+use Rattle.bands.specs.Bands.{Cut, cut, sized, late-rows, blocks-per-band, step-count, in-turn, none-done, good, block-directions, predict-band, do-step}
 use Rattle.bands.proofs.AnySequence.{Fitting, fitting, start-up, start-last}
 use Rattle.bands.proofs.CheckLaws.{bands-most}
-use Rattle.bands.proofs.Counters.{Both, both, some-block, Stands, stands, Turns, end, next, turns}
+use Rattle.bands.proofs.Counters.{both, some-block, stands, Turns, end, next, turns}
 use Rattle.v0_two_phase.specs.Lent.{LateRow}
-use Rattle.v0_bands.specs.Lent.{BandLent, StepsLent}
+use Rattle.v0_bands.specs.Freed.{exchange-freed, steps-freed}
+use Rattle.v0_bands.specs.Lent.{BandLent, StepLent, StepsLent}
+use Rattle.v0_bands.proofs.FreedLaws.{some-late, begins}
 
 -- ── A block of a band ──
 
@@ -81,6 +82,10 @@ module _ (g : Stage ℕ) (w b block n row : ℕ) (ds : List ℕ) where
   unfolding predict-band
   band-done f₀ f r l p = let none : n - r ≡ 0 = omega arith in rw none at (p .cells-are)
 
+-- A row's number times the blocks of a row fits a machine word.
+pub small-product : (x y : ℕ) → x ≤ 16_384 → y ≤ 1_024 → x * y < 18_446_744_073_709_551_616
+small-product x y p q = let m : x * y ≤ 16_384 * 1_024 = mul-le-mul p q in omega arith
+
 module _ {w b block row n : ℕ} {f dirs : List ℕ} (p : BandLent w b block row n f dirs) where
   -- A block of a band begins at so many blocks of 16.
   pub from-low : block * (b / 16) * 16 < w
@@ -142,20 +147,15 @@ module _ {w h k b : ℕ} {steps f dirs : List ℕ} (p : StepsLent w h k b steps 
         omega (arith, start-last (cut (sized w h) k b) fit))
 
     late-some : h - 2 ≢ 0
-    unfolding blocks-per-band
-    late-some e = let z = blocks-some in omega (arith, rw (eq-eqb (h - 2) 0 e) at is)
+    late-some = some-late (cut (sized w h) k b) fit (rw is at blocks-some)
 
     -- Its block begins within the row.
     block-begins : getD steps i 0 % blocks * b < w
-    unfolding blocks-per-band
-    block-begins =
-        let is₂ : blocks ≡ (w + (b - 1)) / b = rw (ne-eqb (h - 2) 0 late-some) at is in
-        let q = mod-lt (getD steps i 0) blocks-some in
-        let m : suc (getD steps i 0 % blocks) * b ≤ blocks * b = mul-le-mul-right b q in
-        let d = div-mul-le-self (w + (b - 1)) b in
-        let e : blocks * b ≡ (w + (b - 1)) / b * b = ap (λ x. x * b) is₂ in
-        let some = fit .some-column in
-        omega (arith, suc-mul (getD steps i 0 % blocks) b)
+    block-begins = begins (cut (sized w h) k b) fit (getD steps i 0 % blocks) (let q = mod-lt (getD steps i 0) blocks-some in omega (arith, is))
+
+    -- What it frees is lent.
+    pub step-lent : (g : List ℕ) → length g ≡ length f → StepLent (cut (sized w h) k b) blocks (getD steps i 0) g
+    step-lent g e = record { width = p .width; height = p .height; cut-fits = p .cut-fits; blocks-are = is; low = step-low; lent = omega (arith, p .lent) }
 
     -- So the block of its band is lent.
     pub band-lent : (g : List ℕ) → length g ≡ length f
@@ -190,32 +190,32 @@ module _ {w h k b : ℕ} {steps f dirs : List ℕ} (p : StepsLent w h k b steps 
     pub first-most : getD steps i 0 / blocks * late ≤ 1_048_576
     first-most = omega (arith, rows-most, suc-mul (getD steps i 0 / blocks) late)
 
-module _ (g : Stage ℕ) (c : Cut) (ds steps : List ℕ) where
+module _ (c : Cut) (ds steps : List ℕ) where
   pub record Steps (f₀ f : List ℕ) (i : ℕ) : Type 0 where
     pub below : i ≤ length steps
     pub same-length : length f ≡ length f₀
-    pub cells-are : do-steps g c ds (drop i steps) f ≡ do-steps g c ds steps f₀
+    pub cells-are : steps-freed c ds (drop i steps) f ≡ steps-freed c ds steps f₀
 
   pub steps-begun : (f : List ℕ) → Steps f f 0
   steps-begun f = record { below = omega arith; same-length = refl; cells-are = refl }
 
-  pub steps-on : (f₀ f f′ : List ℕ) (i : ℕ) → i < length steps → length f′ ≡ length f → (blocks late : ℕ) → blocks ≡ blocks-per-band c
+  pub steps-on : (f₀ f f₁ f′ : List ℕ) (i : ℕ) → i < length steps → length f′ ≡ length f → (blocks late : ℕ) → blocks ≡ blocks-per-band c
       → late ≡ late-rows (c .size)
-      → f′ ≡ predict-band g (c .size .width) (c .block-width) (getD steps i 0 % blocks)
+      → f₁ ≡ predict-band sample-stage (c .size .width) (c .block-width) (getD steps i 0 % blocks)
       ((getD steps i 0 / blocks + 1) * late / c .bands - getD steps i 0 / blocks * late / c .bands) (getD steps i 0 / blocks * late / c .bands + 2) ds f
-      → Steps f₀ f i → Steps f₀ f′ (i + 1)
-  unfolding do-steps do-step
-  steps-on f₀ f f′ i l same blocks late is is′ q p =
+      → f′ ≡ exchange-freed c (getD steps i 0) f₁ → Steps f₀ f i → Steps f₀ f′ (i + 1)
+  unfolding steps-freed do-step
+  steps-on f₀ f f₁ f′ i l same blocks late is is′ q q′ p =
       record { below = omega arith; same-length = same ∙ p .same-length; cells-are = sym left ∙ p .cells-are }
     where
-      done : f′ ≡ do-step g c ds (getD steps i 0) f
+      done : f₁ ≡ do-step sample-stage c ds (getD steps i 0) f
       done =
           let e : getD steps i 0 / blocks * late / c .bands + 2 ≡ 2 + getD steps i 0 / blocks * late / c .bands = omega arith in
           q ∙ rw (e, is, is′, add-one)
 
-      left : do-steps g c ds (drop i steps) f ≡ do-steps g c ds (drop (i + 1) steps) f′
-      left = rw (add-one i, drop-cons steps i 0 l, done)
+      left : steps-freed c ds (drop i steps) f ≡ steps-freed c ds (drop (i + 1) steps) f′
+      left = rw (add-one i, drop-cons steps i 0 l, q′, done)
 
-  pub steps-done : (f₀ f : List ℕ) (i : ℕ) → length steps ≤ i → Steps f₀ f i → f ≡ do-steps g c ds steps f₀
-  unfolding do-steps
+  pub steps-done : (f₀ f : List ℕ) (i : ℕ) → length steps ≤ i → Steps f₀ f i → f ≡ steps-freed c ds steps f₀
+  unfolding steps-freed
   steps-done f₀ f i l p = rw (drop-of-length-le steps l) at (p .cells-are)

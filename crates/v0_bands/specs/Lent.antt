@@ -1,4 +1,4 @@
--- What a block of a band, and the steps of a list, are lent.
+-- What a block of a band, the exchange of what it frees, and the steps of a list are lent.
 use Prim.Native.Nat.{ℕ, _+_, _-_, _*_, _%_, _≤_, _<_}
 use mathlib.Core.Path.{_≡_}
 use mathlib.Core.Bool.{true}
@@ -8,7 +8,7 @@ use Rattle.rules.specs.declared.answer.Size.{Size}
 use Rattle.rules.specs.Frame.{cells}
 use Rattle.rules.specs.Answer.{scratch-bytes}
 use Rattle.rules.specs.V0.{blocks-in}
-use Rattle.bands.specs.Bands.{sized, cut, fits, good}
+use Rattle.bands.specs.Bands.{Cut, sized, cut, fits, blocks-per-band, step-count, good}
 
 -- n late rows from a row on, of w cells, with their direction bytes; and a block of b columns that begins within a row.
 pub record BandLent (w b block row n : ℕ) (f dirs : List ℕ) : Type 0 where
@@ -19,6 +19,48 @@ pub record BandLent (w b block row n : ℕ) (f dirs : List ℕ) : Type 0 where
   pub rows-below : row + n ≤ 16_384
   pub rows-lent : (row + n) * w ≤ length f
   pub directions-lent : (row + n - 2) * blocks-in w ≤ length dirs
+
+-- A pair of rows, with columns from one up to another.
+pub record PairLent (w row from to : ℕ) (f : List ℕ) : Type 0 where
+  pub width : w ≤ 16_384
+  pub row-in : row < 16_384
+  pub columns : from ≤ to
+  pub columns-in : to ≤ w
+  pub lent : (row + 2) * w ≤ length f
+
+-- The same for pairs of rows from one up to another.
+pub record PartLent (w row end from to : ℕ) (f : List ℕ) : Type 0 where
+  pub width : w ≤ 16_384
+  pub rows : row ≤ end
+  pub rows-in : end ≤ 16_384
+  pub pairs : (row % 2 ≡ 0) × (end % 2 ≡ 0)
+  pub columns : from ≤ to
+  pub columns-in : to ≤ w
+  pub lent : end * w ≤ length f
+
+-- A band, or the end of the last one.
+pub record RowLent (h bands band : ℕ) : Type 0 where
+  pub height : h ≤ 16_384
+  pub some-band : 0 < bands
+  pub most-bands : bands ≤ 64
+  pub within : band ≤ bands
+
+-- A block of a cut that fits, or the end of the last one.
+pub record ColumnLent (c : Cut) (blocks block : ℕ) : Type 0 where
+  pub width : c .size .width ≤ 16_384
+  pub cut-fits : fits c ≡ true
+  pub blocks-are : blocks ≡ blocks-per-band c
+  pub some-block : 0 < blocks
+  pub within : block ≤ blocks
+
+-- A step of a cut that fits.
+pub record StepLent (c : Cut) (blocks n : ℕ) (f : List ℕ) : Type 0 where
+  pub width : c .size .width ≤ 16_384
+  pub height : c .size .height ≤ 16_384
+  pub cut-fits : fits c ≡ true
+  pub blocks-are : blocks ≡ blocks-per-band c
+  pub low : n < step-count c
+  pub lent : c .size .height * c .size .width ≤ length f
 
 -- A frame of late rows cut into bands, and a good list.
 pub record StepsLent (w h bands block-width : ℕ) (steps f dirs : List ℕ) : Type 0 where

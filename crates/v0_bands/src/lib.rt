@@ -1,12 +1,14 @@
-// Phase two of a V0 frame, block by block in the sequence of a list of steps.
+// Phase two of a V0 frame and the exchange, block by block in the sequence of a list of steps.
 ghost use mathlib.Core.Path.{_≡_};
-ghost use Prim.Native.Nat.{min};
+ghost use Prim.Native.Nat.{_-_, _/_, min};
 ghost use lib.ListN.{length, drop};
 ghost use mathlib.Core.List.{_++_};
+ghost use Rattle.rules.specs.V0.{exchange-columns, sample-kind};
 ghost use Rattle.rules.specs.Phases as Phases;
 ghost use Rattle.rules.specs.Phases.{sample-stage};
-ghost use Rattle.bands.specs.Bands.{sized, cut, predict-band, do-steps, in-bands};
-ghost use Rattle.v0_bands.specs.Lent.{BandLent, StepsLent, FrameLent};
+ghost use Rattle.bands.specs.Bands.{sized, cut, predict-band, in-bands};
+ghost use Rattle.v0_bands.specs.Freed.{exchange-part, freed-rows, freed-columns, exchange-freed, steps-freed};
+ghost use Rattle.v0_bands.specs.Lent.{BandLent, PairLent, PartLent, RowLent, ColumnLent, StepLent, StepsLent, FrameLent};
 use bands::blocks_in_band;
 use bands::late_rows;
 use rules::Size;
@@ -45,7 +47,90 @@ fn add_band(
     }
 }
 
-// Phase two, in the sequence of a good list.
+// The exchange in a pair of rows, for the columns from one up to another.
+fn exchange_columns(out: &mut [u16], w: usize, row: usize, from: usize, to: usize)
+    requires { ⌜ PairLent w row from to (now out) ⌝ }
+    ensures { λ _. ⌜ now (out .exit) ≡ exchange-columns sample-kind w row ((to - from) / 2) from (now (out .entry)) ⌝ }
+{
+    let mut col = from;
+    while col + 1 < to {
+        let above = row * w + col + 1;
+        let below = (row + 1) * w + col;
+        let sample = out[above];
+        out[above] = out[below];
+        out[below] = sample;
+        col += 2;
+    }
+}
+
+// The same in the pairs of rows from one up to another.
+fn exchange_part(out: &mut [u16], w: usize, row: usize, end: usize, from: usize, to: usize)
+    requires { ⌜ PartLent w row end from to (now out) ⌝ }
+    ensures { λ _. ⌜ now (out .exit) ≡ exchange-part w ((to - from) / 2) from ((end - row) / 2) row (now (out .entry)) ⌝ }
+{
+    let mut r = row;
+    while r < end {
+        exchange_columns(out, w, r, from, to);
+        r += 2;
+    }
+}
+
+// The first row that a band frees. Row length and block width are for the contract alone.
+fn freed_row(w: usize, h: usize, bands: usize, block_width: usize, band: usize) -> usize
+    requires { ⌜ RowLent h bands band ⌝ }
+    ensures { λ r. ⌜ r ≡ freed-rows (cut (sized w h) bands «block_width») band ⌝ }
+{
+    if band == bands {
+        return h / 2 * 2;
+    }
+    band * late_rows(h) / bands / 2 * 2
+}
+
+// The first column that a block frees, of so many. The height is for the contract alone.
+fn freed_column(
+    w: usize,
+    h: usize,
+    bands: usize,
+    block_width: usize,
+    blocks: usize,
+    block: usize,
+) -> usize
+    requires { ⌜ ColumnLent (cut (sized w h) bands «block_width») blocks block ⌝ }
+    ensures { λ r. ⌜ r ≡ freed-columns (cut (sized w h) bands «block_width») block ⌝ }
+{
+    if block == blocks {
+        return w / 2 * 2;
+    }
+    let col = block * block_width;
+    if col < 2 {
+        return 0;
+    }
+    col - 2
+}
+
+// The exchange of what a step frees, while it is at hand: a pass over the whole frame would fetch it again.
+fn exchange_freed(
+    out: &mut [u16],
+    w: usize,
+    h: usize,
+    bands: usize,
+    block_width: usize,
+    blocks: usize,
+    n: usize,
+)
+    requires { ⌜ StepLent (cut (sized w h) bands «block_width») blocks n (now out) ⌝ }
+    ensures { λ _. ⌜ now (out .exit) ≡ exchange-freed (cut (sized w h) bands «block_width») n (now (out .entry)) ⌝ }
+{
+    let band = n / blocks;
+    let block = n % blocks;
+    let row = freed_row(w, h, bands, block_width, band);
+    let end = freed_row(w, h, bands, block_width, band + 1);
+    let from = freed_column(w, h, bands, block_width, blocks, block);
+    let to = freed_column(w, h, bands, block_width, blocks, block + 1);
+    exchange_part(out, w, row, end, from, to);
+}
+
+// Phase two and the exchange, in the sequence of a good list.
 pub fn add_steps(
     out: &mut [u16],
     dirs: &[u8],
@@ -56,7 +141,7 @@ pub fn add_steps(
     steps: &[u32],
 )
     requires { ⌜ StepsLent w h bands «block_width» (now steps) (now out) (now dirs) ⌝ }
-    ensures { λ _. ⌜ now (out .exit) ≡ do-steps sample-stage (cut (sized w h) bands «block_width») (now (dirs .entry)) (now (steps .entry)) (now (out .entry)) ⌝ }
+    ensures { λ _. ⌜ now (out .exit) ≡ steps-freed (cut (sized w h) bands «block_width») (now (dirs .entry)) (now (steps .entry)) (now (out .entry)) ⌝ }
 {
     let blocks = blocks_in_band(w, h, bands, block_width);
     let late = late_rows(h);
@@ -75,11 +160,13 @@ pub fn add_steps(
             first + 2,
             end - first,
         );
+        exchange_freed(out, w, h, bands, block_width, blocks, n);
         i += 1;
     }
 }
 
-// A whole frame, as the plain decoder leaves it, with phase two in the sequence of a good list. There is no map.
+// A whole frame, as the plain decoder leaves it, with phase two in the sequence of a good list. There is no map. Without late rows
+// or columns there are no steps, and the exchange is done alone.
 pub fn decode_frame(
     src: &[u8],
     offsets: &[u32],
@@ -95,6 +182,10 @@ pub fn decode_frame(
     ensures directions { λ _. ⌜ now (scratch .exit) ≡ Phases.scratch (now (src .entry)) (now (offsets .entry)) size ++ drop (length (Phases.scratch (now (src .entry)) (now (offsets .entry)) size)) (now (scratch .entry)) ⌝ }
 {
     store_rows(src, offsets, size, out, scratch);
+    if steps.len() == 0 {
+        exchange(out, size);
+        return;
+    }
     add_steps(
         out,
         scratch,
@@ -104,5 +195,4 @@ pub fn decode_frame(
         block_width,
         steps,
     );
-    exchange(out, size);
 }

@@ -26,7 +26,7 @@ mul-count : tie.Need-mul-count Inv-loop μ-loop
 mul-count c = omega (arith, count-most _ _ _ _ (c .before .before .pre .0) (c .before .before .pre .1) _ (c .blocks-in-band .ensures))
 
 returns : tie.Need-returns Inv-loop μ-loop
-returns c = wrong-length _ _ _ _ (c .before .before .before .pre .0) (c .before .before .before .pre .1) _ (c .before .blocks-in-band .ensures) _ (c .if1 .taken)
+returns c = wrong-length _ _ _ _ (c .before .before .before .pre .0) (c .before .before .before .pre .1) _ (c .before .blocks-in-band .ensures) _ (λ e. omega arith)
 
 loop-holds : tie.Need-loop-holds Inv-loop μ-loop
 loop-holds c = (omega arith, at-first _ _ _ _ (c .before .before .before .pre .0) (c .before .before .before .pre .1) _ (c .before .blocks-in-band .ensures) _)
@@ -41,7 +41,7 @@ cast-n : tie.Need-cast-n Inv-loop μ-loop
 cast-n c = omega (arith, c .shared-slice-known2 .given (c .before .before .loop .i))
 
 returns-2 : tie.Need-returns-2 Inv-loop μ-loop
-returns-2 c = outside _ _ _ _ (c .before .before .before .before .before .before .before .pre .0) (c .before .before .before .before .before .before .before .pre .1) _ (c .before .before .before .before .before .blocks-in-band .ensures) _ (c .before .before .before .before .if1 .left) _ _ (c .before .before .before .loop .inv .1) (c .before .before .loop-test .taken) (c .if2 .taken)
+returns-2 c = outside _ _ _ _ (c .before .before .before .before .before .before .before .pre .0) (c .before .before .before .before .before .before .before .pre .1) _ (c .before .before .before .before .before .blocks-in-band .ensures) _ (omega (arith, c .before .before .before .before .if1 .left)) _ _ (c .before .before .before .loop .inv .1) (c .before .before .loop-test .taken) (c .if2 .taken)
 
 div-band : tie.Need-div-band Inv-loop μ-loop
 div-band c = some-blocks-left _ _ _ _ (c .before .before .before .before .before .before .before .pre .0) (c .before .before .before .before .before .before .before .pre .1) _ (c .before .before .before .before .before .blocks-in-band .ensures) _ (c .if2 .left)
@@ -56,7 +56,7 @@ is-next-requires : tie.Need-is-next-requires Inv-loop μ-loop
 is-next-requires c κs = band-most _ _ _ _ (c .before .before .before .before .before .before .before .pre .0) (c .before .before .before .before .before .before .before .pre .1) _ (c .before .before .before .before .before .blocks-in-band .ensures) _ (c .if2 .left)
 
 returns-3 : tie.Need-returns-3 Inv-loop μ-loop
-returns-3 c = not-ready _ _ _ _ (c .before .before .before .before .before .before .before .before .before .pre .0) (c .before .before .before .before .before .before .before .before .before .pre .1) _ (c .before .before .before .before .before .before .before .blocks-in-band .ensures) _ (c .before .before .before .before .before .before .if1 .left) _ _ (c .before .before .before .before .before .loop .inv .1) (c .before .before .before .before .loop-test .taken) (c .before .before .if2 .left) (sym (c .before .is-next .ensures) ∙ not-true _ (c .if3 .taken))
+returns-3 c = not-ready _ _ _ _ (c .before .before .before .before .before .before .before .before .before .pre .0) (c .before .before .before .before .before .before .before .before .before .pre .1) _ (c .before .before .before .before .before .before .before .blocks-in-band .ensures) _ (omega (arith, c .before .before .before .before .before .before .if1 .left)) _ _ (c .before .before .before .before .before .loop .inv .1) (c .before .before .before .before .loop-test .taken) (c .before .before .if2 .left) (sym (c .before .is-next .ensures) ∙ not-true _ (c .if3 .taken))
 
 add-done : tie.Need-add-done Inv-loop μ-loop
 add-done c = omega (arith, block-most _ _ _ _ (c .before .before .before .before .before .before .before .before .before .pre .0) (c .before .before .before .before .before .before .before .before .before .pre .1) _ (c .before .before .before .before .before .before .before .blocks-in-band .ensures) _ (c .before .before .if2 .left))
@@ -75,10 +75,10 @@ loop-less c = omega arith
 
 loop-again : tie.Need-loop-again Inv-loop μ-loop
 loop-again c =
-    (omega arith, ready-then _ _ _ _ (c .before .before .before .before .before .before .before .before .before .pre .0) (c .before .before .before .before .before .before .before .before .before .pre .1) _ (c .before .before .before .before .before .before .before .blocks-in-band .ensures) _ (c .before .before .before .before .before .before .if1 .left) _ _ (c .before .before .before .before .before .loop .inv .1) (c .before .before .before .before .loop-test .taken) (c .before .before .if2 .left) (sym (c .before .is-next .ensures) ∙ not-false _ (c .if3 .left)))
+    (omega arith, ready-then _ _ _ _ (c .before .before .before .before .before .before .before .before .before .pre .0) (c .before .before .before .before .before .before .before .before .before .pre .1) _ (c .before .before .before .before .before .before .before .blocks-in-band .ensures) _ (omega (arith, c .before .before .before .before .before .before .if1 .left)) _ _ (c .before .before .before .before .before .loop .inv .1) (c .before .before .before .before .loop-test .taken) (c .before .before .if2 .left) (sym (c .before .is-next .ensures) ∙ not-false _ (c .if3 .left)))
 
 returns-4 : tie.Need-returns-4 Inv-loop μ-loop
-returns-4 c = at-end _ _ _ _ (c .before .before .before .before .before .pre .0) (c .before .before .before .before .before .pre .1) _ (c .before .before .before .blocks-in-band .ensures) _ (c .before .before .if1 .left) _ _ (c .loop-test .left) (c .before .loop .inv .1)
+returns-4 c = at-end _ _ _ _ (c .before .before .before .before .before .pre .0) (c .before .before .before .before .before .pre .1) _ (c .before .before .before .blocks-in-band .ensures) _ (omega (arith, c .before .before .if1 .left)) _ _ (c .loop-test .left) (c .before .loop .inv .1)
 
 pub is-good-spec : {M : Type 1} → statement M
 is-good-spec =

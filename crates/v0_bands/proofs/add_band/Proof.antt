@@ -3,7 +3,7 @@ use Prim.Native.Nat.{_-_}
 use native.Mathlib.Omega.{arith}
 use borrow.Author.Needs.{needs}
 use Rattle.rules.specs.Phases.{sample-stage}
-use Rattle.v0_bands.proofs.StepLaws.{Band, band-begun, band-on, band-done, from-low, directions-within, row-late}
+use Rattle.v0_bands.proofs.StepLaws.{Band, band-begun, band-on, band-done, from-low, small-product, directions-within, row-late}
 use Rattle.v0_bands.proofs.add_band.Statement.{statement}
 use Rattle.v0_bands.proofs.add_band.Tie as tie
 
@@ -35,7 +35,9 @@ sub-add-part : tie.Need-sub-add-part Inv-loop μ-loop
 sub-add-part c = omega (arith, c .before .before .before .before .before .before .pre .rows-above)
 
 mul-add-part : tie.Need-mul-add-part Inv-loop μ-loop
-mul-add-part c = omega (arith, directions-within (c .before .before .before .before .before .before .pre) (c .before .before .loop .r) (omega arith))
+mul-add-part c =
+    let p = c .before .before .before .before .before .before .pre in
+    record { fits = small-product _ _ (omega (arith, p .rows-below)) (omega (arith, p .width)) }
 
 add-add-part-2 : tie.Need-add-add-part-2 Inv-loop μ-loop
 add-add-part-2 c = omega (arith, c .before .before .before .before .before .before .pre .rows-below)

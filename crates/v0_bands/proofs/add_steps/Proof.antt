@@ -1,17 +1,17 @@
 -- What is left from step i on comes to all steps.
 use Prim.Native.Nat.{_-_}
+use mathlib.Core.Path.{_∙_}
 use native.Mathlib.Omega.{arith}
 use borrow.Author.Needs.{needs}
 use lib.ListN.{length}
-use Rattle.rules.specs.Phases.{sample-stage}
 use Rattle.bands.specs.Bands.{cut, sized}
 use Rattle.bands.proofs.CheckLaws.{some-column, bands-most}
-use Rattle.v0_bands.proofs.StepLaws.{bands-some, blocks-some, band-low, start-end, end-low, band-lent, rows-most, first-most, Steps, steps-begun, steps-on, steps-done}
+use Rattle.v0_bands.proofs.StepLaws.{bands-some, blocks-some, band-low, start-end, end-low, band-lent, step-lent, rows-most, first-most, Steps, steps-begun, steps-on, steps-done}
 use Rattle.v0_bands.proofs.add_steps.Statement.{statement}
 use Rattle.v0_bands.proofs.add_steps.Tie as tie
 
 abbrev Inv-loop : tie.InvT-loop
-Inv-loop out₀ dirs w h bands block-width steps blocks late i₀ out i = Steps sample-stage (cut (sized w h) bands block-width) dirs steps out₀ out i
+Inv-loop out₀ dirs w h bands block-width steps blocks late i₀ out i = Steps (cut (sized w h) bands block-width) dirs steps out₀ out i
 
 abbrev μ-loop : tie.MeasureT-loop
 μ-loop out₀ dirs w h bands block-width steps blocks late i₀ out i = length steps - i
@@ -23,7 +23,7 @@ late-rows-requires : tie.Need-late-rows-requires Inv-loop μ-loop
 late-rows-requires c κs = search needs
 
 loop-holds : tie.Need-loop-holds Inv-loop μ-loop
-loop-holds c = steps-begun _ _ _ _ _
+loop-holds c = steps-begun _ _ _ _
 
 mul-n : tie.Need-mul-n Inv-loop μ-loop
 mul-n c = search needs
@@ -64,6 +64,9 @@ sub-add-band c = start-end (c .before .before .before .before .before .before .b
 add-band-requires : tie.Need-add-band-requires Inv-loop μ-loop
 add-band-requires c κs = band-lent (c .before .before .before .before .before .before .before .before .before .pre) (c .before .before .before .loop .i) (omega arith) _ _ (c .before .before .before .before .before .blocks-in-band .ensures) (c .before .before .before .before .late-rows .ensures) _ (c .before .before .before .loop .inv .same-length)
 
+exchange-freed-requires : tie.Need-exchange-freed-requires Inv-loop μ-loop
+exchange-freed-requires c κs = step-lent (c .before .before .before .before .before .before .before .before .before .before .before .before .before .pre) (c .before .before .before .before .before .before .before .loop .i) (omega arith) _ _ (c .before .before .before .before .before .before .before .before .before .blocks-in-band .ensures) (c .before .before .before .before .before .before .before .before .late-rows .ensures) _ (c .before .before .before .add-band .kept .0 ∙ c .before .before .before .before .before .before .before .loop .inv .same-length)
+
 add-i : tie.Need-add-i Inv-loop μ-loop
 add-i c = omega arith
 
@@ -72,13 +75,13 @@ loop-less c = omega arith
 
 loop-again : tie.Need-loop-again Inv-loop μ-loop
 loop-again c =
-    steps-on _ _ _ _ _ _ _ _ (omega arith) (c .before .before .add-band .kept .0) _ _ (c .before .before .before .before .before .before .before .before .blocks-in-band .ensures) (c .before .before .before .before .before .before .before .late-rows .ensures) (c .before .before .add-band .ensures) (c .before .before .before .before .before .before .loop .inv)
+    steps-on _ _ _ _ _ _ _ _ (omega arith) (c .before .before .exchange-freed .kept .0 ∙ c .before .before .before .before .before .before .add-band .kept .0) _ _ (c .before .before .before .before .before .before .before .before .before .before .before .before .blocks-in-band .ensures) (c .before .before .before .before .before .before .before .before .before .before .before .late-rows .ensures) (c .before .before .before .before .before .before .add-band .ensures) (c .before .before .exchange-freed .ensures) (c .before .before .before .before .before .before .before .before .before .before .loop .inv)
 
 same-length : tie.Need-same-length Inv-loop μ-loop
 same-length c = search needs
 
 returns : tie.Need-returns Inv-loop μ-loop
-returns c = steps-done _ _ _ _ _ _ _ (omega arith) (c .before .loop .inv)
+returns c = steps-done _ _ _ _ _ _ (omega arith) (c .before .loop .inv)
 
 pub add-steps-spec : {M : Type 1} → statement M
 add-steps-spec =
@@ -102,6 +105,7 @@ add-steps-spec =
     add-add-band
     sub-add-band
     add-band-requires
+    exchange-freed-requires
     add-i
     loop-less
     loop-again
