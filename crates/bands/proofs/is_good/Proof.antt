@@ -40,32 +40,52 @@ shared-slice-read-n c = omega arith
 cast-n : tie.Need-cast-n Inv-loop μ-loop
 cast-n c = omega (arith, c .shared-slice-known2 .given (c .before .before .loop .i))
 
+-- Places that the answers look back at.
+abbrev at-start : tie.At-loop Inv-loop μ-loop → tie.Start Inv-loop μ-loop
+at-start c = c .before .before .before .before
+
+abbrev at-loop : tie.Else2 Inv-loop μ-loop → tie.At-loop Inv-loop μ-loop
+at-loop c = c .before .before .before
+
+abbrev else2 : tie.Else3 Inv-loop μ-loop → tie.Else2 Inv-loop μ-loop
+else2 c = c .before .before
+
 returns-2 : tie.Need-returns-2 Inv-loop μ-loop
-returns-2 c = outside _ _ _ _ (c .before .before .before .before .before .before .before .pre .0) (c .before .before .before .before .before .before .before .pre .1) _ (c .before .before .before .before .before .blocks-in-band .ensures) _ (c .before .before .before .before .if1 .left) _ _ (c .before .before .before .loop .inv .1) (c .before .before .loop-test .taken) (c .if2 .taken)
+returns-2 c =
+    let s = at-start (c .before .before .before) in
+    outside _ _ _ _ (s .pre .0) (s .pre .1) _ (c .before .before .before .before .before .blocks-in-band .ensures) _ (c .before .before .before .before .if1 .left) _ _ (c .before .before .before .loop .inv .1) (c .before .before .loop-test .taken) (c .if2 .taken)
 
 div-band : tie.Need-div-band Inv-loop μ-loop
-div-band c = some-blocks-left _ _ _ _ (c .before .before .before .before .before .before .before .pre .0) (c .before .before .before .before .before .before .before .pre .1) _ (c .before .before .before .before .before .blocks-in-band .ensures) _ (c .if2 .left)
+div-band c = some-blocks-left _ _ _ _ (at-start (at-loop c) .pre .0) (at-start (at-loop c) .pre .1) _ (at-loop c .before .before .blocks-in-band .ensures) _ (c .if2 .left)
 
 rem-block : tie.Need-rem-block Inv-loop μ-loop
-rem-block c = some-blocks-left _ _ _ _ (c .before .before .before .before .before .before .before .pre .0) (c .before .before .before .before .before .before .before .pre .1) _ (c .before .before .before .before .before .blocks-in-band .ensures) _ (c .if2 .left)
+rem-block c = some-blocks-left _ _ _ _ (at-start (at-loop c) .pre .0) (at-start (at-loop c) .pre .1) _ (at-loop c .before .before .blocks-in-band .ensures) _ (c .if2 .left)
 
 cast-block : tie.Need-cast-block Inv-loop μ-loop
-cast-block c = omega (arith, block-most _ _ _ _ (c .before .before .before .before .before .before .before .pre .0) (c .before .before .before .before .before .before .before .pre .1) _ (c .before .before .before .before .before .blocks-in-band .ensures) _ (c .if2 .left))
+cast-block c = omega (arith, block-most _ _ _ _ (at-start (at-loop c) .pre .0) (at-start (at-loop c) .pre .1) _ (at-loop c .before .before .blocks-in-band .ensures) _ (c .if2 .left))
 
 is-next-requires : tie.Need-is-next-requires Inv-loop μ-loop
-is-next-requires c κs = band-most _ _ _ _ (c .before .before .before .before .before .before .before .pre .0) (c .before .before .before .before .before .before .before .pre .1) _ (c .before .before .before .before .before .blocks-in-band .ensures) _ (c .if2 .left)
+is-next-requires c κs = band-most _ _ _ _ (at-start (at-loop c) .pre .0) (at-start (at-loop c) .pre .1) _ (at-loop c .before .before .blocks-in-band .ensures) _ (c .if2 .left)
 
 returns-3 : tie.Need-returns-3 Inv-loop μ-loop
-returns-3 c = not-ready _ _ _ _ (c .before .before .before .before .before .before .before .before .before .pre .0) (c .before .before .before .before .before .before .before .before .before .pre .1) _ (c .before .before .before .before .before .before .before .blocks-in-band .ensures) _ (c .before .before .before .before .before .before .if1 .left) _ _ (c .before .before .before .before .before .loop .inv .1) (c .before .before .before .before .loop-test .taken) (c .before .before .if2 .left) (sym (c .before .is-next .ensures) ∙ not-true _ (c .if3 .taken))
+returns-3 c =
+    let l = at-loop (c .before .before) in
+    not-ready _ _ _ _ (at-start l .pre .0) (at-start l .pre .1) _ (l .before .before .blocks-in-band .ensures) _ (l .before .if1 .left) _ _ (l .loop .inv .1) (c .before .before .before .before .loop-test .taken) (c .before .before .if2 .left) (sym (c .before .is-next .ensures) ∙ not-true _ (c .if3 .taken))
 
 add-done : tie.Need-add-done Inv-loop μ-loop
-add-done c = omega (arith, block-most _ _ _ _ (c .before .before .before .before .before .before .before .before .before .pre .0) (c .before .before .before .before .before .before .before .before .before .pre .1) _ (c .before .before .before .before .before .before .before .blocks-in-band .ensures) _ (c .before .before .if2 .left))
+add-done c =
+    let l = at-loop (else2 c) in
+    omega (arith, block-most _ _ _ _ (at-start l .pre .0) (at-start l .pre .1) _ (l .before .before .blocks-in-band .ensures) _ (c .before .before .if2 .left))
 
 mul-done : tie.Need-mul-done Inv-loop μ-loop
-mul-done c = omega (arith, band-most _ _ _ _ (c .before .before .before .before .before .before .before .before .before .pre .0) (c .before .before .before .before .before .before .before .before .before .pre .1) _ (c .before .before .before .before .before .before .before .blocks-in-band .ensures) _ (c .before .before .if2 .left))
+mul-done c =
+    let l = at-loop (else2 c) in
+    omega (arith, band-most _ _ _ _ (at-start l .pre .0) (at-start l .pre .1) _ (l .before .before .blocks-in-band .ensures) _ (c .before .before .if2 .left))
 
 array-write-done : tie.Need-array-write-done Inv-loop μ-loop
-array-write-done c = band-most _ _ _ _ (c .before .before .before .before .before .before .before .before .before .pre .0) (c .before .before .before .before .before .before .before .before .before .pre .1) _ (c .before .before .before .before .before .before .before .blocks-in-band .ensures) _ (c .before .before .if2 .left)
+array-write-done c =
+    let l = at-loop (else2 c) in
+    band-most _ _ _ _ (at-start l .pre .0) (at-start l .pre .1) _ (l .before .before .blocks-in-band .ensures) _ (c .before .before .if2 .left)
 
 add-i : tie.Need-add-i Inv-loop μ-loop
 add-i c = omega arith
@@ -75,10 +95,11 @@ loop-less c = omega arith
 
 loop-again : tie.Need-loop-again Inv-loop μ-loop
 loop-again c =
-    (omega arith, ready-then _ _ _ _ (c .before .before .before .before .before .before .before .before .before .pre .0) (c .before .before .before .before .before .before .before .before .before .pre .1) _ (c .before .before .before .before .before .before .before .blocks-in-band .ensures) _ (c .before .before .before .before .before .before .if1 .left) _ _ (c .before .before .before .before .before .loop .inv .1) (c .before .before .before .before .loop-test .taken) (c .before .before .if2 .left) (sym (c .before .is-next .ensures) ∙ not-false _ (c .if3 .left)))
+    let l = at-loop (else2 c) in
+    (omega arith, ready-then _ _ _ _ (at-start l .pre .0) (at-start l .pre .1) _ (l .before .before .blocks-in-band .ensures) _ (l .before .if1 .left) _ _ (l .loop .inv .1) (c .before .before .before .before .loop-test .taken) (c .before .before .if2 .left) (sym (c .before .is-next .ensures) ∙ not-false _ (c .if3 .left)))
 
 returns-4 : tie.Need-returns-4 Inv-loop μ-loop
-returns-4 c = at-end _ _ _ _ (c .before .before .before .before .before .pre .0) (c .before .before .before .before .before .pre .1) _ (c .before .before .before .blocks-in-band .ensures) _ (c .before .before .if1 .left) _ _ (c .loop-test .left) (c .before .loop .inv .1)
+returns-4 c = at-end _ _ _ _ (at-start (c .before) .pre .0) (at-start (c .before) .pre .1) _ (c .before .before .before .blocks-in-band .ensures) _ (c .before .before .if1 .left) _ _ (c .loop-test .left) (c .before .loop .inv .1)
 
 pub is-good-spec : {M : Type 1} → statement M
 is-good-spec =
