@@ -15,42 +15,46 @@ sub-rows c = search needs
 add-start : tie.Need-add-start
 add-start c = search needs
 
+-- Places that the answers look back at.
+abbrev at-start : tie.After-struct-known3 → tie.Start
+at-start c = c .before .before .before .before .before
+
 mul-start : tie.Need-mul-start
 mul-start c =
-    let a = c .before .before .before .before .before .args in
-    let p = c .before .before .before .before .before .pre in
+    let a = at-start c .args in
+    let p = at-start c .pre in
     let s = start-room (a .size) (a .row) (p .below) in
     let r = row-room (a .size) (a .row) (p .within) (p .below) in
     omega (arith, rows-all (a .size .width) (a .size .height), p .read)
 
 mul-start-2 : tie.Need-mul-start-2
 mul-start-2 c =
-    let a = c .before .before .before .before .before .args in
-    let p = c .before .before .before .before .before .pre in
+    let a = at-start c .args in
+    let p = at-start c .pre in
     let s = start-room (a .size) (a .row) (p .below) in
     let r = row-room (a .size) (a .row) (p .within) (p .below) in
     omega (arith, rows-all (a .size .width) (a .size .height), p .read)
 
 mul-take-row : tie.Need-mul-take-row
 mul-take-row c =
-    let a = c .before .before .before .before .before .args in
-    let p = c .before .before .before .before .before .pre in
+    let a = at-start c .args in
+    let p = at-start c .pre in
     let s = start-room (a .size) (a .row) (p .below) in
     let r = row-room (a .size) (a .row) (p .within) (p .below) in
     omega (arith, rows-all (a .size .width) (a .size .height), p .read)
 
 sub-take-row : tie.Need-sub-take-row
 sub-take-row c =
-    let a = c .before .before .before .before .before .args in
-    let p = c .before .before .before .before .before .pre in
+    let a = at-start c .args in
+    let p = at-start c .pre in
     let s = start-room (a .size) (a .row) (p .below) in
     let r = row-room (a .size) (a .row) (p .within) (p .below) in
     omega (arith, rows-all (a .size .width) (a .size .height), p .read)
 
 part-take-row-start : tie.Need-part-take-row-start
 part-take-row-start c =
-    let a = c .before .before .before .before .before .args in
-    let p = c .before .before .before .before .before .pre in
+    let a = at-start c .args in
+    let p = at-start c .pre in
     let s = start-room (a .size) (a .row) (p .below) in
     let r = row-room (a .size) (a .row) (p .within) (p .below) in
     omega (arith, rows-all (a .size .width) (a .size .height), p .read)
@@ -59,13 +63,13 @@ part-take-row-end : tie.Need-part-take-row-end
 part-take-row-end c = search needs
 
 take-row-requires : tie.Need-take-row-requires
-take-row-requires c κs = take-lent _ _ _ _ (c .before .before .before .before .before .before .before .pre)
+take-row-requires c κs = take-lent _ _ _ _ (at-start (c .before .before) .pre)
 
 same-length : tie.Need-same-length
 same-length c = search needs
 
 returns : tie.Need-returns
-returns c = taken-back _ _ _ _ (c .before .before .before .before .before .before .before .before .before .before .pre) _ (c .before .before .take-row .ensures)
+returns c = taken-back _ _ _ _ (at-start (c .before .before .before .before .before) .pre) _ (c .before .before .take-row .ensures)
 
 pub take-frame-row-spec : {M : Type 1} → statement M
 take-frame-row-spec =
