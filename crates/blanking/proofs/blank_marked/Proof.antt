@@ -29,10 +29,23 @@ add-col c = search needs
 loop-less : tie.Need-loop-less Inv-loop μ-loop
 loop-less c = search needs
 
+-- Places that the answers look back at.
+abbrev at-start : tie.At-loop Inv-loop μ-loop → tie.Start Inv-loop μ-loop
+at-start c = c .before .before .before .before
+
+abbrev at-loop : tie.After-stretch-at Inv-loop μ-loop → tie.At-loop Inv-loop μ-loop
+at-loop c = c .before .before .before .before
+
+abbrev after-stretch-at : tie.After-samples Inv-loop μ-loop → tie.After-stretch-at Inv-loop μ-loop
+after-stretch-at c = c .before .before .before .before .before
+
+abbrev after-samples : tie.After-slice-known4 Inv-loop μ-loop → tie.After-samples Inv-loop μ-loop
+after-samples c = c .before .before .before .before .before
+
 loop-again : tie.Need-loop-again Inv-loop μ-loop
 loop-again c =
     let l = c .before .before .before .loop in
-    let a = c .before .before .before .before .before .before .before .args in
+    let a = at-start (c .before .before .before) .args in
     let none = zero-unmarked _ (c .if1 .taken) in
     (listed-passed (l .inv .0) (omega arith) none, filled-unmarked (a .fill) (a .samples .now) (a .map .now) (l .inv .1) (omega arith) none)
 
@@ -44,55 +57,61 @@ turns-at-requires c κs = search needs
 
 set-run-requires : tie.Need-set-run-requires Inv-loop μ-loop
 set-run-requires c κs =
-    let l = c .before .before .before .before .before .before .before .loop in
-    let at-start = c .before .before .before .before .before .before .before .before .before .before .before in
+    let l₀ = at-loop (c .before .before .before) in
+    let l = l₀ .loop in
+    let start = at-start l₀ in
     let s = c .before .before .before .stretch-at in
     let marks = other-marked _ (c .before .before .before .before .if1 .left) in
-    omega (arith, run-within (l .inv .0) (omega arith) marks (s .result) (s .ensures), l .inv .1 .kept, at-start .pre .1)
+    omega (arith, run-within (l .inv .0) (omega arith) marks (s .result) (s .ensures), l .inv .1 .kept, start .pre .1)
 
 put-run-requires : tie.Need-put-run-requires Inv-loop μ-loop
 put-run-requires c κs =
-    let l = c .before .before .before .before .before .before .before .before .before .before .before .loop in
-    let at-start = c .before .before .before .before .before .before .before .before .before .before .before .before .before .before .before in
-    let s = c .before .before .before .before .before .before .before .stretch-at in
-    let marks = other-marked _ (c .before .before .before .before .before .before .before .before .if1 .left) in
+    let d = after-stretch-at (c .before .before) in
+    let l = at-loop d .loop in
+    let start = at-start (at-loop d) in
+    let s = d .stretch-at in
+    let marks = other-marked _ (d .before .if1 .left) in
     let w = run-within (l .inv .0) (omega arith) marks (s .result) (s .ensures) in
-    let p = at-start .pre .0 in
+    let p = start .pre .0 in
     (run-room (l .inv .0) (omega arith) marks (s .result) (s .ensures) (p .room), (p .few, (omega (arith, p .wide), omega (arith, p .wide, w))))
 
 add-at : tie.Need-add-at Inv-loop μ-loop
 add-at c =
-    let l = c .before .before .before .before .before .before .before .before .before .before .before .before .before .before .loop in
-    let at-start = c .before .before .before .before .before .before .before .before .before .before .before .before .before .before .before .before .before .before in
-    let s = c .before .before .before .before .before .before .before .before .before .before .stretch-at in
-    let marks = other-marked _ (c .before .before .before .before .before .before .before .before .before .before .before .if1 .left) in
-    let r = run-room (l .inv .0) (omega arith) marks (s .result) (s .ensures) (at-start .pre .0 .room) in omega arith
+    let d = after-stretch-at (after-samples c) in
+    let l = at-loop d .loop in
+    let start = at-start (at-loop d) in
+    let s = d .stretch-at in
+    let marks = other-marked _ (d .before .if1 .left) in
+    let r = run-room (l .inv .0) (omega arith) marks (s .result) (s .ensures) (start .pre .0 .room) in omega arith
 
 add-col-2 : tie.Need-add-col-2 Inv-loop μ-loop
 add-col-2 c =
-    let l = c .before .before .before .before .before .before .before .before .before .before .before .before .before .before .loop in
-    let at-start = c .before .before .before .before .before .before .before .before .before .before .before .before .before .before .before .before .before .before in
-    let s = c .before .before .before .before .before .before .before .before .before .before .stretch-at in
-    let marks = other-marked _ (c .before .before .before .before .before .before .before .before .before .before .before .if1 .left) in
+    let d = after-stretch-at (after-samples c) in
+    let l = at-loop d .loop in
+    let start = at-start (at-loop d) in
+    let s = d .stretch-at in
+    let marks = other-marked _ (d .before .if1 .left) in
     let w = run-within (l .inv .0) (omega arith) marks (s .result) (s .ensures) in omega arith
 
 loop-less-2 : tie.Need-loop-less-2 Inv-loop μ-loop
 loop-less-2 c =
-    let l = c .before .before .before .before .before .before .before .before .before .before .before .before .before .before .loop in
-    let at-start = c .before .before .before .before .before .before .before .before .before .before .before .before .before .before .before .before .before .before in
-    let s = c .before .before .before .before .before .before .before .before .before .before .stretch-at in
-    let marks = other-marked _ (c .before .before .before .before .before .before .before .before .before .before .before .if1 .left) in
-    let one = stretch-more (at-start .args .map .now) (l .col) (omega arith) marks in omega (arith, one, s .ensures)
+    let d = after-stretch-at (after-samples c) in
+    let l = at-loop d .loop in
+    let start = at-start (at-loop d) in
+    let s = d .stretch-at in
+    let marks = other-marked _ (d .before .if1 .left) in
+    let one = stretch-more (start .args .map .now) (l .col) (omega arith) marks in omega (arith, one, s .ensures)
 
 loop-again-2 : tie.Need-loop-again-2 Inv-loop μ-loop
 loop-again-2 c =
-    let l = c .before .before .before .before .before .before .before .before .before .before .before .before .before .before .loop in
-    let at-start = c .before .before .before .before .before .before .before .before .before .before .before .before .before .before .before .before .before .before in
-    let s = c .before .before .before .before .before .before .before .before .before .before .stretch-at in
-    let marks = other-marked _ (c .before .before .before .before .before .before .before .before .before .before .before .if1 .left) in
-    let a = at-start .args in (
+    let d = after-stretch-at (after-samples c) in
+    let l = at-loop d .loop in
+    let start = at-start (at-loop d) in
+    let s = d .stretch-at in
+    let marks = other-marked _ (d .before .if1 .left) in
+    let a = start .args in (
       listed-run (l .inv .0) (omega arith) marks (s .result) (s .ensures) _ (c .before .before .put-run .ensures),
-      filled-run (a .fill) (a .samples .now) (a .map .now) (s .result) _ _ (l .inv .1) (at-start .pre .1) (run-within (l .inv .0) (omega arith) marks (s .result) (s .ensures)) (s .ensures) (c .before .before .before .before .before .before .before .before .turns-at .ensures) (c .before .before .before .before .before .before .set-run .ensures),
+      filled-run (a .fill) (a .samples .now) (a .map .now) (s .result) _ _ (l .inv .1) (start .pre .1) (run-within (l .inv .0) (omega arith) marks (s .result) (s .ensures)) (s .ensures) (after-samples c .before .before .before .turns-at .ensures) (after-samples c .before .set-run .ensures),
     )
 
 same-length : tie.Need-same-length Inv-loop μ-loop
@@ -104,7 +123,7 @@ same-length-2 c = search needs
 returns : tie.Need-returns Inv-loop μ-loop
 returns c =
     let l = c .before .loop in
-    let a = c .before .before .before .before .before .args in
+    let a = at-start (c .before) .args in
     let listed = listed-all (omega arith) (l .inv .0) in
     (listed .0, (filled-done (a .fill) (a .samples .now) (a .map .now) (l .inv .1) (omega arith), listed .1))
 
