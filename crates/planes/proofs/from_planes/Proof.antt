@@ -1,9 +1,10 @@
 -- What is written so far, with the rows that are left, is all rows.
-use Prim.Native.Nat.{_-_}
+use Prim.Native.Nat.{_+_, _-_, _*_, _≤_}
 use mathlib.Core.Path.{_∙_}
 use native.Mathlib.Omega.{arith}
 use borrow.Author.Needs.{needs}
 use native.Mathlib.Nat.{mul-comm}
+use Rattle.rules.specs.Frame.{cells}
 use Rattle.planes.specs.Planes.{rows-back}
 use Rattle.planes.proofs.FrameLaws.{row-room, row-lent, back-length, Back, back-none, back-more, back-all}
 use Rattle.planes.proofs.from_planes.Statement.{statement}
@@ -25,48 +26,28 @@ at-start c = c .before .before .before
 abbrev at-loop : tie.After-struct-known3 Inv-loop μ-loop → tie.At-loop Inv-loop μ-loop
 at-loop c = c .before .before .before .before
 
+-- The row of a turn lies in the frame.
+row-in : (c : tie.Then1 Inv-loop μ-loop)
+    → (let z = at-start (c .before .before) .args .size in (c .before .before .loop .row * z .width + z .width ≤ cells z) × (cells z ≤ 268_435_456))
+row-in c = let s = at-start (c .before .before) in row-room (s .args .size) (c .before .before .loop .row) (s .pre .within) (omega arith)
+
 mul-at : tie.Need-mul-at Inv-loop μ-loop
-mul-at c =
-    let s = at-start (c .before .before .before) in
-    let a = s .args in
-    let p = s .pre in
-    let r = row-room (a .size) (c .before .before .before .loop .row) (p .within) (omega arith) in
-    omega (arith, p .written)
+mul-at c = omega (arith, row-in (c .before), at-start (c .before .before .before) .pre .written)
 
 add-end : tie.Need-add-end Inv-loop μ-loop
-add-end c =
-    let a = at-start (at-loop c) .args in
-    let p = at-start (at-loop c) .pre in
-    let r = row-room (a .size) (at-loop c .loop .row) (p .within) (omega arith) in
-    omega (arith, p .written)
+add-end c = omega (arith, row-in (c .before .before), at-start (at-loop c) .pre .written)
 
 mul-take-frame-row : tie.Need-mul-take-frame-row Inv-loop μ-loop
-mul-take-frame-row c =
-    let a = at-start (at-loop c) .args in
-    let p = at-start (at-loop c) .pre in
-    let r = row-room (a .size) (at-loop c .loop .row) (p .within) (omega arith) in
-    omega (arith, p .written)
+mul-take-frame-row c = omega (arith, row-in (c .before .before), at-start (at-loop c) .pre .written)
 
 sub-take-frame-row : tie.Need-sub-take-frame-row Inv-loop μ-loop
-sub-take-frame-row c =
-    let a = at-start (at-loop c) .args in
-    let p = at-start (at-loop c) .pre in
-    let r = row-room (a .size) (at-loop c .loop .row) (p .within) (omega arith) in
-    omega (arith, p .written)
+sub-take-frame-row c = omega (arith, row-in (c .before .before), at-start (at-loop c) .pre .written)
 
 part-take-frame-row-start : tie.Need-part-take-frame-row-start Inv-loop μ-loop
-part-take-frame-row-start c =
-    let a = at-start (at-loop c) .args in
-    let p = at-start (at-loop c) .pre in
-    let r = row-room (a .size) (at-loop c .loop .row) (p .within) (omega arith) in
-    omega (arith, p .written)
+part-take-frame-row-start c = omega (arith, row-in (c .before .before), at-start (at-loop c) .pre .written)
 
 part-take-frame-row-end : tie.Need-part-take-frame-row-end Inv-loop μ-loop
-part-take-frame-row-end c =
-    let a = at-start (at-loop c) .args in
-    let p = at-start (at-loop c) .pre in
-    let r = row-room (a .size) (at-loop c .loop .row) (p .within) (omega arith) in
-    omega (arith, p .written)
+part-take-frame-row-end c = omega (arith, row-in (c .before .before), at-start (at-loop c) .pre .written)
 
 take-frame-row-requires : tie.Need-take-frame-row-requires Inv-loop μ-loop
 take-frame-row-requires c κs =
