@@ -1,6 +1,6 @@
 -- A call in bands that is done leaves what the plain call leaves, and a call that is refused leaves all as it was.
 use Prim.Native.Nat.{ℕ}
-use mathlib.Core.Bool.{Bool, true, false}
+use mathlib.Core.Bool.{true}
 use mathlib.Core.Path.{_≡_, refl, sym, ap, _∙_}
 use mathlib.Core.Logic.{_≢_}
 use mathlib.Core.List.{List, _++_}
@@ -15,6 +15,7 @@ use Rattle.rules.specs.Frame.{cells}
 use Rattle.rules.specs.Phases.{scratch}
 use Rattle.rules.specs.Answer as Plain
 use Rattle.rules.proofs.Refusals.{samples-enough}
+use Rattle.rules.proofs.Tests.{by-test}
 use Rattle.bands.specs.Bands.{Cut, fits, good, in-bands}
 use Rattle.bands.specs.Call.{Call, plain, buffers, lengths, list-refusal, refusal, answer, samples-after, scratch-after, Yields}
 use Rattle.bands.proofs.AnySequence.{in-bands-two-phase}
@@ -24,12 +25,10 @@ use Rattle.bands.proofs.AnySequence.{in-bands-two-phase}
 -- A list that isn't refused is good, of a cut that fits.
 pub list-passed : (c : Cut) (steps : List ℕ) → list-refusal c steps ≡ 0 → (fits c ≡ true) × (good c steps ≡ true)
 unfolding list-refusal
-list-passed c steps e = go (fits c) refl (good c steps) refl
-  where
-    go : (u : Bool) → fits c ≡ u → (v : Bool) → good c steps ≡ v → (fits c ≡ true) × (good c steps ≡ true)
-    go true q true q′ = (q, q′)
-    go true q false q′ = let z : _≡_ {A = ℕ} 12 0 = rw (q, q′) at e in absurd (omega arith)
-    go false q v q′ = let z : _≡_ {A = ℕ} 11 0 = rw q at e in absurd (omega arith)
+list-passed c steps e =
+    by-test (fits c)
+    (λ q. by-test (good c steps) (λ q′. (q, q′)) (λ q′. let z : _≡_ {A = ℕ} 12 0 = rw (q, q′) at e in absurd (omega arith)))
+    (λ q. let z : _≡_ {A = ℕ} 11 0 = rw q at e in absurd (omega arith))
 
 -- A call that is done passed 1 to 4, its cut fits, and its list is good.
 pub record Passed (c : Call) : Type 0 where
@@ -39,16 +38,14 @@ pub record Passed (c : Call) : Type 0 where
 
 pub passed : (c : Call) → refusal c ≡ 0 → Passed c
 unfolding refusal
-passed c e = go (eqb p 0) refl
+passed c e =
+    by-test (eqb p 0)
+    (λ q. let l = list-passed (c .cut) (c .steps) (rw q at e) in
+    record { plain-passed = eqb-true p 0 q; cut-fits = l .0; list-good = l .1 })
+    (λ q. let z : p ≡ 0 = rw q at e in let m = eqb-false p 0 q in absurd (omega arith))
   where
     p : ℕ
     p = Plain.refusal (plain c) (lengths c)
-
-    go : (t : Bool) → eqb p 0 ≡ t → Passed c
-    go true q =
-        let l = list-passed (c .cut) (c .steps) (rw q at e) in
-        record { plain-passed = eqb-true p 0 q; cut-fits = l .0; list-good = l .1 }
-    go false q = let z : p ≡ 0 = rw q at e in let m = eqb-false p 0 q in absurd (omega arith)
 
 -- A number of the plain call's is this call's; else the list decides.
 module _ (c : Call) where

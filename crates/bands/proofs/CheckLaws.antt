@@ -1,6 +1,6 @@
 -- The code's tests of a cut and of a list of steps are the definitions'.
 use Prim.Native.Nat.{ℕ, zero, suc, _+_, _-_, _*_, _/_, _%_, _≤_, _<_, min, max}
-use mathlib.Core.Bool.{Bool, true, false, cond, _&&_, _||_}
+use mathlib.Core.Bool.{Bool, true, false, _&&_, _||_}
 use mathlib.Core.Path.{_≡_, refl, sym, ap, _∙_}
 use mathlib.Core.Logic.{_≢_}
 use mathlib.Core.List.{List, _∷_}
@@ -15,6 +15,7 @@ use Rattle.bands.specs.Bands.{Cut, cut, sized, fits, blocks-per-band, st
 use Rattle.bands.specs.Call.{list-refusal}
 use Rattle.bands.proofs.AnySequence.{fitting}
 use Rattle.bands.proofs.Counters.{both, some-block}
+use Rattle.rules.proofs.Tests.{by-test}
 
 -- ── A cut ──
 
@@ -64,14 +65,13 @@ module _ (w h k b : ℕ) where
 
   pub blocks-most : 0 < b → blocks-per-band (cut (sized w h) k b) ≤ w
   unfolding blocks-per-band
-  blocks-most q = go (eqb (h - 2) 0)
+  blocks-most q =
+      by-test (eqb (h - 2) 0)
+      (λ e. rw e (omega arith))
+      (λ e. rw e (let z : (w + (b - 1)) / b < suc w = div-lt-iff-lt-mul q .1 (omega (arith, inner, suc-mul w b)) in omega arith))
     where
       inner : w + (b - 1) < w * b + b
       inner = let z : w * 1 ≤ w * b = mul-le-mul-left w q in omega arith
-
-      go : (t : Bool) → cond t 0 ((w + (b - 1)) / b) ≤ w
-      go true = omega arith
-      go false = let z : (w + (b - 1)) / b < suc w = div-lt-iff-lt-mul q .1 (omega (arith, inner, suc-mul w b)) in omega arith
 
 -- ── The steps ──
 

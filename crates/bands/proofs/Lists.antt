@@ -1,8 +1,7 @@
 -- A call in bands among others on one sample buffer. One that is done is the plain two-phase call by what it yields, so what is
 -- claimed of lists of decoder calls holds of it; one that is refused leaves the samples as it found them.
 use Prim.Native.Nat.{ℕ}
-use mathlib.Core.Bool.{Bool, true, false}
-use mathlib.Core.Path.{_≡_, refl, sym, ap, _∙_}
+use mathlib.Core.Path.{_≡_, sym, ap, _∙_}
 use mathlib.Core.List.{List}
 use mathlib.Core.Option.{Option·map}
 use native.Mathlib.Omega.{arith}
@@ -10,7 +9,8 @@ use lib.Dec.{eqb}
 use borrow.Author.Tests.{eqb-true, eqb-false}
 use Rattle.rules.specs.declared.answer.Answer.{Answer}
 use Rattle.rules.specs.Answer as Plain
-use Rattle.rules.proofs.Isolation.{Returned, Samples, Step, decodes}
+use Rattle.rules.proofs.Isolation.{Returned, Step, decodes}
+use Rattle.rules.proofs.Tests.{by-test}
 use Rattle.bands.specs.Call.{Call, plain, buffers, refusal, answer, Yields}
 use Rattle.bands.proofs.Calls.{yields-plain, samples-kept}
 
@@ -37,11 +37,13 @@ module _ (c : Call) (r : Answer) (out dirs : List ℕ) (y : Yields c r out dirs)
   -- What it does to the sample buffer, done or not.
   unfoldable pub step : Step
   unfolding passed-returned
-  step = record { found = c .samples; left = out; below = go (eqb (refusal c) 0) refl }
-    where
-      go : (t : Bool) → eqb (refusal c) 0 ≡ t → Samples (c .samples) → Samples out
-      go true q h = decodes (passed-returned (eqb-true (refusal c) 0 q)) .below h
-      go false q h = rw (y .samples ∙ samples-kept c (λ z. let m = eqb-false (refusal c) 0 q in omega arith)) h
+  step = record {
+    found = c .samples;
+    left = out;
+    below = by-test (eqb (refusal c) 0)
+        (λ q. λ h. decodes (passed-returned (eqb-true (refusal c) 0 q)) .below h)
+        (λ q. λ h. rw (y .samples ∙ samples-kept c (λ z. let m = eqb-false (refusal c) 0 q in omega arith)) h);
+  }
 
 -- Calls that ask the same over the same buffers yield the same.
 module _ (p q : Returned) (asked : p .ask ≡ q .ask) (found : p .found ≡ q .found) where

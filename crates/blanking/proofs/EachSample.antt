@@ -14,7 +14,7 @@ use Rattle.rules.specs.declared.answer.Size.{Size}
 use Rattle.rules.specs.Frame.{cells, tabulate}
 use Rattle.rules.proofs.Cells.{All, all-append, all-take, all-drop, all-get}
 use Rattle.rules.proofs.Cells.All.{nil, more}
-use Rattle.rules.proofs.Tests.{clash}
+use Rattle.rules.proofs.Tests.{clash, by-test}
 use Rattle.blanking.specs.Blanking.{Fill, stated, unstated, marked, blank-row, blank-rows, blanked}
 use Rattle.blanking.proofs.RowLaws.{blank-row-length, blank-row-get}
 
@@ -101,11 +101,8 @@ pub unstated-fits : Fits unstated
 unfolding unstated
 unstated-fits row map s zero = lit< tt
 unstated-fits row map s (suc zero) = lit< tt
-unstated-fits row map s (suc (suc c)) = go (marked (getD map c 0)) (unstated-fits row map s c)
-  where
-    go : (t : Bool) → unstated row map c < 65_536 → cond t (unstated row map c) (getD row c 0) < 65_536
-    go true h = h
-    go false h = all-get (λ x. x < 65_536) s c 0 (lit< tt)
+unstated-fits row map s (suc (suc c)) =
+    by-test (marked (getD map c 0)) (λ e. rw e (unstated-fits row map s c)) (λ e. rw e (all-get (λ x. x < 65_536) s c 0 (lit< tt)))
 
 all-tabulate : (n i : ℕ) (f : ℕ → ℕ) → ((k : ℕ) → f k < 65_536) → Small (tabulate n i f)
 unfolding tabulate
@@ -145,12 +142,7 @@ pub unstated-clean : Clean unstated
 unfolding unstated
 unstated-clean row row′ map l a zero = refl
 unstated-clean row row′ map l a (suc zero) = refl
-unstated-clean row row′ map l a (suc (suc c)) = go (marked (getD map c 0)) refl (unstated-clean row row′ map l a c)
-  where
-    go : (t : Bool) → marked (getD map c 0) ≡ t → unstated row map c ≡ unstated row′ map c
-        → cond t (unstated row map c) (getD row c 0) ≡ cond t (unstated row′ map c) (getD row′ c 0)
-    go true e again = again
-    go false e again = a c e
+unstated-clean row row′ map l a (suc (suc c)) = by-test (marked (getD map c 0)) (λ e. rw e (unstated-clean row row′ map l a c)) (λ e. rw e (a c e))
 
 module _ (fill : Fill) (clean : Clean fill) where
   row-same : (row row′ map : List ℕ) → length row ≡ length row′ → Agree map row row′ → blank-row fill row map ≡ blank-row fill row′ map
@@ -165,15 +157,12 @@ module _ (fill : Fill) (clean : Clean fill) where
 
   -- A part of what agrees agrees.
   agree-take : (w : ℕ) (m f g : List ℕ) → Agree m f g → Agree (take w m) (take w f) (take w g)
-  agree-take w m f g a i e = go (ltb i w) refl
-    where
-      go : (t : Bool) → ltb i w ≡ t → getD (take w f) i 0 ≡ getD (take w g) i 0
-      go true q =
-          let k = ltb-true i w q in
-          getD-take w f i 0 k ∙ a i (ap marked (sym (getD-take w m i 0 k)) ∙ e) ∙ sym (getD-take w g i 0 k)
-      go false q =
-          let k = ltb-false i w q in
-          List·getD-eq-default (take w f) 0 (omega (arith, k, length-take w f)) ∙ sym (List·getD-eq-default (take w g) 0 (omega (arith, k, length-take w g)))
+  agree-take w m f g a i e =
+      by-test (ltb i w)
+      (λ q. let k = ltb-true i w q in
+      getD-take w f i 0 k ∙ a i (ap marked (sym (getD-take w m i 0 k)) ∙ e) ∙ sym (getD-take w g i 0 k))
+      (λ q. let k = ltb-false i w q in
+      List·getD-eq-default (take w f) 0 (omega (arith, k, length-take w f)) ∙ sym (List·getD-eq-default (take w g) 0 (omega (arith, k, length-take w g))))
 
   agree-drop : (w : ℕ) (m f g : List ℕ) → Agree m f g → Agree (drop w m) (drop w f) (drop w g)
   agree-drop w m f g a i e = getD-drop w f i 0 ∙ a (w + i) (ap marked (sym (getD-drop w m i 0)) ∙ e) ∙ sym (getD-drop w g i 0)
@@ -192,13 +181,10 @@ module _ (fill : Fill) (clean : Clean fill) where
 
   -- Blanking twice is blanking once.
   pub blanked-twice : (z : Size) (f m : List ℕ) → length f ≡ cells z → blanked fill z (blanked fill z f m) m ≡ blanked fill z f m
-  blanked-twice z f m l = blanked-same z (blanked fill z f m) f m long l (λ i e. go i e (ltb i (cells z)) refl)
+  blanked-twice z f m l = blanked-same z (blanked fill z f m) f m long l (λ i e. by-test (ltb i (cells z))
+      (λ q. unmarked-kept z f m l i (ltb-true i (cells z) q) fill e)
+      (λ q. let k = ltb-false i (cells z) q in
+      List·getD-eq-default (blanked fill z f m) 0 (omega (arith, k, long)) ∙ sym (List·getD-eq-default f 0 (omega (arith, k, l)))))
     where
       long : length (blanked fill z f m) ≡ cells z
       long = blank-rows-length fill (z .width) (z .height) f m ∙ l
-
-      go : (i : ℕ) → marked (getD m i 0) ≡ false → (t : Bool) → ltb i (cells z) ≡ t → getD (blanked fill z f m) i 0 ≡ getD f i 0
-      go i e true q = unmarked-kept z f m l i (ltb-true i (cells z) q) fill e
-      go i e false q =
-          let k = ltb-false i (cells z) q in
-          List·getD-eq-default (blanked fill z f m) 0 (omega (arith, k, long)) ∙ sym (List·getD-eq-default f 0 (omega (arith, k, l)))

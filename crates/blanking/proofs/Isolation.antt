@@ -21,6 +21,7 @@ use Rattle.rules.specs.Map.{old-part}
 use Rattle.rules.specs.Answer.{too-large, marks}
 use Rattle.rules.proofs.Cells.{all-append, all-take, all-drop}
 use Rattle.rules.proofs.Isolation.{Returned, Samples, Step, Calls, Alike, Ran, Same, isolation, mark-of}
+use Rattle.rules.proofs.Tests.{by-test}
 use Rattle.blanking.specs.declared.Blanked.{Blanked}
 use Rattle.blanking.specs.Blanking.{Fill, marked, bad-map, count, blanked, runs-of, numbers}
 use Rattle.blanking.specs.Calls.{Call, frame-of, marks-of, found, short-runs, refusal, refused, blanked-done, blank-answer, unless-refused, samples-after, runs-after, Yields}
@@ -137,20 +138,17 @@ module _ (c d : Returned) (same : Same c d) (ask : c .ask ≡ d .ask) (p q : Bla
   marks-c = f .bytes ∙ same .marks-c .bytes (f .map) (f .lent)
 
   agree : (i : ℕ) → marked (getD (take (cells z) (p .call .map)) i 0) ≡ false → getD (take (cells z) (p .call .samples)) i 0 ≡ getD (take (cells z) (q .call .samples)) i 0
-  agree i e = go (ltb i (cells z)) refl
+  agree i e =
+      by-test (ltb i (cells z))
+      (λ r. let k = ltb-true i (cells z) r in
+      ap (λ l. getD l i 0) (f .samples) ∙ getD-take (cells z) (c .left .samples) i 0 k ∙ same .samples i k zero-mark
+      ∙ sym (getD-take (cells z) (d .left .samples) i 0 k) ∙ ap (λ l. getD l i 0) (sym frames))
+      (λ r. let k = ltb-false i (cells z) r in
+      List·getD-eq-default (take (cells z) (p .call .samples)) 0 (omega (arith, k, length-take (cells z) (p .call .samples)))
+      ∙ sym (List·getD-eq-default (take (cells z) (q .call .samples)) 0 (omega (arith, k, length-take (cells z) (q .call .samples)))))
     where
       zero-mark : mark-of (c .ask) i ≡ 0
       zero-mark = ap old-part (unmarked-zero (getD (marks (c .ask)) i 0) (ap (λ m. marked (getD m i 0)) (sym marks-c) ∙ e))
-
-      go : (t : Bool) → ltb i (cells z) ≡ t → getD (take (cells z) (p .call .samples)) i 0 ≡ getD (take (cells z) (q .call .samples)) i 0
-      go true r =
-          let k = ltb-true i (cells z) r in
-          ap (λ l. getD l i 0) (f .samples) ∙ getD-take (cells z) (c .left .samples) i 0 k ∙ same .samples i k zero-mark
-          ∙ sym (getD-take (cells z) (d .left .samples) i 0 k) ∙ ap (λ l. getD l i 0) (sym frames)
-      go false r =
-          let k = ltb-false i (cells z) r in
-          List·getD-eq-default (take (cells z) (p .call .samples)) 0 (omega (arith, k, length-take (cells z) (p .call .samples)))
-          ∙ sym (List·getD-eq-default (take (cells z) (q .call .samples)) 0 (omega (arith, k, length-take (cells z) (q .call .samples))))
 
   -- What each of them comes to.
   abbrev map-of : Blanks → List ℕ
@@ -197,11 +195,12 @@ blanked-isolation step returned blanks clean b b′ x y h h′ cs ds c d rest re
 -- What a call that blanks finds and leaves there.
 pub blank-step : (c : Call) (left : List ℕ) → left ≡ samples-after c → Fits (c .fill) → Step
 unfolding samples-after unless-refused
-blank-step c left e fits = record { found = c .samples; left = left; below = λ h. rw e (go (eqb (refusal c) 0) h) }
-  where
-    go : (t : Bool) → Samples (c .samples) → Samples (cond t (blanked (c .fill) (c .size) (frame-of c) (marks-of c) ++ drop (cells (c .size)) (c .samples)) (c .samples))
-    go true h =
-        all-append (λ x. x < 65_536)
-        (blank-rows-below (c .fill) fits (c .size .width) (c .size .height) (frame-of c) (marks-of c) (all-take (λ x. x < 65_536) (cells (c .size)) h))
-        (all-drop (λ x. x < 65_536) (cells (c .size)) h)
-    go false h = h
+blank-step c left e fits = record {
+  found = c .samples;
+  left = left;
+  below = λ h. rw e (by-test (eqb (refusal c) 0)
+      (λ f. rw f (all-append (λ x. x < 65_536)
+      (blank-rows-below (c .fill) fits (c .size .width) (c .size .height) (frame-of c) (marks-of c) (all-take (λ x. x < 65_536) (cells (c .size)) h))
+      (all-drop (λ x. x < 65_536) (cells (c .size)) h)))
+      (λ f. rw f h));
+}

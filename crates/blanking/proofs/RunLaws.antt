@@ -11,6 +11,7 @@ use lib.Seq.{sets, drop-drop}
 use Rattle.blanking.specs.Blanking.{marked, bit, Run, run, stretch, runs-from, row-runs, rows-runs, numbers}
 use Rattle.blanking.specs.Lent.{greatest}
 use Rattle.blanking.proofs.ByteLaws.{zero-unmarked, bit-most, left-more}
+use Rattle.rules.proofs.Tests.{by-test}
 
 -- ── How many ──
 
@@ -18,12 +19,7 @@ use Rattle.blanking.proofs.ByteLaws.{zero-unmarked, bit-most, left-more
 pub runs-step : (row : ℕ) (joined : Bool) (c b : ℕ) (m : List ℕ)
     → length (runs-from row joined c (b ∷ m)) ≡ bit (marked b && not joined) + length (runs-from row (marked b) (suc c) m)
 unfolding runs-from bit
-runs-step row joined c b m = go (marked b && not joined)
-  where
-    go : (t : Bool) → length (cond t (run row c (stretch (b ∷ m)) ∷ runs-from row (marked b) (suc c) m) (runs-from row (marked b) (suc c) m))
-        ≡ bit t + length (runs-from row (marked b) (suc c) m)
-    go true = omega arith
-    go false = omega arith
+runs-step row joined c b m = by-test (marked b && not joined) (λ e. rw e (omega arith)) (λ e. rw e (omega arith))
 
 -- They are as many in whichever row.
 pub runs-same : (row row′ : ℕ) (joined : Bool) (c : ℕ) (m : List ℕ) → length (runs-from row joined c m) ≡ length (runs-from row′ joined c m)
@@ -88,13 +84,10 @@ stretch-marked (b ∷ m) i h = go i (marked b) refl h (λ j k. stretch-marked m 
 runs-joined : (row c : ℕ) (m : List ℕ) → runs-from row true c m ≡ runs-from row false (c + stretch m) (drop (stretch m) m)
 unfolding runs-from stretch
 runs-joined row c [] = refl
-runs-joined row c (b ∷ m) = go (marked b) refl (runs-joined row (suc c) m)
-  where
-    go : (t : Bool) → marked b ≡ t → runs-from row true (suc c) m ≡ runs-from row false (suc c + stretch m) (drop (stretch m) m)
-        → cond (t && false) (run row c (cond t (suc (stretch m)) 0) ∷ runs-from row t (suc c) m) (runs-from row t (suc c) m)
-        ≡ runs-from row false (c + cond t (suc (stretch m)) 0) (drop (cond t (suc (stretch m)) 0) (b ∷ m))
-    go true e h = let q : c + suc (stretch m) ≡ suc c + stretch m = omega arith in rw q h
-    go false e h = rw (add-zero c, e)
+runs-joined row c (b ∷ m) =
+    by-test (marked b)
+    (λ e. rw e (let q : c + suc (stretch m) ≡ suc c + stretch m = omega arith in rw q (runs-joined row (suc c) m)))
+    (λ e. rw e (rw (add-zero c, e)))
 
 module _ (row : ℕ) (m : List ℕ) (i : ℕ) where
   -- The runs that are left at a column.
@@ -114,14 +107,7 @@ module _ (row : ℕ) (m : List ℕ) (i : ℕ) where
       let d : drop (stretch (drop (i + 1) m)) (drop (i + 1) m) ≡ drop (i + k) m = drop-drop (stretch (drop (i + 1) m)) (i + 1) m ∙ ap (λ j. drop j m) n′ in
       let rest : runs-from row true (suc i) (drop (i + 1) m) ≡ runs-from row false (i + k) (drop (i + k) m) =
       runs-joined row (suc i) (drop (i + 1) m) ∙ ap₂ (λ c l. runs-from row false c l) n d in
-      ap (runs-from row false i) (left-more m i h) ∙ go (marked (getD m i 0)) e
-      ∙ ap₂ (λ l r. run row i l ∷ r) (sym (is ∙ ap stretch (left-more m i h))) rest
-    where
-      go : (t : Bool) → t ≡ true
-          → cond (t && true) (run row i (stretch (getD m i 0 ∷ drop (i + 1) m)) ∷ runs-from row t (suc i) (drop (i + 1) m)) (runs-from row t (suc i) (drop (i + 1) m))
-          ≡ run row i (stretch (getD m i 0 ∷ drop (i + 1) m)) ∷ runs-from row true (suc i) (drop (i + 1) m)
-      go true q = refl
-      go false q = cc
+      ap (runs-from row false i) (left-more m i h) ∙ by-test (marked (getD m i 0)) (λ f. rw f) (λ f. rw f cc) ∙ ap₂ (λ l r. run row i l ∷ r) (sym (is ∙ ap stretch (left-more m i h))) rest
 
 -- ── As numbers ──
 

@@ -15,6 +15,7 @@ use Rattle.rules.specs.declared.answer.Size.{Size}
 use Rattle.rules.specs.Frame.{cells}
 use Rattle.rules.proofs.Cells.{All, all-append, all-map}
 use Rattle.rules.proofs.Cells.All.{nil, more}
+use Rattle.rules.proofs.Tests.{by-test}
 use Rattle.blanking.specs.Blanking.{marked, bit, count, Run, run, stretch, runs-from, row-runs, rows-runs, runs-of}
 use Rattle.blanking.proofs.ByteLaws.{zero-unmarked, count-append}
 use Rattle.blanking.proofs.RunLaws.{stretch-most, stretch-marked}
@@ -68,14 +69,10 @@ module _ (row : ℕ) (P : Run → Type 0) where
   each-step : (joined : Bool) (c b : ℕ) (m : List ℕ) → (joined ≡ false → marked b ≡ true → P (run row c (suc (stretch m)))) → All P (runs-from row (marked b) (suc c) m)
       → All P (runs-from row joined c (b ∷ m))
   unfolding runs-from stretch
-  each-step joined c b m p ps = go joined (marked b) p ps
-    where
-      go : (joined t : Bool) → (joined ≡ false → t ≡ true → P (run row c (suc (stretch m)))) → All P (runs-from row t (suc c) m)
-          → All P (cond (t && not joined) (run row c (cond t (suc (stretch m)) 0) ∷ runs-from row t (suc c) m) (runs-from row t (suc c) m))
-      go true true p ps = ps
-      go true false p ps = ps
-      go false true p ps = more (p refl refl) ps
-      go false false p ps = ps
+  each-step joined c b m p ps =
+      by-test joined
+      (λ e. rw e (by-test (marked b) (λ f. rw f (rw f at ps)) (λ f. rw f (rw f at ps))))
+      (λ e. rw e (by-test (marked b) (λ f. rw f (more ((rw (e, f) at p) refl refl) (rw f at ps))) (λ f. rw f (rw f at ps))))
 
 -- Where the next run may start: after a sample that isn't marked.
 abbrev from-on : Bool → ℕ → List ℕ → ℕ
@@ -85,28 +82,26 @@ starts-on : (row : ℕ) (joined : Bool) (c : ℕ) (m : List ℕ)
     → All (λ r. (r .row ≡ row) × (from-on joined c m ≤ r .first)) (runs-from row joined c m)
 unfolding runs-from stretch
 starts-on row joined c [] = nil
-starts-on row joined c (b ∷ m) = go joined (marked b) refl (starts-on row (marked b) (suc c) m)
-  where
-    go : (joined t : Bool) → marked b ≡ t → All (λ r. (r .row ≡ row) × (from-on t (suc c) m ≤ r .first)) (runs-from row t (suc c) m)
-        → All (λ r. (r .row ≡ row) × (c + cond joined (suc (cond t (suc (stretch m)) 0)) 0 ≤ r .first))
-        (cond (t && not joined) (run row c (cond t (suc (stretch m)) 0) ∷ runs-from row t (suc c) m) (runs-from row t (suc c) m))
-    go true true e ps = all-map _ _ (λ r p. (p .0, omega (arith, p .1))) ps
-    go true false e ps = all-map _ _ (λ r p. (p .0, omega (arith, p .1))) ps
-    go false true e ps = more {a = run row c (suc (stretch m))} (refl, omega arith) (all-map _ _ (λ r p. (p .0, omega (arith, p .1))) ps)
-    go false false e ps = all-map _ _ (λ r p. (p .0, omega (arith, p .1))) ps
+starts-on row joined c (b ∷ m) =
+    by-test joined
+    (λ f. rw f (by-test (marked b)
+    (λ e. rw e (all-map _ _ (λ r p. (p .0, omega (arith, p .1))) (rw e at (starts-on row (marked b) (suc c) m))))
+    (λ e. rw e (all-map _ _ (λ r p. (p .0, omega (arith, p .1))) (rw e at (starts-on row (marked b) (suc c) m))))))
+    (λ f. rw f (by-test (marked b)
+    (λ e. rw e (more {a = run row c (suc (stretch m))} (refl, omega arith) (all-map _ _ (λ r p. (p .0, omega (arith, p .1))) (rw e at (starts-on row (marked b) (suc c) m)))))
+    (λ e. rw e (all-map _ _ (λ r p. (p .0, omega (arith, p .1))) (rw e at (starts-on row (marked b) (suc c) m))))))
 
 row-apart : (row : ℕ) (joined : Bool) (c : ℕ) (m : List ℕ) → Apart (runs-from row joined c m)
 unfolding runs-from stretch
 row-apart row joined c [] = none
-row-apart row joined c (b ∷ m) = go joined (marked b) refl (row-apart row (marked b) (suc c) m) (starts-on row (marked b) (suc c) m)
-  where
-    go : (joined t : Bool) → marked b ≡ t → Apart (runs-from row t (suc c) m)
-        → All (λ r. (r .row ≡ row) × (from-on t (suc c) m ≤ r .first)) (runs-from row t (suc c) m)
-        → Apart (cond (t && not joined) (run row c (cond t (suc (stretch m)) 0) ∷ runs-from row t (suc c) m) (runs-from row t (suc c) m))
-    go true true e ps qs = ps
-    go true false e ps qs = ps
-    go false true e ps qs = first (all-map _ (Before (run row c (suc (stretch m)))) (λ r q. let k : c + suc (stretch m) < r .first = omega (arith, q .1) in inr (sym (q .0), k)) qs) ps
-    go false false e ps qs = ps
+row-apart row joined c (b ∷ m) =
+    by-test joined
+    (λ f. rw f (by-test (marked b)
+    (λ e. rw e (rw e at (row-apart row (marked b) (suc c) m)))
+    (λ e. rw e (rw e at (row-apart row (marked b) (suc c) m)))))
+    (λ f. rw f (by-test (marked b)
+    (λ e. rw e (first (all-map _ (Before (run row c (suc (stretch m)))) (λ r q. let k : c + suc (stretch m) < r .first = omega (arith, q .1) in inr (sym (q .0), k)) (rw e at (starts-on row (marked b) (suc c) m))) (rw e at (row-apart row (marked b) (suc c) m))))
+    (λ e. rw e (rw e at (row-apart row (marked b) (suc c) m)))))
 
 row-inside : (row : ℕ) (joined : Bool) (c : ℕ) (m : List ℕ)
     → All (λ r. (r .row ≡ row) × ((0 < r .length) × (r .first + r .length ≤ c + length m))) (runs-from row joined c m)
@@ -120,15 +115,14 @@ row-total : (row : ℕ) (joined : Bool) (c : ℕ) (m : List ℕ) → total (runs
 unfolding runs-from stretch total count bit
 row-total row true c [] = refl
 row-total row false c [] = refl
-row-total row joined c (b ∷ m) = go joined (marked b) (row-total row (marked b) (suc c) m)
-  where
-    go : (joined t : Bool) → total (runs-from row t (suc c) m) + cond t (stretch m) 0 ≡ count m
-        → total (cond (t && not joined) (run row c (cond t (suc (stretch m)) 0) ∷ runs-from row t (suc c) m) (runs-from row t (suc c) m)) + cond joined (cond t (suc (stretch m)) 0) 0
-        ≡ bit t + count m
-    go true true e = omega (arith, e)
-    go true false e = omega (arith, e)
-    go false true e = omega (arith, e)
-    go false false e = omega (arith, e)
+row-total row joined c (b ∷ m) =
+    by-test joined
+    (λ f. rw f (by-test (marked b)
+    (λ g. rw g (omega (arith, (rw g at (row-total row (marked b) (suc c) m)))))
+    (λ g. rw g (omega (arith, (rw g at (row-total row (marked b) (suc c) m)))))))
+    (λ f. rw f (by-test (marked b)
+    (λ g. rw g (omega (arith, (rw g at (row-total row (marked b) (suc c) m)))))
+    (λ g. rw g (omega (arith, (rw g at (row-total row (marked b) (suc c) m)))))))
 
 -- No run lies before where it starts, and none in another row.
 not-covered : (rs : List Run) (row c : ℕ) → All (λ r. in-run r row c ≡ false) rs → covered rs row c ≡ false
@@ -138,11 +132,7 @@ not-covered (r ∷ rs) row c (more p ps) = rw p (not-covered rs row c ps)
 
 in-before : (r : Run) (row c : ℕ) → c < r .first → in-run r row c ≡ false
 unfolding in-run
-in-before r row c h = rw (lt-ltb c (r .first) h) (go (eqb (r .row) row))
-  where
-    go : (t : Bool) → (t && false) ≡ false
-    go true = refl
-    go false = refl
+in-before r row c h = rw (lt-ltb c (r .first) h) (by-test (eqb (r .row) row) (λ e. rw e) (λ e. rw e))
 
 in-other : (r : Run) (row c : ℕ) → (r .row ≡ row → ⊥) → in-run r row c ≡ false
 unfolding in-run

@@ -2,6 +2,7 @@
 use Prim.Native.Nat.{ℕ, suc, zero, _+_, _-_, _*_, _/_, _%_, _<_, _≤_}
 use mathlib.Core.Path.{_≡_, refl, sym, ap, _∙_}
 use mathlib.Core.List.{List, [], _∷_}
+use mathlib.Core.Logic.{by-cases}
 use native.Mathlib.Omega.{arith}
 use native.Mathlib.Decide.{decLt}
 use lib.Dec.{lit<}
@@ -71,16 +72,16 @@ inner-block format w col whole e a l = let b = whole .blocks e in omega arith
 
 -- A block's numbers as a list, each of them short.
 listed-short : (x : Coding) (row col : ℕ) → ((k : ℕ) → Short (x .number row col k)) → Shorts (block-of x row col)
-listed-short x row col each = record { each = λ k. go k (decLt k 16) }
+listed-short x row col each = record {
+  each = λ k. by-cases (decLt k 16)
+      (λ l. let z : 0 + k ≡ k = omega arith in rw (tabulate-get (x .number row col) 16 0 k l, z) (each k))
+      (λ l. rw (past (block-of x row col) k (rw (tabulate-length (x .number row col) 16 0) (omega arith))) (record { below = lit< tt; short = lit< tt }));
+}
   where
     past : (l : List ℕ) (i : ℕ) → length l ≤ i → getD l i 0 ≡ 0
     past [] i q = refl
     past (a ∷ l) zero q = absurd (omega arith)
     past (a ∷ l) (suc i) q = past l i (omega arith)
-
-    go : (k : ℕ) → Dec (k < 16) → Short (getD (block-of x row col) k 0)
-    go k (yes l) = let z : 0 + k ≡ k = omega arith in rw (tabulate-get (x .number row col) 16 0 k l, z) (each k)
-    go k (no l) = rw (past (block-of x row col) k (rw (tabulate-length (x .number row col) 16 0) (omega arith))) (record { below = lit< tt; short = lit< tt })
 
 all-of-get : (f : List ℕ) → ((i : ℕ) → getD f i 0 < 16_384) → All (λ a. a < 16_384) f
 all-of-get [] q = nil

@@ -1,5 +1,5 @@
 -- A V2 block by its halves: in an even row its even samples come first, in an odd row its odd ones.
-use Prim.Native.Nat.{ℕ, suc, _+_, _-_, _*_, _/_, _%_, _<_, _≤_}
+use Prim.Native.Nat.{ℕ, suc, _+_, _-_, _*_, _%_, _<_, _≤_}
 use mathlib.Core.Bool.{Bool, true, false, cond}
 use mathlib.Core.Path.{_≡_, refl, ap, ap₂, _∙_}
 use mathlib.Core.Logic.{_≢_}
@@ -14,23 +14,22 @@ use Rattle.rules.specs.V2.{position}
 use Rattle.writers.specs.V2Writer.{base-of, difference}
 use Rattle.frame_writer.specs.Frames.{block-differences, by-halves}
 use Rattle.frame_writer.proofs.HalfLaws.{tabulate-get, tabulate-length, listed}
+use Rattle.rules.proofs.Tests.{by-test}
 
 -- Where difference k goes.
 position-first : (row k : ℕ) → k < 8 → position row k ≡ 2 * (k % 8) + row % 2
 unfolding position
-position-first row k l = go (eqb (row % 2) 0) refl
-  where
-    go : (t : Bool) → eqb (row % 2) 0 ≡ t → cond t (2 * (k % 8) + k / 8) (2 * (k % 8) + 1 - k / 8) ≡ 2 * (k % 8) + row % 2
-    go true e = let q = eqb-true (row % 2) 0 e in omega arith
-    go false e = let q = eqb-false (row % 2) 0 e in omega arith
+position-first row k l =
+    by-test (eqb (row % 2) 0)
+    (λ e. rw e (let q = eqb-true (row % 2) 0 e in omega arith))
+    (λ e. rw e (let q = eqb-false (row % 2) 0 e in omega arith))
 
 position-second : (row k : ℕ) → 8 ≤ k → k < 16 → position row k ≡ 2 * (k % 8) + (1 - row % 2)
 unfolding position
-position-second row k l l′ = go (eqb (row % 2) 0) refl
-  where
-    go : (t : Bool) → eqb (row % 2) 0 ≡ t → cond t (2 * (k % 8) + k / 8) (2 * (k % 8) + 1 - k / 8) ≡ 2 * (k % 8) + (1 - row % 2)
-    go true e = let q = eqb-true (row % 2) 0 e in omega arith
-    go false e = let q = eqb-false (row % 2) 0 e in omega arith
+position-second row k l l′ =
+    by-test (eqb (row % 2) 0)
+    (λ e. rw e (let q = eqb-true (row % 2) 0 e in omega arith))
+    (λ e. rw e (let q = eqb-false (row % 2) 0 e in omega arith))
 
 -- Places fit 64 bits.
 pub row-small : (w h row : ℕ) → w ≤ 16_384 → h ≤ 16_384 → row < h → row * w + w ≤ 268_435_456
@@ -52,18 +51,15 @@ module _ (w h row col : ℕ) (f : List ℕ) (in-row : row < h) (whole : col % 16
       → (getD f (start + 2 * j) 0 + 65_536 - b) % 65_536 ≡ difference w f row col i
   unfolding difference base-of
   one start i r j b small is at e =
-      ap₂ (λ x y. (getD f x 0 + 65_536 - y) % 65_536) place (e ∙ go (eqb col 0) refl)
+      ap₂ (λ x y. (getD f x 0 + 65_536 - y) % 65_536) place (e ∙ by-test (eqb col 0)
+      (λ z. rw z)
+      (λ z. rw z (let n = eqb-false col 0 z in
+      let m : i % 2 ≡ r = omega arith in
+      let s : start - 2 ≡ row * w + col - 2 + i % 2 = omega (arith, m, at, whole) in
+      ap (λ x. getD f x 0) s)))
     where
       place : start + 2 * j ≡ row * w + col + i
       place = omega arith
-
-      go : (t : Bool) → eqb col 0 ≡ t → cond t 0 (getD f (start - 2) 0) ≡ cond t 0 (getD f (row * w + col - 2 + i % 2) 0)
-      go true z = refl
-      go false z =
-          let n = eqb-false col 0 z in
-          let m : i % 2 ≡ r = omega arith in
-          let s : start - 2 ≡ row * w + col - 2 + i % 2 = omega (arith, m, at, whole) in
-          ap (λ x. getD f x 0) s
 
   pub differences-law : (p q : ℕ) (d : List ℕ) → p ≡ cond (eqb col 0) 0 (getD f (first - 2) 0) → q ≡ cond (eqb col 0) 0 (getD f (second - 2) 0)
       → d ≡ tabulate 16 0 (by-halves f first second p q) → d ≡ block-differences w f row col

@@ -1,8 +1,8 @@
 -- The sixteen numbers of a block, found one by one, and by halves.
 use Prim.Native.Nat.{ℕ, zero, suc, _+_, _-_, _*_, _%_, _<_, _≤_}
-use mathlib.Core.Bool.{Bool, true, false, cond}
+use mathlib.Core.Bool.{cond}
 use mathlib.Core.Path.{_≡_, refl, sym, ap, ap₂, _∙_}
-use mathlib.Core.Logic.{_≢_}
+use mathlib.Core.Logic.{_≢_, by-cases}
 use mathlib.Core.List.{List}
 use native.Mathlib.Omega.{arith}
 use native.Mathlib.Decide.{ℕ-discrete}
@@ -13,6 +13,7 @@ use lib.Seq.{getD-set-same, getD-set-other, ext-getD}
 use borrow.Author.Tests.{lt-ltb, le-ltb, eq-eqb, ne-eqb}
 use Rattle.rules.specs.Frame.{tabulate}
 use Rattle.frame_writer.specs.Frames.{by-halves}
+use Rattle.rules.proofs.Tests.{by-test}
 
 -- ── Sixteen of them ──
 
@@ -44,12 +45,10 @@ finding-on F d k v l e g =
     record {
       most = omega arith;
       long = length-set d k v ∙ g .long;
-      before = λ j q. go j q (ℕ-discrete j k);
+      before = λ j q. by-cases (ℕ-discrete j k)
+          (λ z. rw z (getD-set-same d k v 0 (omega (arith, g .long)) ∙ e))
+          (λ z. getD-set-other d k j v 0 z ∙ g .before j (omega arith));
     }
-  where
-    go : (j : ℕ) → j < k + 1 → Dec (j ≡ k) → getD (set d k v) j 0 ≡ F j
-    go j q (yes z) = rw z (getD-set-same d k v 0 (omega (arith, g .long)) ∙ e)
-    go j q (no z) = getD-set-other d k j v 0 z ∙ g .before j (omega arith)
 
 pub found : (F : ℕ → ℕ) (d : List ℕ) (k : ℕ) → 16 ≤ k → Finding F d k → d ≡ tabulate 16 0 F
 found F d k l g = listed F d (g .long) (λ j q. g .before j (omega arith))
@@ -57,11 +56,7 @@ found F d k l g = listed F d (g .long) (λ j q. g .before j (omega arith))
 -- ── By halves ──
 
 pub half-in : (k first second n : ℕ) → first + 14 < n → second + 14 < n → cond (ltb k 8) first second + 2 * (k % 8) < n
-half-in k first second n p q = go (ltb k 8)
-  where
-    go : (t : Bool) → cond t first second + 2 * (k % 8) < n
-    go true = omega arith
-    go false = omega arith
+half-in k first second n p q = by-test (ltb k 8) (λ e. rw e (omega arith)) (λ e. rw e (omega arith))
 
 pub halves-on : (f d : List ℕ) (first second p q k at b v : ℕ) → k < 16 → at ≡ cond (ltb k 8) first second → b ≡ cond (ltb k 8) p q
     → v ≡ (getD f (at + 2 * (k % 8)) 0 + 65_536 - b) % 65_536

@@ -10,7 +10,7 @@ use lib.Dec.{eqb, ltb}
 use lib.ListN.{length, getD}
 use borrow.Author.Tests.{ltb-true, ltb-false, lt-ltb, le-ltb, eqb-true, eqb-false, eq-eqb, ne-eqb}
 use Rattle.rules.specs.V0.{sample-kind}
-use Rattle.rules.proofs.Tests.{clash}
+use Rattle.rules.proofs.Tests.{clash, by-test}
 use Rattle.writers.specs.Exchanged.{evens-start, odds-start, place-of}
 use Rattle.writers.proofs.ExchangeAt.{exchange-place}
 use Rattle.frame_writer.specs.Frames.{size, exchanged}
@@ -38,11 +38,7 @@ odds-even w h row a l = let b : row % 2 ≡ 0 = omega arith in rw (eq-eqb (row %
 
 pub odds-last : (w h row : ℕ) → h ≤ row + 1 → row * w ≡ odds-start (size w h) row
 unfolding odds-start
-odds-last w h row l = rw (le-ltb (row + 1) h l) (go (eqb (row % 2) 0))
-  where
-    go : (t : Bool) → row * w ≡ cond (t && false) ((row + 1) * w - 1) (row * w)
-    go true = refl
-    go false = refl
+odds-last w h row l = rw (le-ltb (row + 1) h l) (by-test (eqb (row % 2) 0) (λ e. rw e) (λ e. rw e))
 
 -- ── Places ──
 
@@ -50,44 +46,26 @@ module _ (w h row col : ℕ) where
   -- An odd column, ..
   pub odds-place : col % 2 ≡ 1 → col < w → odds-start (size w h) row + col ≡ place-of (size w h) row col
   unfolding odds-start place-of
-  odds-place a l = rw (eq-eqb (col % 2) 1 a, ne-eqb (col % 2) 0 (λ e. omega arith)) (go (eqb (row % 2) 0) (ltb (row + 1) h) (eqb (row % 2) 1))
-    where
-      go : (t u v : Bool)
-          → cond (t && u) ((row + 1) * w - 1) (row * w) + col
-          ≡ cond (t && (true && u)) ((row + 1) * w + col - 1) (cond (v && (false && ltb (col + 1) w)) ((row - 1) * w + col + 1) (row * w + col))
-      go true true v = omega arith
-      go true false true = refl
-      go true false false = refl
-      go false u true = refl
-      go false u false = refl
+  odds-place a l = rw (eq-eqb (col % 2) 1 a, ne-eqb (col % 2) 0 (λ e. omega arith)) (by-test (eqb (row % 2) 0)
+      (λ e₁. rw e₁ (by-test (ltb (row + 1) h) (λ f. rw f (omega arith)) (λ g. rw g (by-test (eqb (row % 2) 1) (λ f. rw f) (λ f. rw f)))))
+      (λ g. rw g (by-test (eqb (row % 2) 1) (λ f. rw f) (λ f. rw f))))
 
   -- .. an even column that has one to its right, ..
   pub evens-place : col % 2 ≡ 0 → col + 1 < w → evens-start w row + col ≡ place-of (size w h) row col
   unfolding evens-start place-of
   evens-place a l =
-      rw (ne-eqb (col % 2) 1 (λ e. omega arith), eq-eqb (col % 2) 0 a, lt-ltb (col + 1) w l) (go (eqb (row % 2) 0) refl (eqb (row % 2) 1) refl)
-    where
-      go : (t : Bool) → eqb (row % 2) 0 ≡ t → (v : Bool) → eqb (row % 2) 1 ≡ v
-          → cond t (row * w) ((row - 1) * w + 1) + col
-          ≡ cond (t && (false && ltb (row + 1) h)) ((row + 1) * w + col - 1) (cond (v && (true && true)) ((row - 1) * w + col + 1) (row * w + col))
-      go true p true q = absurd (omega (arith, eqb-true (row % 2) 0 p, eqb-true (row % 2) 1 q))
-      go true p false q = refl
-      go false p true q = omega arith
-      go false p false q = absurd (eqb-false (row % 2) 0 p (let n = eqb-false (row % 2) 1 q in omega arith))
+      rw (ne-eqb (col % 2) 1 (λ e. omega arith), eq-eqb (col % 2) 0 a, lt-ltb (col + 1) w l) (by-test (eqb (row % 2) 0)
+      (λ p. rw p (by-test (eqb (row % 2) 1) (λ q. rw q (absurd (omega (arith, eqb-true (row % 2) 0 p, eqb-true (row % 2) 1 q)))) (λ q. rw q)))
+      (λ p. rw p (by-test (eqb (row % 2) 1)
+      (λ q. rw q (omega arith))
+      (λ q. rw q (absurd (eqb-false (row % 2) 0 p (let n = eqb-false (row % 2) 1 q in omega arith)))))))
 
   -- .. and a last even column.
   pub last-place : col % 2 ≢ 1 → w ≤ col + 1 → row * w + col ≡ place-of (size w h) row col
   unfolding place-of
-  last-place a l = rw (ne-eqb (col % 2) 1 a, le-ltb (col + 1) w l) (go (eqb (row % 2) 0) (eqb (row % 2) 1) (eqb (col % 2) 0))
-    where
-      go : (t v u : Bool)
-          → row * w + col ≡ cond (t && (false && ltb (row + 1) h)) ((row + 1) * w + col - 1) (cond (v && (u && false)) ((row - 1) * w + col + 1) (row * w + col))
-      go true true true = refl
-      go true true false = refl
-      go true false u = refl
-      go false true true = refl
-      go false true false = refl
-      go false false u = refl
+  last-place a l = rw (ne-eqb (col % 2) 1 a, le-ltb (col + 1) w l) (by-test (eqb (row % 2) 0)
+      (λ g. rw g (by-test (eqb (row % 2) 1) (λ f. rw f (by-test (eqb (col % 2) 0) (λ e. rw e) (λ e. rw e))) (λ e. rw e)))
+      (λ g. rw g (by-test (eqb (row % 2) 1) (λ f. rw f (by-test (eqb (col % 2) 0) (λ e. rw e) (λ e. rw e))) (λ e. rw e))))
 
   -- Every place is in the frame.
   pub place-in : row < h → col < w → place-of (size w h) row col < w * h
@@ -126,7 +104,16 @@ sample-is w h row col f p r l e q = rw q (sym (exchange-place sample-kind (size 
 module _ (w h row col : ℕ) (start : col % 16 ≡ 0) (inner : col + 16 ≤ w) where
   pub inner-place : (k evens odds : ℕ) → k < 16 → evens ≡ evens-start w row + col → odds ≡ odds-start (size w h) row + col + 1
       → cond (ltb k 8) evens odds + 2 * (k % 8) ≡ place-of (size w h) row (col + (2 * (k % 8) + k / 8))
-  inner-place k evens odds l e o = go (ltb k 8) refl
+  inner-place k evens odds l e o =
+      by-test (ltb k 8)
+      (λ q. rw q (let b = ltb-true k 8 q in
+      let c-is : c ≡ 2 * k = omega arith in
+      let s : evens + 2 * (k % 8) ≡ evens-start w row + (col + c) = omega arith in
+      s ∙ evens-place w h row (col + c) (even-column k c c-is) (omega arith)))
+      (λ q. rw q (let b = ltb-false k 8 q in
+      let c-is : c ≡ 2 * (k - 8) + 1 = omega arith in
+      let s : odds + 2 * (k % 8) ≡ odds-start (size w h) row + (col + c) = omega arith in
+      s ∙ odds-place w h row (col + c) (odd-column (k - 8) c c-is) (omega arith)))
     where
       c : ℕ
       c = 2 * (k % 8) + k / 8
@@ -136,18 +123,6 @@ module _ (w h row col : ℕ) (start : col % 16 ≡ 0) (inner : col + 16 ≤ w) w
 
       odd-column : (j c : ℕ) → c ≡ 2 * j + 1 → (col + c) % 2 ≡ 1
       odd-column j c e = omega arith
-
-      go : (t : Bool) → ltb k 8 ≡ t → cond t evens odds + 2 * (k % 8) ≡ place-of (size w h) row (col + c)
-      go true q =
-          let b = ltb-true k 8 q in
-          let c-is : c ≡ 2 * k = omega arith in
-          let s : evens + 2 * (k % 8) ≡ evens-start w row + (col + c) = omega arith in
-          s ∙ evens-place w h row (col + c) (even-column k c c-is) (omega arith)
-      go false q =
-          let b = ltb-false k 8 q in
-          let c-is : c ≡ 2 * (k - 8) + 1 = omega arith in
-          let s : odds + 2 * (k % 8) ≡ odds-start (size w h) row + (col + c) = omega arith in
-          s ∙ odds-place w h row (col + c) (odd-column (k - 8) c c-is) (omega arith)
 
   -- The first of each half.
   pub evens-first : (evens : ℕ) → evens ≡ evens-start w row + col → evens ≡ place-of (size w h) row col

@@ -14,6 +14,7 @@ use borrow.Author.Tests.{ltb-true, ltb-false, lt-ltb, le-ltb, eqb-true, eqb-fals
 use Rattle.rules.specs.Frame.{tabulate}
 use Rattle.rules.specs.V0.{order, columns-back}
 use Rattle.rules.proofs.Cells.{nil, more}
+use Rattle.rules.proofs.Tests.{by-test}
 use Rattle.writers.specs.Writer.{predicted, residual}
 use Rattle.writers.specs.Exchanged.{evens-start, odds-start}
 use Rattle.writers.proofs.Blocks.{each-of-run}
@@ -91,11 +92,10 @@ module _ (w h row col : ℕ) (f : List ℕ) (in-row : row < h) (whole : col % 16
   -- The prediction of a half, by the sample two places before its first.
   half-predicted : (first c p : ℕ) → (col ≢ 0 → getD f (first - 2) 0 ≡ getD g (row * w + (col - 2 + c % 2)) 0)
       → p ≡ cond (eqb col 0) 128 (getD f (first - 2) 0) → p ≡ predicted w g row col c
-  half-predicted first c p at e = go (eqb col 0) refl e
-    where
-      go : (t : Bool) → eqb col 0 ≡ t → p ≡ cond t 128 (getD f (first - 2) 0) → p ≡ predicted w g row col c
-      go true z q = q ∙ predicted-first w row col c g (eqb-true col 0 z)
-      go false z q = let n = eqb-false col 0 z in predicted-later w row col c g p whole n (q ∙ at n)
+  half-predicted first c p at e =
+      by-test (eqb col 0)
+      (λ z. (rw z at e) ∙ predicted-first w row col c g (eqb-true col 0 z))
+      (λ z. let n = eqb-false col 0 z in predicted-later w row col c g p whole n ((rw z at e) ∙ at n))
 
   evens-before : (c : ℕ) → c % 2 ≡ 0 → col ≢ 0 → getD f (evens - 2) 0 ≡ getD g (row * w + (col - 2 + c % 2)) 0
   evens-before c e n =

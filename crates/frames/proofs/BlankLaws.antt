@@ -1,5 +1,5 @@
 -- What the entries that blank owe: each refusal is the definition's, and else what was set and listed is.
-use mathlib.Core.Path.{_≡_, refl, sym, ap, ap₂, _∙_}
+use mathlib.Core.Path.{_≡_, sym, ap, ap₂, _∙_}
 use mathlib.Core.Bool.{Bool, true, false, _||_, cond}
 use mathlib.Core.List.{List, _++_}
 use Prim.Native.Nat.{ℕ, _+_, _*_, _≤_}
@@ -20,6 +20,7 @@ use Rattle.blanking.specs.Blanking.{Fill, count, bad-map, blanked, numbers}
 use Rattle.blanking.specs.Calls.{Call, call, frame-of, marks-of, found, short-runs, refusal, refused, blanked-done, blank-answer, unless-refused, samples-after, runs-after, Yields}
 use Rattle.blanking.specs.Lent.{tally, MapLent, FrameLent}
 use Rattle.blanking.proofs.RunLaws.{numbers-length, rows-most}
+use Rattle.rules.proofs.Tests.{by-test}
 
 -- The test of 1, 3 and 4.
 abbrev pub early : Size → ℕ → ℕ → ℕ
@@ -40,28 +41,26 @@ module _ (fill : Fill) (samples map : List ℕ) (w h : ℕ) (runs : List ℕ) wh
     -- 1, 3 and 4.
     pub early-yields : (r : Blanked) → (k ≡ 0 → ⊥) → r ≡ refused k → Yields c r samples runs
     unfolding refusal first-of short
-    early-yields r n q = refused-yields k r (go (too-large (c .size)) (ltb (length samples) (cells (c .size))) (ltb (length map) (cells (c .size))) e) n q
-      where
-        go : (t1 t3 t4 : Bool) → k ≡ first-of t1 false (t3 || false) (t4 || false)
-            → cond t1 1 (cond t3 3 (cond t4 4 (cond (bad-map (marks-of c)) 14 (cond (short-runs c) 13 0)))) ≡ k
-        go true t3 t4 p = sym p
-        go false true t4 p = sym p
-        go false false true p = sym p
-        go false false false p = absurd (n p)
+    early-yields r n q = refused-yields k r (by-test (too-large (c .size))
+        (λ f. rw f (sym (rw f at e)))
+        (λ f. rw f (by-test (ltb (length samples) (cells (c .size)))
+        (λ g. rw g (sym (rw (f, g) at e)))
+        (λ g. rw g (by-test (ltb (length map) (cells (c .size)))
+        (λ e₁. rw e₁ (sym (rw (f, g, e₁) at e)))
+        (λ e₁. rw e₁ (absurd (n (rw (f, g, e₁) at e))))))))) n q
 
     -- After them.
     module _ (z : k ≡ 0) where
       late : refusal c ≡ cond (bad-map (marks-of c)) 14 (cond (short-runs c) 13 0)
       unfolding refusal first-of short
-      late = go (too-large (c .size)) (ltb (length samples) (cells (c .size))) (ltb (length map) (cells (c .size))) (sym z ∙ e)
-        where
-          go : (t1 t3 t4 : Bool) → 0 ≡ first-of t1 false (t3 || false) (t4 || false)
-              → cond {A = ℕ} t1 1 (cond t3 3 (cond t4 4 (cond (bad-map (marks-of c)) 14 (cond (short-runs c) 13 0))))
-              ≡ cond (bad-map (marks-of c)) 14 (cond (short-runs c) 13 0)
-          go true t3 t4 p = absurd (let q : 0 ≡ 1 = p in omega arith)
-          go false true t4 p = absurd (let q : 0 ≡ 3 = p in omega arith)
-          go false false true p = absurd (let q : 0 ≡ 4 = p in omega arith)
-          go false false false p = refl
+      late =
+          by-test (too-large (c .size))
+          (λ f. rw f (absurd (let q : 0 ≡ 1 = (rw f at (sym z ∙ e)) in omega arith)))
+          (λ f. rw f (by-test (ltb (length samples) (cells (c .size)))
+          (λ g. rw g (absurd (let q : 0 ≡ 3 = (rw (f, g) at (sym z ∙ e)) in omega arith)))
+          (λ g. rw g (by-test (ltb (length map) (cells (c .size)))
+          (λ e₁. rw e₁ (absurd (let q : 0 ≡ 4 = (rw (f, g, e₁) at (sym z ∙ e)) in omega arith)))
+          (λ e₁. rw e₁)))))
 
       -- The frame and its map are there.
       pub samples-there : w * h ≤ length samples

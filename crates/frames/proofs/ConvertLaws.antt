@@ -19,6 +19,7 @@ use Rattle.rules.specs.Answer as Rules
 use Rattle.rules.specs.Answer.{direct, v2, lengths, too-large, too-small, short-samples, short-offsets, short-map, short-scratch, scratch-bytes, first-of, refusal, samples-after, map-after, unless-refused, frame-samples, frame-marks}
 use Rattle.rules.proofs.Cells.{all-get}
 use Rattle.rules.proofs.V0Cells.{decoded-length, frame-length}
+use Rattle.rules.proofs.Tests.{by-test}
 use Rattle.refusals.specs.Lending.{short}
 use Rattle.refusals.specs.declared.Lending.the-variants.{Nothing, Length}
 use Rattle.refusals.proofs.RefusalLaws.{Room, room, long-enough}
@@ -139,12 +140,12 @@ module _ (source offsets : List ℕ) (w h : ℕ) (samples map stream : List ℕ)
       -- The decoder's own tests are passed, too.
       pub decodes : refusal (c .asked) (lengths (found c)) ≡ 0
       unfolding refusal too-small short-samples short-offsets short-map short-scratch short first-of
-      decodes = go (too-large size) small (ltb (length samples) (cells size) || ltb (length offsets) h) (ltb (length map) (cells size) || false) (sym e ∙ passed)
-        where
-          go : (t1 t2 t3 t4 : Bool) → first-of t1 t2 t3 t4 ≡ 0 → first-of t1 false t3 t4 ≡ 0
-          go true t2 t3 t4 q = q
-          go false true t3 t4 q = absurd (let x : 2 ≡ 0 = q in omega arith)
-          go false false t3 t4 q = q
+      decodes =
+          by-test (too-large size)
+          (λ f. rw f (rw f at (sym e ∙ passed)))
+          (λ f. rw f (by-test small
+          (λ g. absurd (let x : 2 ≡ 0 = (rw (f, g) at (sym e ∙ passed)) in omega arith))
+          (λ g. (rw (f, g) at (sym e ∙ passed)))))
 
       -- So what it leaves is the frame, and its marks, and all buffers are as long as they were.
       pub frame-long : length (V0.decoded source offsets size (take (cells size) samples)) ≡ cells size

@@ -14,6 +14,7 @@ use Rattle.rules.specs.Frame.{cells}
 use Rattle.rules.specs.Answer.{Ask, ask, Lent, v2, done, too-small, refusal, stream-answer, answer, frame-samples, frame-marks, marks, samples-after, map-after, unless-refused}
 use Rattle.rules.proofs.Cells.{All}
 use Rattle.rules.proofs.Refusals.{samples-enough, v2-size-least}
+use Rattle.rules.proofs.Tests.{by-test}
 use Rattle.writers.specs.declared.Written.{Written}
 use Rattle.writers.specs.Calls.{too-bright, refused, written}
 use Rattle.writers.specs.V2Writer.{stream-for}
@@ -55,12 +56,12 @@ module _ (source offsets : List ℕ) (w h : ℕ) (samples map stream : List ℕ)
 
   -- The tests before decoding.
   early-tests : (k : ℕ) → cond (eqb k 0) (cond {A = ℕ} (eqb (w % 16) 0) 0 15) k ≡ 0 → (k ≡ 0) × (w % 16 ≡ 0)
-  early-tests k = go (eqb k 0) refl (eqb (w % 16) 0) refl
-    where
-      go : (a : Bool) → eqb k 0 ≡ a → (b : Bool) → eqb (w % 16) 0 ≡ b → cond a (cond {A = ℕ} b 0 15) k ≡ 0 → (k ≡ 0) × (w % 16 ≡ 0)
-      go true e true f q = (eqb-true k 0 e, eqb-true (w % 16) 0 f)
-      go true e false f q = absurd (let x : 15 ≡ 0 = q in omega arith)
-      go false e b f q = absurd (eqb-false k 0 e q)
+  early-tests k =
+      by-test (eqb k 0)
+      (λ e. rw e (by-test (eqb (w % 16) 0)
+      (λ f. rw f (λ q. (eqb-true k 0 e, eqb-true (w % 16) 0 f)))
+      (λ f. rw f (λ q. absurd (let x : 15 ≡ 0 = q in omega arith)))))
+      (λ e. rw e (λ q. absurd (eqb-false k 0 e q)))
 
   -- And after it.
   late-tests : (t16 t9 t10 : Bool) → cond {A = ℕ} t16 16 (cond t9 9 (cond t10 10 0)) ≡ 0 → (t9 ≡ false) × (t10 ≡ false)

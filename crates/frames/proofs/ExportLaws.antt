@@ -1,6 +1,6 @@
 -- What the export owes: a refusal of blanking is its answer, and else the writer's is.
-use mathlib.Core.Path.{_≡_, refl, sym, ap, ap₂, _∙_}
-use mathlib.Core.Bool.{Bool, true, false, cond}
+use mathlib.Core.Path.{_≡_, sym, ap, ap₂, _∙_}
+use mathlib.Core.Bool.{false}
 use mathlib.Core.List.{List}
 use Prim.Native.Nat.{ℕ}
 use lib.Dec.{eqb}
@@ -12,16 +12,12 @@ use Rattle.blanking.specs.Calls as Blank
 use Rattle.writers.specs.declared.Written.{Written}
 use Rattle.writers.specs.Calls as Write
 use Rattle.frames.specs.Export.{Export, export, write, if-blanked, export-answer, stream-after, offsets-after, Yields}
+use Rattle.rules.proofs.Tests.{by-test}
 
 -- The number that blanking answers is its refusal, or 0.
 pub number-is : (c : Blank.Call) → Blank.blank-answer c .answer .number ≡ Blank.refusal c
 unfolding Blank.blank-answer
-number-is c = go (eqb (Blank.refusal c) 0) refl
-  where
-    go : (t : Bool) → eqb (Blank.refusal c) 0 ≡ t
-        → cond t (Blank.blanked-done (count (Blank.marks-of c)) (length (Blank.found c))) (Blank.refused (Blank.refusal c)) .answer .number ≡ Blank.refusal c
-    go true e = sym (eqb-true (Blank.refusal c) 0 e)
-    go false e = refl
+number-is c = by-test (eqb (Blank.refusal c) 0) (λ e. rw e (sym (eqb-true (Blank.refusal c) 0 e))) (λ e. rw e)
 
 module _ (samples map : List ℕ) (w h : ℕ) (runs stream offsets : List ℕ) (r : Blanked) (s l : List ℕ)
     (y : Blank.Yields (export samples map w h runs stream offsets .blank) r s l) where

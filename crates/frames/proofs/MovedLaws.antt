@@ -1,6 +1,6 @@
 -- What an entry that moves samples owes: its answer and what it leaves are what the definitions say.
 use mathlib.Core.Path.{_≡_, refl, sym, ap, _∙_}
-use mathlib.Core.Bool.{Bool, true, false, cond}
+use mathlib.Core.Bool.{Bool, true, false}
 use mathlib.Core.List.{List, _++_}
 use Prim.Native.Nat.{ℕ, _≤_, _*_}
 use native.Mathlib.Omega.{arith}
@@ -12,7 +12,7 @@ use Rattle.rules.specs.declared.answer.Answer.{Answer}
 use Rattle.rules.specs.declared.answer.Size.{Size}
 use Rattle.rules.specs.Frame.{cells}
 use Rattle.rules.specs.Answer.{done, refused, first-of}
-use Rattle.rules.proofs.Tests.{neither}
+use Rattle.rules.proofs.Tests.{neither, by-test}
 use Rattle.refusals.proofs.RefusalLaws.{cells-most, size-most}
 use Rattle.planes.specs.Lent.{Within, Lends}
 use Rattle.frames.specs.Moved.{size, refusal, answer, after}
@@ -49,11 +49,7 @@ module _ (w h : ℕ) (from to : List ℕ) (k : ℕ) (e : k ≡ refusal (size w h
 
   pub refused-after : (moved : Size → List ℕ → List ℕ) → (k ≡ 0 → ⊥) → to ≡ after moved w h from to
   unfolding after
-  refused-after moved n = rw (← e) (go (eqb k 0) refl _)
-    where
-      go : (t : Bool) → eqb k 0 ≡ t → (new : List ℕ) → to ≡ cond t new to
-      go true q new = absurd (n (eqb-true k 0 q))
-      go false q new = refl
+  refused-after moved n = rw (← e) (by-test (eqb k 0) (λ q. rw q (absurd (n (eqb-true k 0 q)))) (λ q. rw q))
 
   module _ (ok : k ≡ 0) where
     pub lent : Lends (size w h) (take (w * h) from) (take (w * h) to)

@@ -1,5 +1,5 @@
 -- What the writer's entry owes: each refusal is the definition's, and else what was written is.
-use mathlib.Core.Path.{_≡_, refl, sym, ap, _∙_}
+use mathlib.Core.Path.{_≡_, sym, ap, _∙_}
 use mathlib.Core.Bool.{Bool, true, false, _||_, cond}
 use mathlib.Core.List.{List, _++_}
 use Prim.Native.Nat.{ℕ, _+_, _*_, _<_, _≤_}
@@ -14,7 +14,7 @@ use Rattle.rules.specs.Frame.{cells}
 use Rattle.rules.specs.Answer.{too-large, first-of, scratch-bytes}
 use Rattle.rules.specs.V0.{sample-kind, exchange}
 use Rattle.rules.proofs.Cells.{all-get}
-use Rattle.rules.proofs.Tests.{neither}
+use Rattle.rules.proofs.Tests.{neither, by-test}
 use Rattle.refusals.specs.Lending.{short}
 use Rattle.refusals.specs.declared.Lending.the-variants.{Nothing}
 use Rattle.refusals.proofs.RefusalLaws.{room}
@@ -57,24 +57,19 @@ module _ (samples : List ℕ) (w h : ℕ) (stream offsets : List ℕ) where
   -- 1 and 3.
   pub early-yields : (k : ℕ) (r : Written) → k ≡ early (c .size) (length samples) → (k ≡ 0 → ⊥) → r ≡ refused k → Yields c r stream offsets
   unfolding write-refusal first-of short
-  early-yields k r e n q = refused-yields k r (go (too-large (c .size)) (ltb (length samples) (cells (c .size))) e) n q
-    where
-      go : (t1 t3 : Bool) → k ≡ first-of t1 false (t3 || false) (false || false) → cond t1 1 (cond t3 3 (cond (too-bright (frame-of c)) 9 (cond (short-output c) 10 0))) ≡ k
-      go true t3 p = sym p
-      go false true p = sym p
-      go false false p = absurd (n p)
+  early-yields k r e n q = refused-yields k r (by-test (too-large (c .size))
+      (λ f. rw f (sym (rw f at e)))
+      (λ f. rw f (by-test (ltb (length samples) (cells (c .size))) (λ g. rw g (sym (rw (f, g) at e))) (λ g. rw g (absurd (n (rw (f, g) at e))))))) n q
 
   -- After them.
   module _ (k : ℕ) (e : k ≡ early (c .size) (length samples)) (z : k ≡ 0) (b : Bool) (t : b ≡ too-bright (take (w * h) samples)) where
     late : write-refusal c ≡ cond b 9 (cond (short-output c) 10 0)
     unfolding write-refusal first-of short
-    late = rw t (go (too-large (c .size)) (ltb (length samples) (cells (c .size))) (sym z ∙ e))
-      where
-        go : (t1 t3 : Bool) → 0 ≡ first-of t1 false (t3 || false) (false || false)
-            → cond {A = ℕ} t1 1 (cond t3 3 (cond (too-bright (frame-of c)) 9 (cond (short-output c) 10 0))) ≡ cond (too-bright (frame-of c)) 9 (cond (short-output c) 10 0)
-        go true t3 p = absurd (let q : 0 ≡ 1 = p in omega arith)
-        go false true p = absurd (let q : 0 ≡ 3 = p in omega arith)
-        go false false p = refl
+    late = rw t (by-test (too-large (c .size))
+        (λ f. rw f (absurd (let q : 0 ≡ 1 = (rw f at (sym z ∙ e)) in omega arith)))
+        (λ f. rw f (by-test (ltb (length samples) (cells (c .size)))
+        (λ g. rw g (absurd (let q : 0 ≡ 3 = (rw (f, g) at (sym z ∙ e)) in omega arith)))
+        (λ g. rw g))))
 
     -- 9.
     pub bright-yields : (r : Written) → b ≡ true → r ≡ refused 9 → Yields c r stream offsets

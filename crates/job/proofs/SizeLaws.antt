@@ -1,30 +1,30 @@
 -- How long a job's text is: at most 105,352 bytes.
 use Prim.Native.Nat.{ℕ, zero, suc, _+_, _-_, _*_, _/_, _%_, _≤_, _<_}
-use mathlib.Core.Path.{_≡_, refl, ap, _∙_}
+use mathlib.Core.Path.{_≡_, ap, _∙_}
 use mathlib.Core.Bool.{Bool, true, false, cond}
 use mathlib.Core.List.{List, [], _∷_, _++_}
 use native.Mathlib.Omega.{arith}
 use native.Mathlib.Nat.{mul-le-mul-right, mul-comm}
-use lib.ListN.{length, take, drop, replicate, length-append, length-take}
+use lib.ListN.{length, take, drop, length-append, length-take}
 use lib.Dec.{ltb, eqb}
 use borrow.Author.Tests.{ltb-true, ltb-false}
-use Rattle.rules.specs.Job.{most-samples, half-word-at, job-ask, job-lent, digits, fault, done-line, refused-line, samples-text, rows-text, answer-text}
-use Rattle.rules.specs.Answer.{answer, samples-after, map-after}
+use Rattle.rules.specs.Job.{half-word-at, job-ask, job-lent, digits, fault, done-line, refused-line, samples-text, rows-text, answer-text}
+use Rattle.rules.specs.Answer.{answer}
 use Rattle.job.specs.Fields.{Sound}
 use Rattle.job.specs.Written.{Room, row-text}
 use Rattle.job.proofs.DecimalLaws.{digits-one, digits-more}
 use Rattle.job.proofs.TextLaws.{rows-next}
+use Rattle.rules.proofs.Tests.{by-test}
 
 -- ── Numbers ──
 
 pub digits-most : (k v : ℕ) → length (digits k v) ≤ k
 unfolding digits
 digits-most zero v = omega arith
-digits-most (suc k) v = go (λ x. digits-most k x) (ltb v 10)
-  where
-    go : ((x : ℕ) → length (digits k x) ≤ k) → (t : Bool) → length (cond t ((48 + v) ∷ []) (digits k (v / 10) ++ ((48 + v % 10) ∷ []))) ≤ suc k
-    go most true = omega arith
-    go most false = omega (arith, length-append (digits k (v / 10)) ((48 + v % 10) ∷ []), most (v / 10))
+digits-most (suc k) v =
+    by-test (ltb v 10)
+    (λ e. rw e (omega arith))
+    (λ e. rw e (omega (arith, length-append (digits k (v / 10)) ((48 + v % 10) ∷ []), digits-most k (v / 10))))
 
 short : (k v : ℕ) → 0 < k → v < 10 → length (digits k v) ≡ 1
 short k v h l = ap length (digits-one k v h l)
@@ -33,11 +33,7 @@ longer : (k v : ℕ) → 0 < k → 10 ≤ v → length (digits k v) ≡ length (
 longer k v h l = ap length (digits-more k v h l) ∙ length-append (digits (k - 1) (v / 10)) ((48 + v % 10) ∷ [])
 
 split : (a b : ℕ) {P : Type 0} → (a < b → P) → (b ≤ a → P) → P
-split a b {P} f g = go (ltb a b) refl
-  where
-    go : (t : Bool) → ltb a b ≡ t → P
-    go true e = f (ltb-true a b e)
-    go false e = g (ltb-false a b e)
+split a b f g = by-test (ltb a b) (λ e. f (ltb-true a b e)) (λ e. g (ltb-false a b e))
 
 -- How many digits the numbers below n have together, up to 10,000.
 unfoldable digits-below : ℕ → ℕ
@@ -104,11 +100,10 @@ fault-room t n h = record { fits = omega (arith, length-append (digits 5 n) (10 
 
 pub answer-room : (s t : List ℕ) (w h : ℕ) → Sound s w h → 105_352 ≤ length t → Room t 0 (answer-text s)
 unfolding answer-text
-answer-room s t w h q l = record { fits = omega (arith, go (eqb (answer (job-ask s) job-lent .number) 0)) }
+answer-room s t w h q l = record { fits = omega (arith, few) }
   where
-    zeros : List ℕ
-    zeros = replicate {A = ℕ} most-samples 0
-
-    go : (b : Bool) → length (cond b (done-line ++ rows-text (half-word-at s 5) (half-word-at s 7) 0 (samples-after (job-ask s) job-lent zeros) (map-after (job-ask s) job-lent zeros)) (refused-line (answer (job-ask s) job-lent .number))) ≤ 105_352
-    go true = frame-most (half-word-at s 5) (half-word-at s 7) _ _ (rw (q .width-is, q .height-is) at (q .few)) (omega (arith, q .short, rw (q .height-is) at (q .table)))
-    go false = refused-most (answer (job-ask s) job-lent .number)
+    few : length (answer-text s) ≤ 105_352
+    few =
+        by-test (eqb (answer (job-ask s) job-lent .number) 0)
+        (λ e. rw e (frame-most (half-word-at s 5) (half-word-at s 7) _ _ (rw (q .width-is, q .height-is) at (q .few)) (omega (arith, q .short, rw (q .height-is) at (q .table)))))
+        (λ e. rw e (refused-most (answer (job-ask s) job-lent .number)))

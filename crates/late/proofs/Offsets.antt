@@ -1,9 +1,10 @@
 -- V0: two offset tables that agree before entry r give frames that agree on all rows before r − (r mod 2). Rows before r are read
 -- alike, later rows write nothing there, and the exchange joins rows in pairs.
 use Prim.Native.Nat.{ℕ, zero, suc, _+_, _-_, _*_, _/_, _%_, _≤_, _<_}
-use mathlib.Core.Bool.{Bool, true, false, cond}
+use mathlib.Core.Bool.{Bool}
 use mathlib.Core.Path.{_≡_, refl, sym, ap, _∙_}
 use mathlib.Core.List.{List, _++_, append-assoc}
+use mathlib.Core.Logic.{by-cases}
 use native.Mathlib.Omega.{arith}
 use native.Mathlib.Decide.{ℕ-discrete, decLt}
 use native.Mathlib.Nat.{mul-le-mul-right, zero-add, add-zero, suc-add}
@@ -13,12 +14,12 @@ use Rattle.rules.specs.declared.answer.Size.{Size}
 use Rattle.rules.specs.declared.v0.Predictor.{Predictor}
 use Rattle.rules.specs.declared.v0.V0Op.{V0Op}
 use Rattle.rules.specs.declared.v0.V0Row.{V0Row}
-use Rattle.rules.specs.Frame.{change-cells}
 use Rattle.rules.specs.V0.{Kind, Block, apply, write, write-all, swap, exchange-columns, exchange-rows, exchange, frame, rows, row-blocks, blocks, blocks-in, fresh-row, order, predictor}
 use Rattle.rules.proofs.Cells.{All, nil, more, all-append, all-map, all-every, change-other}
 use Rattle.rules.proofs.V0Blocks.{after}
 use Rattle.rules.proofs.V0Cells.{write-all-length, write-all-append}
 use Rattle.rules.proofs.Spill.{cell, Agree, put-other, samples-all}
+use Rattle.rules.proofs.Tests.{by-test}
 use Rattle.late.specs.Late.{AgreeBefore, whole-pairs}
 
 -- ── Rows ──
@@ -76,14 +77,13 @@ module _ {A : Type 0} (k : Kind A) where
   -- Blocks at or after a place change nothing before it.
   write-low : (n : ℕ) (b : Block) → Low n b → (f : List A) → Agree k n (write k b f) f
   unfolding write
-  write-low n b h f i l = go (b .filler)
+  write-low n b h f i l =
+      by-test (b .filler)
+      (λ e. rw e (change-other (k .filled) (k .constant 0) 16 (b .place) g i (λ q. let p = h .place in absurd (omega arith)) ∙ apply-low n (h .ops) f i l))
+      (λ e. rw e (apply-low n (h .ops) f i l))
     where
       g : List A
       g = apply k (b .ops) f
-
-      go : (t : Bool) → cell k (cond t (change-cells (k .filled) (k .constant 0) 16 (b .place) g) g) i ≡ cell k f i
-      go true = change-other (k .filled) (k .constant 0) 16 (b .place) g i (λ q. let p = h .place in absurd (omega arith)) ∙ apply-low n (h .ops) f i l
-      go false = apply-low n (h .ops) f i l
 
   write-all-low : (n : ℕ) {bs : List Block} → All (Low n) bs → (f : List A) → Agree k n (write-all k bs f) f
   unfolding write-all
@@ -98,12 +98,12 @@ module _ {A : Type 0} (k : Kind A) where
     over : n ≤ a → n ≤ b → Side n a b
 
   set-same : (n a : ℕ) (x : A) (f g : List A) → length f ≡ length g → Agree k n f g → Agree k n (set f a x) (set g a x)
-  set-same n a x f g e h i l = go (ℕ-discrete i a) (decLt a (length f))
-    where
-      go : Dec (i ≡ a) → Dec (a < length f) → cell k (set f a x) i ≡ cell k (set g a x) i
-      go (no q) d = getD-set-other f a i x _ q ∙ h i l ∙ sym (getD-set-other g a i x _ q)
-      go (yes q) (yes d) = rw q (getD-set-same f a x _ d ∙ sym (getD-set-same g a x _ (omega arith)))
-      go (yes q) (no d) = rw (set-out f a x (omega arith), set-out g a x (omega arith)) (h i l)
+  set-same n a x f g e h i l =
+      by-cases (ℕ-discrete i a)
+      (λ q. by-cases (decLt a (length f))
+      (λ d. rw q (getD-set-same f a x _ d ∙ sym (getD-set-same g a x _ (omega arith))))
+      (λ d. rw (set-out f a x (omega arith), set-out g a x (omega arith)) (h i l)))
+      (λ q. getD-set-other f a i x _ q ∙ h i l ∙ sym (getD-set-other g a i x _ q))
 
   set-over : (n a : ℕ) (x y : A) (f g : List A) → n ≤ a → Agree k n f g → Agree k n (set f a x) (set g a y)
   set-over n a x y f g q h i l =
@@ -164,15 +164,13 @@ module _ {A : Type 0} (k : Kind A) where
         ∙ write-all-low (m * z .width) (rows-low s o z rest m) (write-all k (rows s o z m 0) f) i q
 
     plain-same : (o o′ : List ℕ) (r : ℕ) → AgreeBefore r o o′ → Agree k (r * z .width) (plain o) (plain o′)
-    plain-same o o′ r h i q = go (decLt r (z .height))
-      where
-        go : Dec (r < z .height) → cell k (plain o) i ≡ cell k (plain o′) i
-        go (yes l) =
-            let e : r + (z .height - r) ≡ z .height = omega arith in
-            plain-early o r (z .height - r) e i q
-            ∙ ap (λ bs. cell k (write-all k bs f) i) (rows-alike s o o′ z r 0 (λ j u. h j (omega arith)))
-            ∙ sym (plain-early o′ r (z .height - r) e i q)
-        go (no l) = ap (λ bs. cell k (write-all k bs f) i) (rows-alike s o o′ z (z .height) 0 (λ j u. h j (omega arith)))
+    plain-same o o′ r h i q =
+        by-cases (decLt r (z .height))
+        (λ l. let e : r + (z .height - r) ≡ z .height = omega arith in
+        plain-early o r (z .height - r) e i q
+        ∙ ap (λ bs. cell k (write-all k bs f) i) (rows-alike s o o′ z r 0 (λ j u. h j (omega arith)))
+        ∙ sym (plain-early o′ r (z .height - r) e i q))
+        (λ l. ap (λ bs. cell k (write-all k bs f) i) (rows-alike s o o′ z (z .height) 0 (λ j u. h j (omega arith))))
 
     -- Two tables that agree before entry r give frames that agree on all rows before r − (r mod 2), over every kind of cell.
     pub late-offsets : (o o′ : List ℕ) (r : ℕ) → AgreeBefore r o o′ → Agree k (whole-pairs r * z .width) (frame k s o z f) (frame k s o′ z f)

@@ -12,7 +12,6 @@ use lib.Seq.{sets, getD-set-other}
 use Rattle.rules.specs.declared.answer.Size.{Size}
 use Rattle.rules.specs.declared.reader.Bits.{Bits}
 use Rattle.rules.specs.declared.v2.V2Hdr.{V2Hdr}
-use Rattle.rules.specs.Frame.{change-cells}
 use Rattle.rules.specs.Reader.{held, read, fields}
 use Rattle.rules.specs.V2.{Kind, Block, Row, Frame, header, aligned, read-row, then-rows, rows, read-frame, block-cells, write, apply, frame, sample-kind, top, decoded}
 use Rattle.rules.specs.Map.{v2-map}
@@ -20,6 +19,7 @@ use Rattle.rules.proofs.Cells.{All, nil, more, all-map, change-other}
 use Rattle.rules.proofs.V2Longer.{run-from, rows-run}
 use Rattle.rules.proofs.V2Position.{PositionAt, position-starts, position-next, position-below, aligned-plain}
 use Rattle.rules.proofs.V2Rows.{then-rows-cases}
+use Rattle.rules.proofs.Tests.{by-test}
 use Rattle.late.specs.Late.{AgreeIn, header-bytes, fetched-past, first-past-from, first-past, state-after, none-refused, Reads}
 use Rattle.late.proofs.Trail.{Below, Tells, tells, run-moves}
 use Rattle.late.proofs.V2Trail.{header-trail, row-trail}
@@ -49,15 +49,15 @@ module _ (w row : ℕ) (wide : w ≤ 16_384) (high : row ≤ 16_384) (b : Bits) 
 -- So both or neither fetch one.
 past-same : (w row : ℕ) → w ≤ 16_384 → row ≤ 16_384 → (b : Bits) → PositionAt w row b → (p : ℕ) (s t : List ℕ) → AgreeIn p s t → (h : V2Hdr)
     → fetched-past p (aligned b) (read-row t h w row b .bits) ≡ fetched-past p (aligned b) (read-row s h w row b .bits)
-past-same w row wide high b at p s t agree h = go (past s) refl (past t) refl
+past-same w row wide high b at p s t agree h =
+    by-test (past s)
+    (λ e. by-test (past t)
+    (λ e′. e′ ∙ sym e)
+    (λ e′. ap (λ q. fetched-past p (aligned b) (q .bits)) (row-same w row wide high b at p t s (agree-back agree) h e′)))
+    (λ e. ap (λ q. fetched-past p (aligned b) (q .bits)) (sym (row-same w row wide high b at p s t agree h e)))
   where
     past : List ℕ → Bool
     past v = fetched-past p (aligned b) (read-row v h w row b .bits)
-
-    go : (x : Bool) → past s ≡ x → (y : Bool) → past t ≡ y → past t ≡ past s
-    go true e true e′ = e′ ∙ sym e
-    go true e false e′ = ap (λ q. fetched-past p (aligned b) (q .bits)) (row-same w row wide high b at p t s (agree-back agree) h e′)
-    go false e y e′ = ap (λ q. fetched-past p (aligned b) (q .bits)) (sym (row-same w row wide high b at p s t agree h e))
 
 -- ── The row that the definition names ──
 
@@ -79,12 +79,9 @@ module _ (p : ℕ) (s : List ℕ) (h : V2Hdr) (w : ℕ) (wide : w ≤ 16_384) wh
   first-least : (k row : ℕ) (b : Bits) → row ≤ first-past-from p s h w k row b
   unfolding first-past-from
   first-least zero row b = omega arith
-  first-least (suc k) row b = let q = read-row s h w row b in go (fetched-past p (aligned b) (q .bits)) (eqb (q .number) 0) _ (first-least k (suc row) (q .bits))
-    where
-      go : (x y : Bool) (n : ℕ) → suc row ≤ n → row ≤ cond x row (cond y n (row + suc k))
-      go true y n l = omega arith
-      go false true n l = omega arith
-      go false false n l = omega arith
+  first-least (suc k) row b = let q = read-row s h w row b in by-test (fetched-past p (aligned b) (q .bits))
+      (λ e. rw e (omega arith))
+      (λ f. rw f (by-test (eqb (q .number) 0) (λ e. rw e (omega (arith, first-least k (suc row) (q .bits)))) (λ e. rw e (omega arith))))
 
   -- Rows before it that are read fetch no word past p ..
   early-rows : (k row : ℕ) → row + k ≤ 16_384 → (b : Bits) → PositionAt w row b → (m n : ℕ) → m ≡ row + n → m < first-past-from p s h w k row b → n < k
@@ -255,19 +252,15 @@ module _ (p : ℕ) (s t : List ℕ) (agree : AgreeIn p s t) (h : V2Hdr) (w : ℕ
   rows-first zero row high b at = refl
   rows-first (suc k) row high b at =
       rw (past-same w row wide (omega arith) b at p s t agree h)
-      (go (fetched-past p (aligned b) (q .bits)) refl (rows-first k (suc row) (omega arith) (q .bits) (position-next s h w row b at)))
+      (by-test (fetched-past p (aligned b) (q .bits))
+      (λ e. rw e)
+      (λ e. rw e (ap (on t) (sym (row-same w row wide (omega arith) b at p s t agree h e)) ∙ ap (λ n. cond (eqb (q .number) 0) n (row + suc k)) (rows-first k (suc row) (omega arith) (q .bits) (position-next s h w row b at)))))
     where
       q : Row
       q = read-row s h w row b
 
       on : List ℕ → Row → ℕ
       on v x = cond (eqb (x .number) 0) (first-past-from p v h w k (suc row) (x .bits)) (row + suc k)
-
-      go : (x : Bool) → fetched-past p (aligned b) (q .bits) ≡ x → first-past-from p t h w k (suc row) (q .bits) ≡ first-past-from p s h w k (suc row) (q .bits)
-          → cond x row (on t (read-row t h w row b)) ≡ cond x row (on s q)
-      go true e r = refl
-      go false e r =
-          ap (on t) (sym (row-same w row wide (omega arith) b at p s t agree h e)) ∙ ap (λ n. cond (eqb (q .number) 0) n (row + suc k)) r
 
 -- ── Cells ──
 
@@ -282,18 +275,17 @@ module _ {A : Type 0} (k : Kind A) where
   sets-low (v ∷ vs) f i j d l = sets-low vs (set f i v) (suc i) j d (omega arith) ∙ getD-set-other f i j v d (λ e. omega arith)
 
   write-low : (b : Block) (f : List A) (j : ℕ) → j < b .place → getD (write k b f) j (k .constant 0) ≡ getD f j (k .constant 0)
-  unfolding write
-  write-low b f j l = go (b .filler)
+  unfolding write block-cells
+  write-low b f j l =
+      by-test (b .filler)
+      (λ e. rw e (change-other (k .filled) (k .constant 0) 16 (b .place) g j (λ q. absurd (omega arith)) ∙ low))
+      (λ e. rw e low)
     where
       g : List A
       g = sets f (b .place) (block-cells k f b)
 
       low : getD g j (k .constant 0) ≡ getD f j (k .constant 0)
       low = sets-low (block-cells k f b) f (b .place) j (k .constant 0) l
-
-      go : (t : Bool) → getD (cond t (change-cells (k .filled) (k .constant 0) 16 (b .place) g) g) j (k .constant 0) ≡ getD f j (k .constant 0)
-      go true = change-other (k .filled) (k .constant 0) 16 (b .place) g j (λ q. absurd (omega arith)) ∙ low
-      go false = low
 
   -- Blocks at or after a place change nothing before it.
   apply-low : (m : ℕ) {xs : List Block} → All (λ x. m ≤ x .place) xs → (f : List A) (j : ℕ) → j < m

@@ -16,6 +16,7 @@ use Rattle.rules.specs.Reader.{held, read, fields, four, read-signed, signed}
 use Rattle.rules.specs.Missing.{fetches}
 use Rattle.rules.proofs.Cells.{All, nil, more, all-append, all-map}
 use Rattle.rules.proofs.ReaderLaws.{read-held, read-next, read-agree}
+use Rattle.rules.proofs.Tests.{by-test}
 use Rattle.late.specs.Late.{AgreeIn, fetched-past, Reads, stay, reads}
 
 -- ── Lists ──
@@ -77,11 +78,7 @@ module _ {p : ℕ} {s : List ℕ} where
 
 fetches-few : (b : Bits) (n : ℕ) → length (fetches b n ++ []) ≤ 1
 unfolding fetches
-fetches-few b n = go (leb (min n 32) (held b))
-  where
-    go : (t : Bool) → length (cond t [] (b .pos ∷ []) ++ []) ≤ 1
-    go true = omega arith
-    go false = omega arith
+fetches-few b n = by-test (leb (min n 32) (held b)) (λ e. rw e (omega arith)) (λ e. rw e (omega arith))
 
 module _ (p : ℕ) (s u : List ℕ) (agree : AgreeIn p s u) where
   read-same : (b : Bits) (n : ℕ) → Below p (fetches b n ++ []) → read s b n ≡ read u b n
@@ -123,21 +120,15 @@ module _ (p : ℕ) (s u : List ℕ) (agree : AgreeIn p s u) where
 -- Each word moves the position on by 4, unless it wraps.
 read-moves : (s : List ℕ) (b : Bits) (n : ℕ) → b .pos + 4 * length (fetches b n) < 2 ^ 64 → read s b n .bits .pos ≡ b .pos + 4 * length (fetches b n)
 unfolding fetches
-read-moves s b n = go (leb (min n 32) (held b)) refl
-  where
-    go : (t : Bool) → leb (min n 32) (held b) ≡ t → b .pos + 4 * length (cond t [] (b .pos ∷ [])) < 2 ^ 64
-        → read s b n .bits .pos ≡ b .pos + 4 * length (cond t [] (b .pos ∷ []))
-    go true e l = rw (read-held s b n (leb-true _ _ e)) (omega arith)
-    go false e l = rw (read-next s b n (leb-false _ _ e)) (omega arith)
+read-moves s b n =
+    by-test (leb (min n 32) (held b))
+    (λ e. rw e (λ l. rw (read-held s b n (leb-true _ _ e)) (omega arith)))
+    (λ e. rw e (λ l. rw (read-next s b n (leb-false _ _ e)) (omega arith)))
 
 -- It is fetched at the position.
 fetches-end : (b : Bits) (n e : ℕ) → b .pos + 4 * length (fetches b n) ≤ e → Below e (fetches b n)
 unfolding fetches
-fetches-end b n e = go (leb (min n 32) (held b))
-  where
-    go : (t : Bool) → b .pos + 4 * length (cond t [] (b .pos ∷ [])) ≤ e → Below e (cond t [] (b .pos ∷ []))
-    go true l = nil
-    go false l = let q : b .pos + 4 ≤ e = omega arith in more q nil
+fetches-end b n e = by-test (leb (min n 32) (held b)) (λ f. rw f (λ l. nil)) (λ f. rw f (λ l. let q : b .pos + 4 ≤ e = omega arith in more q nil))
 
 fetches-below : (b : Bits) (n p : ℕ) → Below p (fetches b n) → (length (fetches b n) ≡ 0) ⊎ (b .pos + 4 * length (fetches b n) ≤ p)
 unfolding fetches

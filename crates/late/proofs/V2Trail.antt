@@ -19,6 +19,7 @@ use Rattle.rules.specs.Reader.{has-filler, fresh, read, four}
 use Rattle.rules.specs.V2.{field-widths, header, option-1, option-2, option-4, aligned, fresh-row, fresh-mode, scale-steps, rescaled, read-scale, read-motion, base, base-refusal, lengths-bit, colour, read-length, Moded, length-step, lengths-from, no-lengths, flagged-lengths, read-lengths, position, Differences, difference-step, differences-from, read-differences, Block, Parsed, Tail, tail, based-tail, read-block, state-after, Row, then, blocks, read-row}
 use Rattle.late.specs.Late.{AgreeIn}
 use Rattle.late.proofs.Trail.{Trail, trail-none, trail-map, trail-then, trail-cond, wider, read-trail, fields-trail, four-trail, read-signed-trail}
+use Rattle.rules.proofs.Tests.{by-test}
 
 -- ── What is read ──
 
@@ -202,18 +203,18 @@ module _ (p : ℕ) (s u : List ℕ) (agree : AgreeIn p s u) (h : V2Hdr) (w row :
 
     based-tail-trail : (b : Bits) → Trail p s 25 state b (close (based-tail s h row col st mode b)) (close (based-tail u h row col st mode b))
     unfolding based-tail
-    based-tail-trail b = go (eqb (base-refusal row col (st .motion)) 5) (eqb (base-refusal row col (st .motion)) 6)
+    based-tail-trail b =
+        by-test (eqb (base-refusal row col (st .motion)) 5)
+        (λ e. rw e (wider (omega arith) (trail-none state (close early))))
+        (λ f. rw f (by-test (eqb (base-refusal row col (st .motion)) 6)
+        (λ e. rw e (wider (omega arith) (trail-none state (close outside))))
+        (λ e. rw e (tail-trail b))))
       where
         early : Tail
         early = record { outcome = EarlyMotion b; mode = mode; differences = [] }
 
         outside : Tail
         outside = record { outcome = Outside b; mode = mode; differences = [] }
-
-        go : (t v : Bool) → Trail p s 25 state b (close (cond t early (cond v outside (tail s h row st mode b)))) (close (cond t early (cond v outside (tail u h row st mode b))))
-        go true v = wider (omega arith) (trail-none state (close early))
-        go false true = wider (omega arith) (trail-none state (close outside))
-        go false false = tail-trail b
 
   read-block-trail : (col : ℕ) (b : Bits) (st : V2Row) (mode : List (List ℕ))
       → Trail p s 29 state b (seen (read-block s h w row col b st mode)) (seen (read-block u h w row col b st mode))

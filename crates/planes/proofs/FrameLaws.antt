@@ -102,6 +102,13 @@ start-room z row h = go (row % 2) refl
         rw n (omega (arith, rows-all (z .width) (z .height)), omega arith)
     go (suc (suc r)) e = absurd (omega arith)
 
+-- What there is to count on where a row is taken: its half, itself, both halves and the planes.
+pub take-room : {z : Size} {row : ℕ} {planes to : List ℕ} → RowLent z row planes to
+    → ((start z row + rows-with (row % 2) (z .height) * z .width ≤ cells z) × (row / 2 < rows-with (row % 2) (z .height)))
+    × (((row * z .width + z .width ≤ cells z) × (cells z ≤ 268_435_456))
+    × ((even-count (z .height) * z .width + odd-count (z .height) * z .width ≡ z .width * z .height) × (length planes ≡ cells z)))
+take-room {z} {row} p = (start-room z row (p .below), (row-room z row (p .within) (p .below), (rows-all (z .width) (z .height), p .read)))
+
 pub row-back : (z : Size) (row : ℕ) (p : List ℕ) → row < z .height
     → row-taken (z .width) (rows-with (row % 2) (z .height)) (row / 2) (drop (start z row) p) ≡ getD (rows-back z p) row []
 row-back z row p h = go (row % 2) refl

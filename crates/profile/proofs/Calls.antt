@@ -1,7 +1,7 @@
 -- A call for clean frames that is done yields what the plain call yields, with a map that is all 0 and no word missing; a call that is
 -- refused leaves all as it was.
 use Prim.Native.Nat.{ℕ}
-use mathlib.Core.Bool.{Bool, true, false, cond}
+use mathlib.Core.Bool.{cond}
 use mathlib.Core.Path.{_≡_, refl, sym, ap, _∙_}
 use mathlib.Core.Logic.{_≢_}
 use mathlib.Core.List.{List, _++_}
@@ -16,6 +16,7 @@ use Rattle.rules.specs.V0.{decoded, frame-filler}
 use Rattle.rules.specs.Map.{v0-map}
 use Rattle.rules.specs.Answer as Plain
 use Rattle.rules.proofs.Refusals.{map-enough}
+use Rattle.rules.proofs.Tests.{by-test}
 use Rattle.profile.specs.Profile.{verdict}
 use Rattle.profile.specs.Clean.{answer, taken, samples-after, map-after, Yields}
 use Rattle.profile.proofs.Verdicts.{Clean, accepted-clean, clean-accepted, clean-map}
@@ -39,11 +40,10 @@ module _ (a : Plain.Ask) (l : Plain.Lent) where
 
   pub done-taken : answer a l .number ≡ 0 → Taken
   unfolding answer
-  done-taken = go (eqb (Plain.refusal a l) 0) refl
-    where
-      go : (t : Bool) → eqb (Plain.refusal a l) 0 ≡ t → cond t (verdict (a .stream) (a .offsets) (a .size)) (Plain.refused (Plain.refusal a l)) .number ≡ 0 → Taken
-      go true q e = record { passed = eqb-true _ 0 q; clean = accepted-clean (a .stream) (a .offsets) (a .size) e }
-      go false q e = absurd (eqb-false _ 0 q e)
+  done-taken =
+      by-test (eqb (Plain.refusal a l) 0)
+      (λ q. rw q (λ e. record { passed = eqb-true _ 0 q; clean = accepted-clean (a .stream) (a .offsets) (a .size) e }))
+      (λ q. rw q (λ e. absurd (eqb-false _ 0 q e)))
 
   -- A clean frame is taken, once the plain call's refusals are passed.
   pub taken-done : Taken → answer a l ≡ Plain.done
@@ -145,17 +145,13 @@ module _ (a : Plain.Ask) (direct : a .decoder ≡ Plain.direct) (l : Plain.Lent)
       → new ++ drop (cells (a .size)) buffer ≡ samples-after a l buffer
   unfolding samples-after
   checked-samples new buffer en =
-      ap (λ x. x ++ drop n buffer) en ∙ ap (λ v. cond (eqb (v .number) 0) whole (take n buffer) ++ drop n buffer) checked-answer ∙ go (taken a l)
+      ap (λ x. x ++ drop n buffer) en ∙ ap (λ v. cond (eqb (v .number) 0) whole (take n buffer) ++ drop n buffer) checked-answer ∙ by-test (taken a l) (λ e. rw e (sym (plain-samples buffer))) (λ e. rw e (take-append-drop n buffer))
     where
       n : ℕ
       n = cells (a .size)
 
       whole : List ℕ
       whole = decoded (a .stream) (a .offsets) (a .size) (take n buffer)
-
-      go : (t : Bool) → cond t whole (take n buffer) ++ drop n buffer ≡ cond t (Plain.samples-after a l buffer) buffer
-      go true = sym (plain-samples buffer)
-      go false = take-append-drop n buffer
 
   pub fault-map : r .number ≢ 0 → (buffer : List ℕ) → some buffer ≡ Option·map (map-after a l) (some buffer)
   fault-map ne buffer = ap some (sym (map-kept a l (λ q. ne (ap (λ v. v .number) checked-answer ∙ q)) buffer))

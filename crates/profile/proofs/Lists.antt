@@ -1,8 +1,7 @@
 -- A call for clean frames among others on one sample buffer. One that is done is the plain call by what it yields, so what is claimed of
 -- lists of decoder calls holds of it; one that is refused leaves the samples as it found them.
 use Prim.Native.Nat.{ℕ}
-use mathlib.Core.Bool.{Bool, true, false}
-use mathlib.Core.Path.{_≡_, refl, sym, ap, _∙_}
+use mathlib.Core.Path.{_≡_, sym, ap, _∙_}
 use mathlib.Core.Logic.{_≢_}
 use mathlib.Core.List.{List, _++_}
 use mathlib.Core.Option.{Option, none, some, Option·map}
@@ -12,7 +11,8 @@ use borrow.Author.Tests.{eqb-true, eqb-false}
 use Rattle.rules.specs.declared.answer.Answer.{Answer}
 use Rattle.rules.specs.Frame.{cells}
 use Rattle.rules.specs.Answer as Plain
-use Rattle.rules.proofs.Isolation.{Returned, Samples, Step, decodes}
+use Rattle.rules.proofs.Isolation.{Returned, Step, decodes}
+use Rattle.rules.proofs.Tests.{by-test}
 use Rattle.profile.specs.Clean.{answer, map-after, Yields}
 use Rattle.profile.proofs.Calls.{done-taken, taken-done, map-all-0, yields-plain, samples-kept}
 
@@ -41,16 +41,18 @@ returned c e =
 -- What it does to the sample buffer, done or not.
 unfoldable pub step : Checked → Step
 unfolding returned
-step c = record { found = c .samples; left = c .left; below = go (eqb (c .answered .number) 0) refl }
+step c = record {
+  found = c .samples;
+  left = c .left;
+  below = by-test (eqb (c .answered .number) 0)
+      (λ q. λ h. decodes (returned c (eqb-true (c .answered .number) 0 q)) .below h)
+      (λ q. λ h. rw (refused (eqb-false (c .answered .number) 0 q)) h);
+}
   where
     refused : c .answered .number ≢ 0 → c .left ≡ c .samples
     refused ne =
         c .yields .samples
         ∙ samples-kept (c .ask) (Plain.lengths (Plain.buffers (c .samples) (c .map) none)) (λ z. ne (ap (λ v. v .number) (c .yields .answered) ∙ z)) (c .samples)
-
-    go : (t : Bool) → eqb (c .answered .number) 0 ≡ t → Samples (c .samples) → Samples (c .left)
-    go true q h = decodes (returned c (eqb-true (c .answered .number) 0 q)) .below h
-    go false q h = rw (refused (eqb-false (c .answered .number) 0 q)) h
 
 -- ── One that is done ──
 

@@ -3,7 +3,7 @@
 -- means that the map has a byte with part 1, and so does 17 in row 1 from width 9 on, unless the width is 1 above a multiple of 16. At
 -- the other widths it may mean nothing (Examples.antt).
 use Prim.Native.Nat.{ℕ, zero, suc, _+_, _*_, _/_, _%_, _≤_, _<_}
-use mathlib.Core.Bool.{Bool, true, false, cond, not, _&&_}
+use mathlib.Core.Bool.{Bool, true, false, cond, not}
 use mathlib.Core.Path.{_≡_, refl, sym, ap, _∙_}
 use mathlib.Core.Logic.{_≢_, _⊎_, inl, inr}
 use mathlib.Core.List.{List, [], _∷_}
@@ -29,7 +29,7 @@ use Rattle.rules.specs.Map.{old-part, with-filler, v0-marks, v0-map, all-old}
 use Rattle.rules.proofs.Cells.{All, nil, more, all-append, all-map, change-other, change-at}
 use Rattle.rules.proofs.Order.{all-order}
 use Rattle.rules.proofs.Spill.{samples-all}
-use Rattle.rules.proofs.Tests.{clash}
+use Rattle.rules.proofs.Tests.{clash, by-test}
 use Rattle.rules.proofs.V0Blocks.{block, after}
 use Rattle.rules.proofs.V0Cells.{write-all-length, apply-length}
 use Rattle.profile.specs.Profile.{all-fit, first-fault, block-fault, or-next, blocks-fault, row-fault, verdict, rows-verdict}
@@ -102,32 +102,29 @@ module _ (s : List ℕ) (first : ℕ) (predict : ℕ → Bool → ℕ → Predic
 -- 17: the row is 0 or 1, and the block's direction is 1.
 upward : (row : ℕ) (h : V0Head) (end : Bits) → block-fault row h end ≡ 17 → (row < 2) × (h .up ≡ true)
 unfolding block-fault first-fault
-upward row h end = go (ltb row 2) (h .up) (not (all-fit (h .row .lengths))) (has-filler end) refl
+upward row h end =
+    by-test (ltb row 2)
+    (λ q. rw q (by-test (h .up)
+    (λ f. rw f (λ e. (ltb-true row 2 q, refl)))
+    (λ f. rw f (λ e. absurd (later (not (all-fit (h .row .lengths))) (has-filler end) e)))))
+    (λ q. rw q (λ e. absurd (later (not (all-fit (h .row .lengths))) (has-filler end) e)))
   where
     later : (v m : Bool) → first-fault false v m ≢ 17
     later true m e = let z : _≡_ {A = ℕ} 18 17 = e in omega arith
     later false true e = let z : _≡_ {A = ℕ} 19 17 = e in omega arith
     later false false e = never 16 (sym e)
 
-    go : (t u v m : Bool) → ltb row 2 ≡ t → first-fault (t && u) v m ≡ 17 → (row < 2) × (u ≡ true)
-    go true true v m q e = (ltb-true row 2 q, refl)
-    go true false v m q e = absurd (later v m e)
-    go false u v m q e = absurd (later v m e)
-
 upward-early : (s : List ℕ) (z : Size) (row n col : ℕ) (st : V0Row) → blocks-fault s z row n col st ≡ 17 → row < 2
 unfolding blocks-fault
 upward-early s z row zero col st e = absurd (never 16 (sym e))
-upward-early s z row (suc n) col st e = go (eqb fault 0) (λ q. upward-early s z row n (col + 16) _ q) e
+upward-early s z row (suc n) col st e =
+    by-test (eqb fault 0) (λ f. upward-early s z row n (col + 16) _ (rw f at e)) (λ f. upward row _ _ (rw f at e) .0)
   where
     fault : ℕ
     fault = block-fault row (V0.head s st) (block s (row * z .width) (V0.predictor z row) col st .bits)
 
     rest : ℕ
     rest = blocks-fault s z row n (col + 16) (after s (row * z .width) (V0.predictor z row) col st)
-
-    go : (t : Bool) → (rest ≡ 17 → row < 2) → cond t rest fault ≡ 17 → row < 2
-    go true later e = later e
-    go false later e = upward row _ _ e .0
 
 -- In a row whose blocks of direction 1 skip some sample, its number picked by the block's column.
 module _ (s : List ℕ) (z : Size) (row : ℕ) (pick : ℕ → ℕ) (low : (col : ℕ) → pick col < 16)
@@ -337,39 +334,30 @@ module _ (s offsets : List ℕ) (z : Size) where
       pick col = picked (eqb col 0) (ltb w 16)
 
       low : (col : ℕ) → pick col < 16
-      low col = go (eqb col 0) (ltb w 16)
-        where
-          go : (t u : Bool) → picked t u < 16
-          go true true = omega arith
-          go true false = omega arith
-          go false u = omega arith
+      low col =
+          by-test (eqb col 0)
+          (λ f. rw f (by-test (ltb w 16) (λ e. rw e (omega arith)) (λ e. rw e (omega arith))))
+          (λ e. rw e (omega arith))
 
       skips : (col : ℕ) → V0.predictor z 1 col true (pick col) ≡ Skipped
-      skips col = go (eqb col 0) (ltb w 16)
-        where
-          go : (t u : Bool) → V0.predictor z 1 col true (picked t u) ≡ Skipped
-          go true true = refl
-          go true false = refl
-          go false u = refl
+      skips col = by-test (eqb col 0) (λ f. rw f (by-test (ltb w 16) (λ e. rw e) (λ e. rw e))) (λ e. rw e)
 
       inside : (col : ℕ) → col < w → col % 16 ≡ 0 → col + pick col < w
-      inside col l m = go (eqb col 0) (ltb w 16) refl refl
-        where
-          go : (t u : Bool) → eqb col 0 ≡ t → ltb w 16 ≡ u → col + picked t u < w
-          go true true e f = omega (arith, eqb-true col 0 e)
-          go true false e f = omega (arith, eqb-true col 0 e, ltb-false w 16 f)
-          go false u e f = omega (arith, odd)
+      inside col l m =
+          by-test (eqb col 0)
+          (λ e. rw e (by-test (ltb w 16) (λ f. rw f (omega (arith, eqb-true col 0 e))) (λ f. rw f (omega (arith, eqb-true col 0 e, ltb-false w 16 f)))))
+          (λ e. rw e (omega (arith, odd)))
 
       past : (r col : ℕ) → r < 1 → col < w → col % 16 ≡ 0 → r * w + 16 * V0.blocks-in w ≤ 1 * w + col + pick col
-      past r col l m n = go (eqb col 0) (ltb w 16) refl refl
+      past r col l m n =
+          by-test (eqb col 0)
+          (λ e. rw e (by-test (ltb w 16)
+          (λ f. rw f (rw none (omega (arith, eqb-true col 0 e, ltb-true w 16 f))))
+          (λ f. rw f (rw none (omega (arith, eqb-true col 0 e))))))
+          (λ e. rw e (rw none (let some = eqb-false col 0 e in omega arith)))
         where
           none : r ≡ 0
           none = omega arith
-
-          go : (t u : Bool) → eqb col 0 ≡ t → ltb w 16 ≡ u → r * w + 16 * V0.blocks-in w ≤ 1 * w + col + picked t u
-          go true true e f = rw none (omega (arith, eqb-true col 0 e, ltb-true w 16 f))
-          go true false e f = rw none (omega (arith, eqb-true col 0 e))
-          go false u e f = rw none (let some = eqb-false col 0 e in omega arith)
 
   row-early : (row : ℕ) → fault-of s offsets z row ≡ 17 → row < 2
   unfolding row-fault

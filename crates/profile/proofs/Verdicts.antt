@@ -24,7 +24,7 @@ use Rattle.rules.specs.Map.{v0-map}
 use Rattle.rules.specs.Ranges.{Between, not-above, not-below}
 use Rattle.rules.specs.Answer.{done}
 use Rattle.rules.proofs.Cells.{All, nil, more}
-use Rattle.rules.proofs.Tests.{clash}
+use Rattle.rules.proofs.Tests.{clash, by-test}
 use Rattle.rules.proofs.Longer.{no-filler}
 use Rattle.rules.proofs.V0Blocks.{block, after, EachBlock, EachInRow, each-block, each-block-map}
 use Rattle.rules.proofs.V0Cells.{v0-map-length}
@@ -62,11 +62,7 @@ between-fits (not-below n l) = absurd (omega arith)
 all-between : (ls : List ℤ) → all-fit ls ≡ true → All (Between 0 16) ls
 unfolding all-fit
 all-between [] e = nil
-all-between (l ∷ ls) e = go (fits l) refl (λ q. all-between ls q) e
-  where
-    go : (t : Bool) → fits l ≡ t → (all-fit ls ≡ true → All (Between 0 16) ls) → t && all-fit ls ≡ true → All (Between 0 16) (l ∷ ls)
-    go true f rest e = more (fits-between l f) (rest e)
-    go false f rest e = absurd (clash e refl)
+all-between (l ∷ ls) e = by-test (fits l) (λ f. more (fits-between l f) ((all-between ls (rw f at e)))) (λ f. absurd (clash (rw f at e) refl))
 
 between-all : {ls : List ℤ} → All (Between 0 16) ls → all-fit ls ≡ true
 unfolding all-fit
@@ -79,17 +75,17 @@ never n e = omega arith
 -- A block has no fault exactly if it is clean.
 pub none-clean : (row : ℕ) (h : V0Head) (end : Bits) → block-fault row h end ≡ 0 → CleanBlock row h end
 unfolding block-fault first-fault
-none-clean row h end e = go (ltb row 2 && h .up) (all-fit (h .row .lengths)) (has-filler end) refl refl refl e
+none-clean row h end e =
+    by-test (ltb row 2 && h .up)
+    (λ p. absurd (never 16 (rw p at e)))
+    (λ p. by-test (all-fit (h .row .lengths))
+    (λ q. by-test (has-filler end)
+    (λ r. absurd (never 18 (rw (p, q, r) at e)))
+    (λ r. record { down = down p; short = all-between (h .row .lengths) q; there = no-filler end r }))
+    (λ q. absurd (never 17 (rw (p, q) at e))))
   where
     down : ltb row 2 && h .up ≡ false → row < 2 → h .up ≡ false
     down q l = rw (lt-ltb row 2 l) at q
-
-    go : (t u v : Bool) → ltb row 2 && h .up ≡ t → all-fit (h .row .lengths) ≡ u → has-filler end ≡ v
-        → first-fault t (not u) v ≡ 0 → CleanBlock row h end
-    go true u v p q r e = absurd (never 16 e)
-    go false false v p q r e = absurd (never 17 e)
-    go false true true p q r e = absurd (never 18 e)
-    go false true false p q r e = record { down = down p; short = all-between (h .row .lengths) q; there = no-filler end r }
 
 pub clean-none : (row : ℕ) (h : V0Head) (end : Bits) → CleanBlock row h end → block-fault row h end ≡ 0
 unfolding block-fault first-fault
@@ -114,18 +110,10 @@ there-not-19 row h end q = go (ltb row 2 && h .up) (not (all-fit (h .row .length
 -- ── A row ──
 
 or-none : (k n : ℕ) → or-next k n ≡ 0 → (k ≡ 0) × (n ≡ 0)
-or-none k n = go (eqb k 0) refl
-  where
-    go : (t : Bool) → eqb k 0 ≡ t → cond t n k ≡ 0 → (k ≡ 0) × (n ≡ 0)
-    go true q e = (eqb-true k 0 q, e)
-    go false q e = absurd (eqb-false k 0 q e)
+or-none k n = by-test (eqb k 0) (λ q. rw q (λ e. (eqb-true k 0 q, e))) (λ q. rw q (λ e. absurd (eqb-false k 0 q e)))
 
 or-not : (k n m : ℕ) → k ≢ m → n ≢ m → or-next k n ≢ m
-or-not k n m p q = go (eqb k 0)
-  where
-    go : (t : Bool) → cond t n k ≢ m
-    go true = q
-    go false = p
+or-not k n m p q = by-test (eqb k 0) (λ e. rw e q) (λ e. rw e p)
 
 -- What three things of every head and state come to holds of each block of which they hold.
 each-block-three : (s : List ℕ) (first : ℕ) (predict : ℕ → Bool → ℕ → Predictor) (P Q R S : V0Head → Bits → Type 0)

@@ -12,6 +12,7 @@ use borrow.Author.Tests.{lt-ltb, le-ltb, ltb-false, eqb-true, eqb-false}
 use Rattle.rules.specs.declared.answer.Answer.{Answer}
 use Rattle.rules.specs.declared.answer.Size.{Size}
 use Rattle.rules.specs.Frame.{cells}
+use Rattle.rules.specs.V0.{blocks-in}
 use Rattle.rules.specs.Answer.{Ask, Lent, too-large, scratch-bytes, first-of, refusal, answer, stream-answer, frame-samples, marks, frame-scratch, unless-refused, samples-after, map-after, scratch-after}
 use Rattle.refusals.specs.declared.Lending.{Lending}
 use Rattle.refusals.specs.declared.Lending.the-variants.{Length}
@@ -32,6 +33,7 @@ size-most z e = let q = neither _ _ e in (ltb-false _ _ (q .0), ltb-false _ _ (q
 pub record Room (z : Size) (samples : ℕ) (offsets map scratch : Lending) : Type 0 where
   pub wide : z .width ≤ 16_384
   pub high : z .height ≤ 16_384
+  pub few : z .width * z .height ≤ 268_435_456
   pub samples-enough : cells z ≤ samples
   pub offsets-enough : short offsets (z .height) ≡ false
   pub map-enough : short map (cells z) ≡ false
@@ -56,6 +58,7 @@ room z small samples offsets map scratch k e q =
     record {
       wide = m .0;
       high = m .1;
+      few = cells-most (z .width) (z .height) (m .0) (m .1);
       samples-enough = ltb-false _ _ (s .0);
       offsets-enough = s .1;
       map-enough = l .0;
@@ -75,8 +78,8 @@ long-enough m n e = ltb-false m n e
 pub no-late-rows : (n h : ℕ) → h < 2 → 0 ≡ n * (h - 2)
 no-late-rows n h l = let e : h - 2 ≡ 0 = omega arith in rw (e, mul-zero)
 
-pub scratch-fits : (w h : ℕ) → w ≤ 16_384 → h ≤ 16_384 → (w + 15) / 16 * (h - 2) ≤ 16_777_216
+pub scratch-fits : (w h : ℕ) → w ≤ 16_384 → h ≤ 16_384 → blocks-in w * (h - 2) ≤ 16_777_216
 scratch-fits w h p q =
-    let a : (w + 15) / 16 ≤ 1_024 = omega arith in
+    let a : blocks-in w ≤ 1_024 = omega arith in
     let b : h - 2 ≤ 16_384 = omega arith in
     mul-le-mul a b

@@ -11,7 +11,6 @@
 -- Nothing is said of samples marked 1 in V2, of what lies past N, or of calls that end with 1 to 4: those change nothing.
 use Prim.Native.Nat.{ℕ, _+_, _%_, _<_, _≤_}
 use mathlib.Core.Path.{_≡_, refl, sym, ap, _∙_, subst}
-use mathlib.Core.Bool.{Bool, true, false, cond}
 use mathlib.Core.Logic.{_⊎_, inl, inr}
 use mathlib.Core.List.{List, _++_}
 use mathlib.Core.Option.{Option, none, some, Option·map, Option·some-injective, Option·some-ne-none}
@@ -32,6 +31,7 @@ use Rattle.rules.proofs.V2Cells as V2Cells
 use Rattle.rules.proofs.Origins.{position-below, marked-value, unmarked-same}
 use Rattle.rules.proofs.V2Fixed.{v2-unmarked-same}
 use Rattle.rules.proofs.TwoPhase.{two-phase-direct, two-phase-below}
+use Rattle.rules.proofs.Tests.{by-test}
 
 -- ── The statement ──
 
@@ -214,16 +214,12 @@ ran-passed c r = passed (c .ask) (lengths (c .found)) (rw (c .yields .answered) 
 -- A decoder's call leaves 16-bit samples.
 pub left-below : (c : Returned) → Samples (c .found .samples) → Samples (c .left .samples)
 unfolding samples-after unless-refused
-left-below c b = rw (c .yields .samples) (go (eqb (refusal (c .ask) (lengths (c .found))) 0) refl)
-  where
-    go : (t : Bool) → eqb (refusal (c .ask) (lengths (c .found))) 0 ≡ t
-        → Samples (cond t (frame c (before c) ++ drop (n c) (c .found .samples)) (c .found .samples))
-    go true e =
-        let ok = eqb-true (refusal (c .ask) (lengths (c .found))) 0 e in
-        all-append (λ x. x < 65_536)
-        (frame-below (c .ask .stream) (c .ask .offsets) (c .ask .size) (c .ask .decoder) (before c) (before-length c ok) (all-take (λ x. x < 65_536) (n c) b))
-        (all-drop (λ x. x < 65_536) (n c) b)
-    go false e = b
+left-below c b = rw (c .yields .samples) (by-test (eqb (refusal (c .ask) (lengths (c .found))) 0)
+    (λ e. rw e (let ok = eqb-true (refusal (c .ask) (lengths (c .found))) 0 e in
+    all-append (λ x. x < 65_536)
+    (frame-below (c .ask .stream) (c .ask .offsets) (c .ask .size) (c .ask .decoder) (before c) (before-length c ok) (all-take (λ x. x < 65_536) (n c) b))
+    (all-drop (λ x. x < 65_536) (n c) b)))
+    (λ e. rw e b))
 
 -- What it does to the sample buffer.
 abbrev pub decodes : Returned → Step

@@ -14,7 +14,6 @@ use Rattle.rules.specs.declared.answer.Answer.{Answer}
 use Rattle.rules.specs.declared.answer.Size.{Size}
 use Rattle.rules.specs.declared.reader.Bits.{Bits}
 use Rattle.rules.specs.declared.reader.Got.{Got}
-use Rattle.rules.specs.declared.reader.Word.{Word}
 use Rattle.rules.specs.declared.v0.Predictor.{Predictor}
 use Rattle.rules.specs.declared.v0.V0Row.{V0Row}
 use Rattle.rules.specs.declared.v0.V0Length.{V0Length}
@@ -30,16 +29,13 @@ use Rattle.rules.specs.V2 as V2
 use Rattle.rules.proofs.Cells.{All, nil, more}
 use Rattle.rules.proofs.V2Rows.{then-rows-cases}
 use Rattle.rules.proofs.ReaderLaws.{fetched-there, fetched-missing, read-held, read-next}
+use Rattle.rules.proofs.Tests.{by-test}
 
 -- ── One read ──
 
 missing-is : (s : List ℕ) (p : ℕ) → fetched s p .missing ≡ past-end s p
 unfolding fetched
-missing-is s p = go (leb (p + 4) (length s)) _ _
-  where
-    go : (t : Bool) (v w : ℕ) → cond {A = Word} t (record { value = v; missing = false }) (record { value = w; missing = true }) .missing ≡ not t
-    go true v w = refl
-    go false v w = refl
+missing-is s p = by-test (leb (p + 4) (length s)) (λ e. rw e) (λ e. rw e)
 
 counted-one : (n : ℕ) (t : Bool) → n ≤ most-filler → counted n t ≡ min (n + cond t 1 0) most-filler
 unfolding counted
@@ -110,11 +106,10 @@ flag-append s o (p ∷ ps) qs = flag-append s (o || past-end s p) ps qs
 
 read-flags : (s : List ℕ) (b : Bits) (n : ℕ) → has-filler (read s b n .bits) ≡ flag-after s (has-filler b) (fetches b n)
 unfolding fetches flag-after
-read-flags s b n = go (leb (min n 32) (held b)) refl
-  where
-    go : (t : Bool) → leb (min n 32) (held b) ≡ t → has-filler (read s b n .bits) ≡ flag-after s (has-filler b) (cond t [] (b .pos ∷ []))
-    go true e = rw (read-held s b n (leb-true _ _ e))
-    go false e = rw (read-next s b n (leb-false _ _ e), missing-is s (b .pos)) (counted-flag (b .filler) (past-end s (b .pos)))
+read-flags s b n =
+    by-test (leb (min n 32) (held b))
+    (λ e. rw e (rw (read-held s b n (leb-true _ _ e))))
+    (λ e. rw e (rw (read-next s b n (leb-false _ _ e), missing-is s (b .pos)) (counted-flag (b .filler) (past-end s (b .pos)))))
 
 pub flag-is : (s : List ℕ) {b c : Bits} {ps : List ℕ} → Run s b ps c → has-filler c ≡ flag-after s (has-filler b) ps
 unfolding flag-after

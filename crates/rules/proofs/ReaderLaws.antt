@@ -16,6 +16,7 @@ use Rattle.rules.specs.Reader.{word-at, fetched, most-filler, counted, h
 use Rattle.rules.specs.declared.reader.Bits.{Bits}
 use Rattle.rules.specs.declared.reader.Got.{Got}
 use Rattle.rules.specs.declared.reader.Word.{Word}
+use Rattle.rules.proofs.Tests.{by-test}
 
 -- ── Words ──
 
@@ -29,11 +30,10 @@ fetched-missing s p h = simp (lt-leb _ _ h)
 
 -- A word of bytes has 32 bits.
 pub fetched-below : (s : List ℕ) (p : ℕ) → ((i : ℕ) → getD s i 0 < 256) → fetched s p .value < 2 ^ 32
-fetched-below s p h = go (leb (p + 4) (length s)) refl
-  where
-    go : (t : Bool) → leb (p + 4) (length s) ≡ t → fetched s p .value < 2 ^ 32
-    go true e = rw (fetched-there s p (leb-true _ _ e)) (omega (arith, h p, h (p + 1), h (p + 2), h (p + 3)))
-    go false e = rw (fetched-missing s p (leb-false _ _ e)) (omega arith)
+fetched-below s p h =
+    by-test (leb (p + 4) (length s))
+    (λ e. rw (fetched-there s p (leb-true _ _ e)) (omega (arith, h p, h (p + 1), h (p + 2), h (p + 3))))
+    (λ e. rw (fetched-missing s p (leb-false _ _ e)) (omega arith))
 
 byte-agree : (s t : List ℕ) (q i : ℕ) → take q s ≡ take q t → i < q → getD s i 0 ≡ getD t i 0
 byte-agree s t q i e h = sym (getD-take q s i 0 h) ∙ ap (λ (l : List ℕ). getD l i 0) e ∙ getD-take q t i 0 h
@@ -103,11 +103,10 @@ read-capped s b n = let e : min (min n 32) 32 ≡ min n 32 = omega arith in rw e
 -- What holds of both ways of reading holds of a read.
 read-either : (P : Got → Type 0) (s : List ℕ) (b : Bits) (n : ℕ) → (min n 32 ≤ held b → P (from-held b (min n 32)))
     → (held b < min n 32 → P (from-next b (fetched s (b .pos)) (min n 32))) → P (read s b n)
-read-either P s b n f g = go (leb (min n 32) (held b)) refl
-  where
-    go : (t : Bool) → leb (min n 32) (held b) ≡ t → P (read s b n)
-    go true e = let h = leb-true (min n 32) (held b) e in rw (read-held s b n h) (f h)
-    go false e = let h = leb-false (min n 32) (held b) e in rw (read-next s b n h) (g h)
+read-either P s b n f g =
+    by-test (leb (min n 32) (held b))
+    (λ e. let h = leb-true (min n 32) (held b) e in rw (read-held s b n h) (f h))
+    (λ e. let h = leb-false (min n 32) (held b) e in rw (read-next s b n h) (g h))
 
 -- A read leaves at most 31 bits buffered, whatever state it began with.
 pub read-count : (s : List ℕ) (b : Bits) (n : ℕ) → read s b n .bits .count < 32
@@ -148,14 +147,13 @@ read-agree s t b n q e hs ht h = rw (fetched-agree s t q (b .pos) e hs ht h)
 
 -- A word that is there in the first p bytes of a stream is the stream's.
 fetched-prefix : (s : List ℕ) (p at : ℕ) → p ≤ length s → fetched (take p s) at .missing ≡ false → fetched (take p s) at ≡ fetched s at
-fetched-prefix s p at l m = go (leb (at + 4) p) refl
+fetched-prefix s p at l m =
+    by-test (leb (at + 4) p)
+    (λ e. fetched-agree (take p s) s p at (take-take p p s (omega arith)) (omega (arith, len)) l (leb-true (at + 4) p e))
+    (λ e. cc (fetched-missing (take p s) at (omega (arith, len, leb-false (at + 4) p e))))
   where
     len : length (take p s) ≡ p
     len = length-take p s ∙ omega arith
-
-    go : (t : Bool) → leb (at + 4) p ≡ t → fetched (take p s) at ≡ fetched s at
-    go true e = fetched-agree (take p s) s p at (take-take p p s (omega arith)) (omega (arith, len)) l (leb-true (at + 4) p e)
-    go false e = cc (fetched-missing (take p s) at (omega (arith, len, leb-false (at + 4) p e)))
 
 -- A read of the first p bytes of a stream after which no word was missing is the read of the whole stream.
 pub read-prefix : (s : List ℕ) (p : ℕ) (b : Bits) (n : ℕ) → p ≤ length s → read (take p s) b n .bits .filler ≡ 0 → read (take p s) b n ≡ read s b n
@@ -247,12 +245,12 @@ module _ (s : List ℕ) (st : Bits) (a b : ℕ) (fit : a + b ≤ 32) where
       )
 
   pub read-split-rest : read s (read s st a .bits) b ≡ record { value = read s st (a + b) .value % 2 ^ b; bits = read s st (a + b) .bits }
-  read-split-rest = go (leb (a + b) (held st)) refl (leb a (held st)) refl
-    where
-      go : (t : Bool) → leb (a + b) (held st) ≡ t → (u : Bool) → leb a (held st) ≡ u → Rest
-      go true e u f = rest-held (leb-true (a + b) (held st) e)
-      go false e true f = rest-across (leb-true a (held st) f) (leb-false (a + b) (held st) e)
-      go false e false f = rest-next (leb-false a (held st) f)
+  read-split-rest =
+      by-test (leb (a + b) (held st))
+      (λ e. rest-held (leb-true (a + b) (held st) e))
+      (λ e. by-test (leb a (held st))
+      (λ f. rest-across (leb-true a (held st) f) (leb-false (a + b) (held st) e))
+      (λ f. rest-next (leb-false a (held st) f)))
 
   -- Where a word is fetched, it must be one of 32 bits.
   pub read-split-first : (held st < a + b → fetched s (st .pos) .value < 2 ^ 32) → read s st (a + b) .value / 2 ^ b ≡ read s st a .value
@@ -348,22 +346,19 @@ cut-low a (n ∷ ns) v =
 -- A read that ends within the word that the first part fetched, or that was held, fetches no other.
 whole-rest : (s : List ℕ) (b : Bits) (n m : ℕ) → n + m ≤ 32 → (held b < n + m → fetched s (b .pos) .value < 2 ^ 32)
     → held (read s b n .bits) < m → fetched s (read s b n .bits .pos) .value < 2 ^ 32
-whole-rest s b n m fit w = go (leb n (held b)) refl
+whole-rest s b n m fit w =
+    by-test (leb n (held b))
+    (λ e. let l = leb-true n (held b) e in
+    let mid : Bits = from-held b n .bits in
+    let c : held mid ≡ held b - n = held-is mid (omega (arith, held-small b)) in
+    rw (held-of s b n (omega arith) l) (λ h. w (omega (arith, c))))
+    (λ e. let l = leb-false n (held b) e in
+    let mid : Bits = from-next b (fetched s (b .pos)) n .bits in
+    let c : held mid ≡ held b + 32 - n = held-is mid (omega arith) in
+    rw (next-of s b n (omega arith) l) (λ h. absurd (omega (arith, c))))
   where
     Goal : Type 0
     Goal = held (read s b n .bits) < m → fetched s (read s b n .bits .pos) .value < 2 ^ 32
-
-    go : (t : Bool) → leb n (held b) ≡ t → Goal
-    go true e =
-        let l = leb-true n (held b) e in
-        let mid : Bits = from-held b n .bits in
-        let c : held mid ≡ held b - n = held-is mid (omega (arith, held-small b)) in
-        rw (held-of s b n (omega arith) l) (λ h. w (omega (arith, c)))
-    go false e =
-        let l = leb-false n (held b) e in
-        let mid : Bits = from-next b (fetched s (b .pos)) n .bits in
-        let c : held mid ≡ held b + 32 - n = held-is mid (omega arith) in
-        rw (next-of s b n (omega arith) l) (λ h. absurd (omega (arith, c)))
 
 -- Fields of at most 32 bits together are one read, cut.
 pub fields-at-once : (s : List ℕ) (n : ℕ) (ns : List ℕ) (b : Bits) → n + total ns ≤ 32 → (held b < n + total ns → fetched s (b .pos) .value < 2 ^ 32)
@@ -439,14 +434,13 @@ signed-high k v h l = simp (le-ltb (v * 2) (2 ^ k) h, lt-ltb v (2 ^ k) l)
 
 -- A number of at most m + 1 bits lies in -2^m .. 2^m - 1.
 pub signed-mag : (m k v : ℕ) → k ≤ suc m → v < 2 ^ k → mag (signed k v) < 2 ^ m
-signed-mag m k v h l = go (ltb (v * 2) (2 ^ k)) refl
+signed-mag m k v h l =
+    by-test (ltb (v * 2) (2 ^ k))
+    (λ e. let q = ltb-true (v * 2) (2 ^ k) e in rw (signed-low k v q) (omega (arith, top)))
+    (λ e. let q = ltb-false (v * 2) (2 ^ k) e in rw (signed-high k v q l) (omega (arith, top)))
   where
     top : 2 ^ k ≤ 2 * 2 ^ m
     top = omega (arith, pow-mono h, pow-add 2 1 m)
-
-    go : (t : Bool) → ltb (v * 2) (2 ^ k) ≡ t → mag (signed k v) < 2 ^ m
-    go true e = let q = ltb-true (v * 2) (2 ^ k) e in rw (signed-low k v q) (omega (arith, top))
-    go false e = let q = ltb-false (v * 2) (2 ^ k) e in rw (signed-high k v q l) (omega (arith, top))
 
 minus-more : (v t : ℕ) → v < t → pos v -ℤ pos t ≡ negsuc (t - suc v)
 minus-more v zero h = let z : _≡_ {A = ℕ} 0 1 = omega arith in cc
@@ -464,26 +458,23 @@ module _ (k v : ℕ) (fit : v < 2 ^ k) where
       rw (div-eq-of-lt-le (2 ^ k) l u, one-mul)
 
   pub sign-most : v * 2 / 2 ^ k * 2 ^ k ≤ 2 ^ k
-  sign-most = go (ltb (v * 2) (2 ^ k)) refl
-    where
-      go : (t : Bool) → ltb (v * 2) (2 ^ k) ≡ t → v * 2 / 2 ^ k * 2 ^ k ≤ 2 ^ k
-      go true e = rw (sign-low (ltb-true (v * 2) (2 ^ k) e)) (omega arith)
-      go false e = rw (sign-high (ltb-false (v * 2) (2 ^ k) e)) (omega arith)
+  sign-most =
+      by-test (ltb (v * 2) (2 ^ k))
+      (λ e. rw (sign-low (ltb-true (v * 2) (2 ^ k) e)) (omega arith))
+      (λ e. rw (sign-high (ltb-false (v * 2) (2 ^ k) e)) (omega arith))
 
   pub signed-is : pos v -ℤ pos (v * 2 / 2 ^ k * 2 ^ k) ≡ signed k v
-  signed-is = go (ltb (v * 2) (2 ^ k)) refl
-    where
-      go : (t : Bool) → ltb (v * 2) (2 ^ k) ≡ t → pos v -ℤ pos (v * 2 / 2 ^ k * 2 ^ k) ≡ signed k v
-      go true e = let q = ltb-true (v * 2) (2 ^ k) e in let z : v + 0 ≡ v = omega arith in rw (sign-low q, signed-low k v q) (ap pos z)
-      go false e = let q = ltb-false (v * 2) (2 ^ k) e in rw (sign-high q, signed-high k v q fit) (minus-more v (2 ^ k) fit)
+  signed-is =
+      by-test (ltb (v * 2) (2 ^ k))
+      (λ e. let q = ltb-true (v * 2) (2 ^ k) e in let z : v + 0 ≡ v = omega arith in rw (sign-low q, signed-low k v q) (ap pos z))
+      (λ e. let q = ltb-false (v * 2) (2 ^ k) e in rw (sign-high q, signed-high k v q fit) (minus-more v (2 ^ k) fit))
 
   pub residual-is : k ≤ 32 → (2 ^ 32 + v - v * 2 / 2 ^ k * 2 ^ k) % 65_536 ≡ modulo (signed k v)
   unfolding modulo
-  residual-is h = go (ltb (v * 2) (2 ^ k)) refl
-    where
-      go : (t : Bool) → ltb (v * 2) (2 ^ k) ≡ t → (2 ^ 32 + v - v * 2 / 2 ^ k * 2 ^ k) % 65_536 ≡ modulo (signed k v)
-      go true e = let q = ltb-true (v * 2) (2 ^ k) e in rw (sign-low q, signed-low k v q) (omega arith)
-      go false e = let q = ltb-false (v * 2) (2 ^ k) e in rw (sign-high q, signed-high k v q fit) (omega (arith, pow-mono h))
+  residual-is h =
+      by-test (ltb (v * 2) (2 ^ k))
+      (λ e. let q = ltb-true (v * 2) (2 ^ k) e in rw (sign-low q, signed-low k v q) (omega arith))
+      (λ e. let q = ltb-false (v * 2) (2 ^ k) e in rw (sign-high q, signed-high k v q fit) (omega (arith, pow-mono h)))
 
 pub modulo-below : (z : ℤ) → modulo z < 65_536
 unfolding modulo

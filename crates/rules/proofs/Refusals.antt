@@ -23,7 +23,7 @@ use Rattle.rules.specs.V0.{frame-filler}
 use Rattle.rules.specs.V2.{Block, Row, read-block, then, blocks, read-row, rows, read-frame, aligned, fresh-row, fresh-mode, header}
 use Rattle.rules.specs.Answer.{done-with, refused, Decoder, direct, two-phase, v2, Ask, Lent, Buffers, Yields, too-large, too-small, short-offsets, short-samples, short-map, scratch-bytes, short-scratch, first-of, refusal, stream-answer, answer, unless-refused, samples-after, map-after, scratch-after}
 use Rattle.rules.proofs.Cells.{All, nil, more, all-get}
-use Rattle.rules.proofs.Tests.{clash, neither}
+use Rattle.rules.proofs.Tests.{clash, neither, by-test}
 use Rattle.rules.proofs.V2Rows.{then-rows-cases}
 
 -- ── The least number whose test holds ──
@@ -83,26 +83,24 @@ module _ (a : Ask) (l : Lent) where
 
   -- The least number whose test holds is the refusal.
   pub refusal-is : (k : ℕ) → holds a l k ≡ true → ((j : ℕ) → j < k → holds a l j ≡ false) → refusal a l ≡ k
-  refusal-is k e f = go (ltb k (refusal a l)) refl (ltb (refusal a l) k) refl (eqb (refusal a l) 0) refl
+  refusal-is k e f =
+      by-test (ltb k (refusal a l))
+      (λ p. absurd (clash e (refusal-least .smaller k (ltb-true k r p))))
+      (λ p. by-test (ltb (refusal a l) k)
+      (λ q. by-test (eqb (refusal a l) 0)
+      (λ o. absurd (clash e (refusal-least .none (eqb-true r 0 o) k)))
+      (λ o. absurd (clash (refusal-least .own (let n = eqb-false r 0 o in omega arith)) (f r (ltb-true r k q)))))
+      (λ q. omega (arith, ltb-false k r p, ltb-false r k q)))
     where
       r : ℕ
       r = refusal a l
 
-      go : (t : Bool) → ltb k r ≡ t → (u : Bool) → ltb r k ≡ u → (v : Bool) → eqb r 0 ≡ v → r ≡ k
-      go true p u q v o = absurd (clash e (refusal-least .smaller k (ltb-true k r p)))
-      go false p true q true o = absurd (clash e (refusal-least .none (eqb-true r 0 o) k))
-      go false p true q false o =
-          absurd (clash (refusal-least .own (let n = eqb-false r 0 o in omega arith)) (f r (ltb-true r k q)))
-      go false p false q v o = omega (arith, ltb-false k r p, ltb-false r k q)
-
   -- Without a test that holds there is no refusal.
   pub refusal-zero : ((j : ℕ) → holds a l j ≡ false) → refusal a l ≡ 0
-  refusal-zero f = go (eqb (refusal a l) 0) refl
-    where
-      go : (t : Bool) → eqb (refusal a l) 0 ≡ t → refusal a l ≡ 0
-      go true e = eqb-true (refusal a l) 0 e
-      go false e =
-          absurd (clash (refusal-least .own (let n = eqb-false (refusal a l) 0 e in omega arith)) (f (refusal a l)))
+  refusal-zero f =
+      by-test (eqb (refusal a l) 0)
+      (λ e. eqb-true (refusal a l) 0 e)
+      (λ e. absurd (clash (refusal-least .own (let n = eqb-false (refusal a l) 0 e in omega arith)) (f (refusal a l))))
 
   -- ── Answers ──
 
@@ -117,15 +115,14 @@ module _ (a : Ask) (l : Lent) where
 
   -- Done and 5 to 8 are answered only if no test of 1 to 4 holds.
   pub passed : (answer a l .number ≡ 0) ⊎ (5 ≤ answer a l .number) → refusal a l ≡ 0
-  passed q = go (eqb (refusal a l) 0) refl
+  passed q =
+      by-test (eqb (refusal a l) 0)
+      (λ e. eqb-true (refusal a l) 0 e)
+      (λ e. no (rw (answer-refused (let n = eqb-false (refusal a l) 0 e in omega arith)) at q))
     where
       no : (refusal a l ≡ 0) ⊎ (5 ≤ refusal a l) → refusal a l ≡ 0
       no (inl z) = z
       no (inr m) = absurd (omega (arith, refusal-least .most))
-
-      go : (t : Bool) → eqb (refusal a l) 0 ≡ t → refusal a l ≡ 0
-      go true e = eqb-true (refusal a l) 0 e
-      go false e = no (rw (answer-refused (let n = eqb-false (refusal a l) 0 e in omega arith)) at q)
 
 -- ── What a call that was not refused may count on ──
 

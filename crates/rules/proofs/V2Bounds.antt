@@ -1,8 +1,8 @@
 -- The ranges that the V2 rules keep: they say which types hold a decoder's numbers.
 use Prim.Native.Nat.{ℕ, zero, suc, _+_, _-_, _*_, _/_, _%_, _≤_, _<_}
 use mathlib.Core.Path.{_≡_, refl, sym, ap, _∙_}
-use mathlib.Core.Bool.{Bool, true, false, not, _&&_, cond}
-use mathlib.Core.List.{List, []}
+use mathlib.Core.Bool.{Bool, true, false, cond}
+use mathlib.Core.List.{List}
 use native.Mathlib.Nat.{mul-le-mul}
 use native.Mathlib.Omega.{arith}
 use lib.Dec.{eqb, ltb, lit≤, lit<}
@@ -22,10 +22,11 @@ use Rattle.rules.specs.declared.v2.V2Block.the-variants.{Next, EarlyMoti
 use Rattle.rules.specs.Frame.{cells}
 use Rattle.rules.specs.Reader.{fresh, read, four}
 use Rattle.rules.specs.Ranges.{Between, not-above, not-below, ScaleAt, Small, Fits}
-use Rattle.rules.specs.V2.{field-widths, header, top, option-2, option-4, scale-steps, rescaled, read-scale, read-motion, Base, given, copied, averaged, repeated, referred, base, motion-averages, refers-before, base-refusal, lengths-bit, Moded, length-step, lengths-from, no-lengths, flagged-lengths, read-lengths, position, Differences, difference-step, differences-from, read-differences, Tail, tail, based-tail, Block, Parsed, read-block, Row, then, blocks, fresh-row, fresh-mode, aligned, read-row, rows, read-frame, base-cell, average, value, sample-kind}
+use Rattle.rules.specs.V2.{field-widths, header, top, option-2, option-4, scale-steps, rescaled, read-scale, read-motion, Base, given, copied, averaged, repeated, referred, base, motion-averages, refers-before, base-refusal, lengths-bit, Moded, length-step, lengths-from, no-lengths, flagged-lengths, read-lengths, position, Differences, difference-step, differences-from, read-differences, tail, based-tail, Block, Parsed, read-block, Row, then, blocks, fresh-row, fresh-mode, aligned, read-row, rows, read-frame, base-cell, average, value, sample-kind}
 use Rattle.rules.proofs.Cells.{All, nil, more, all-append, all-get, all-map, each-of, all-of, each-set}
 use Rattle.rules.proofs.ReaderLaws.{read-below, fields-below, read-signed-mag}
 use Rattle.rules.proofs.V2Rows.{then-rows-cases}
+use Rattle.rules.proofs.Tests.{by-test}
 
 -- ── The header ──
 
@@ -59,11 +60,8 @@ between-wider l m (not-above n p) = not-above n (omega arith)
 between-wider l m (not-below n p) = not-below n (omega arith)
 
 between-sub : (m n : ℕ) {lo hi : ℕ} → m ≤ hi → n < lo → Between lo hi (subℕ m (suc n))
-between-sub m n {lo} {hi} p q = go (ltb m (suc n))
-  where
-    go : (t : Bool) → Between lo hi (cond t (negsuc (suc n - suc m)) (pos (m - suc n)))
-    go true = not-below (suc n - suc m) (omega arith)
-    go false = not-above (m - suc n) (omega arith)
+between-sub m n p q =
+    by-test (ltb m (suc n)) (λ e. rw e (not-below (suc n - suc m) (omega arith))) (λ e. rw e (not-above (m - suc n) (omega arith)))
 
 pub between-add : {x y : ℤ} {a b c d : ℕ} → Between a b x → Between c d y → Between (a + c) (b + d) (x +ℤ y)
 between-add (not-above m p) (not-above n q) = not-above (m + n) (omega arith)
@@ -81,26 +79,21 @@ step-between code = all-get (Between 2 2) (more (not-above 0 (lit≤ tt)) (more 
 
 rescaled-between : (s : List ℕ) {scale : ℤ} (b : Bits) {k : ℕ} → Between k (4_093 + k) scale → Between (k + 2) (4_093 + k + 2) (rescaled s scale b .scale)
 unfolding rescaled
-rescaled-between s {scale} b {k} p = go (eqb (read s b 2 .value) 3)
-  where
-    go : (t : Bool)
-        → Between (k + 2) (4_093 + k + 2)
-        (cond {A = V2Scale} t (record { scale = pos (read s (read s b 2 .bits) 12 .value); bits = read s (read s b 2 .bits) 12 .bits })
-        (record { scale = scale +ℤ getD scale-steps (read s b 2 .value) (pos 0); bits = read s b 2 .bits }) .scale)
-    go true = not-above (read s (read s b 2 .bits) 12 .value) (omega (arith, read-below s (read s b 2 .bits) 12))
-    go false = between-add p (step-between (read s b 2 .value))
+rescaled-between s b p =
+    by-test (eqb (read s b 2 .value) 3)
+    (λ e. rw e (not-above (read s (read s b 2 .bits) 12 .value) (omega (arith, read-below s (read s b 2 .bits) 12))))
+    (λ e. rw e (between-add p (step-between (read s b 2 .value))))
 
 -- A block keeps the range: what is read at a column is what a scale can be before the next block's.
 pub scale-read : (s : List ℕ) (h : V2Hdr) {col : ℕ} {scale : ℤ} (b : Bits) → ScaleAt col scale → ScaleAt (col + 16) (read-scale s h col scale b .scale)
 unfolding read-scale
-scale-read s h {col} {scale} b p = record { range = go (option-4 h) (eqb (col % 64) 0) refl }
-  where
-    go : (o t : Bool) → eqb (col % 64) 0 ≡ t
-        → Between (2 * ((col + 16 + 63) / 64)) (4_093 + 2 * ((col + 16 + 63) / 64))
-        (cond {A = V2Scale} (not o && t) (rescaled s scale b) (record { scale = scale; bits = b }) .scale)
-    go true t e = between-wider (omega arith) (omega arith) (p .range)
-    go false false e = between-wider (omega arith) (omega arith) (p .range)
-    go false true e = let m = eqb-true (col % 64) 0 e in between-wider (omega arith) (omega arith) (rescaled-between s b (p .range))
+scale-read s h {col} b p = record {
+  range = by-test (option-4 h)
+      (λ e. rw e (between-wider (omega arith) (omega arith) (p .range)))
+      (λ f. rw f (by-test (eqb (col % 64) 0)
+      (λ e. rw e (let m = eqb-true (col % 64) 0 e in between-wider (omega arith) (omega arith) (rescaled-between s b (p .range))))
+      (λ e. rw e (between-wider (omega arith) (omega arith) (p .range)))));
+}
 
 -- Within the limits a scale lies in −512..4,605.
 pub scale-within : {col : ℕ} {scale : ℤ} → ScaleAt col scale → col ≤ 16_384 → Between 512 4_605 scale
@@ -111,15 +104,10 @@ scale-within p l = between-wider (omega arith) (omega arith) (p .range)
 -- A motion is one of 0 to 7.
 pub motion-most : (s : List ℕ) (h : V2Hdr) (motion : ℕ) (b : Bits) → motion ≤ 7 → read-motion s h motion b .value ≤ 7
 unfolding read-motion
-motion-most s h motion b l = go (option-2 h) (eqb (read s b 1 .value) 1) (eqb (read s b 1 .value) 0)
-  where
-    go : (o t u : Bool)
-        → cond {A = Got} o (record { value = cond t 3 7; bits = read s b 1 .bits })
-        (cond {A = Got} u (read s (read s b 1 .bits) 3) (record { value = motion; bits = read s b 1 .bits })) .value ≤ 7
-    go true true u = lit≤ tt
-    go true false u = lit≤ tt
-    go false t true = omega (arith, read-below s (read s b 1 .bits) 3)
-    go false t false = l
+motion-most s h motion b l =
+    by-test (option-2 h)
+    (λ f. rw f (by-test (eqb (read s b 1 .value) 1) (λ e. rw e (lit≤ tt)) (λ e. rw e (lit≤ tt))))
+    (λ f. rw f (by-test (eqb (read s b 1 .value) 0) (λ e. rw e (omega (arith, read-below s (read s b 1 .bits) 3))) (λ e. rw e l)))
 
 -- ── 4. lengths ──
 
@@ -151,18 +139,16 @@ lengths-from-most s depth row flags (suc n) j x ps =
 pub lengths-most : (s : List ℕ) (h : V2Hdr) (row : ℕ) (mode : List (List ℕ)) (b : Bits)
     → (let y = read-lengths s h row mode b in y .lengths .long ≡ false → All (Most (h .depth + 1)) (y .lengths .four))
 unfolding read-lengths flagged-lengths
-lengths-most s h row mode b = go (eqb (lengths-bit s h b .value) 0)
+lengths-most s h row mode b =
+    by-test (eqb (lengths-bit s h b .value) 0)
+    (λ e. rw e (lengths-from-most s (h .depth) row (four s 2 g .values) 4 0 (no-lengths mode (four s 2 g .bits)) zeros))
+    (λ f. rw f (λ e. zeros))
   where
     g : Bits
     g = lengths-bit s h b .bits
 
     zeros : All (Most (h .depth + 1)) (replicate 4 0)
     zeros = all-replicate (Most (h .depth + 1)) 4 (omega arith)
-
-    go : (t : Bool)
-        → (let y = cond t (flagged-lengths s (h .depth) row mode g) (no-lengths mode g) in y .lengths .long ≡ false → All (Most (h .depth + 1)) (y .lengths .four))
-    go true = lengths-from-most s (h .depth) row (four s 2 g .values) 4 0 (no-lengths mode (four s 2 g .bits)) zeros
-    go false = λ e. zeros
 
 pub lengths-small : (s : List ℕ) (h : V2Hdr) (row : ℕ) (mode : List (List ℕ)) (b : Bits) → h .depth ≤ 16
     → (let y = read-lengths s h row mode b in y .lengths .long ≡ false → All (Most 17) (y .lengths .four))
@@ -188,25 +174,19 @@ differences-small s row ls b m = differences-from-small s row ls m 16 0 _ (all-r
 module _ (s : List ℕ) (h : V2Hdr) (row col : ℕ) (mode : List (List ℕ)) (b b′ : Bits) (st st′ : V2Row) where
   tail-next : tail s h row st mode b .outcome ≡ Next b′ st′ → (st′ ≡ st) × (read-lengths s h row mode b .lengths .long ≡ false)
   unfolding tail
-  tail-next = go (read-lengths s h row mode b .lengths .long) _ _
-    where
-      go : (t : Bool) (x y : Bits) → cond t (LongDifference x) (Next y st) ≡ Next b′ st′ → (st′ ≡ st) × (t ≡ false)
-      go true x y e = (cc, cc)
-      go false x y e = (cc, refl)
+  tail-next = by-test (read-lengths s h row mode b .lengths .long) (λ f. rw f (λ e. (cc, cc))) (λ f. rw f (λ e. (cc, refl)))
 
   based-next : based-tail s h row col st mode b .outcome ≡ Next b′ st′
       → (base-refusal row col (st .motion) ≡ 0) × (based-tail s h row col st mode b ≡ tail s h row st mode b)
   unfolding based-tail base-refusal
-  based-next = go (eqb (st .motion) 7) (ltb row 2) (refers-before row col (st .motion))
-    where
-      go : (t u v : Bool) → (let r : ℕ = cond t 0 (cond u 5 (cond v 6 0)) in
-          let x = cond {A = Tail} (eqb r 5) (record { outcome = EarlyMotion b; mode = mode; differences = [] })
-          (cond {A = Tail} (eqb r 6) (record { outcome = Outside b; mode = mode; differences = [] }) (tail s h row st mode b)) in
-          x .outcome ≡ Next b′ st′ → (r ≡ 0) × (x ≡ tail s h row st mode b))
-      go true u v e = (refl, refl)
-      go false true v e = let z : _≡_ {A = ℕ} 0 1 = cc in absurd (omega arith)
-      go false false true e = let z : _≡_ {A = ℕ} 0 1 = cc in absurd (omega arith)
-      go false false false e = (refl, refl)
+  based-next =
+      by-test (eqb (st .motion) 7)
+      (λ f. rw f (λ e. (refl, refl)))
+      (λ e₁. rw e₁ (by-test (ltb row 2)
+      (λ f. rw f (λ e. let z : _≡_ {A = ℕ} 0 1 = cc in absurd (omega arith)))
+      (λ g. rw g (by-test (refers-before row col (st .motion))
+      (λ f. rw f (λ e. let z : _≡_ {A = ℕ} 0 1 = cc in absurd (omega arith)))
+      (λ f. rw f (λ e. (refl, refl)))))))
 
 module _ (s : List ℕ) (h : V2Hdr) (w row col : ℕ) (b : Bits) (st : V2Row) (mode : List (List ℕ)) (b′ : Bits) (st′ : V2Row)
     (e : read-block s h w row col b st mode .outcome ≡ Next b′ st′) where
@@ -259,13 +239,10 @@ Given (averaged p q) = Unit {0}
 
 given-small : (h : V2Hdr) → h .initial < 65_536 → (w row col motion i : ℕ) → Given (base h w row col motion i)
 unfolding Given base repeated referred
-given-small h l w row col motion i = go (eqb motion 7) (eqb col 0) (getD motion-averages motion false) _ _
-  where
-    go : (t u v : Bool) (p q : ℕ) → Given (cond t (cond u (given (h .initial)) (copied p)) (cond v (averaged q (q + 2)) (copied q)))
-    go true true v p q = l
-    go true false v p q = tt
-    go false u true p q = tt
-    go false u false p q = tt
+given-small h l w row col motion i =
+    by-test (eqb motion 7)
+    (λ f. rw f (by-test (eqb col 0) (λ e. rw e l) (λ e. rw e tt)))
+    (λ f. rw f (by-test (getD motion-averages motion false) (λ e. rw e tt) (λ e. rw e tt)))
 
 -- What holds of each block of a frame within the limits.
 pub record Sound (x : Block) : Type 0 where
@@ -324,11 +301,7 @@ frame-sound s z limit =
 -- ── 6. samples ──
 
 abs-sub : (m n : ℕ) → natAbs (subℕ m (suc n)) ≤ m + suc n
-abs-sub m n = go (ltb m (suc n))
-  where
-    go : (t : Bool) → natAbs (cond t (negsuc (suc n - suc m)) (pos (m - suc n))) ≤ m + suc n
-    go true = omega arith
-    go false = omega arith
+abs-sub m n = by-test (ltb m (suc n)) (λ e. rw e (omega arith)) (λ e. rw e (omega arith))
 
 abs-add : (x y : ℤ) → natAbs (x +ℤ y) ≤ natAbs x + natAbs y
 abs-add (pos m) (pos n) = omega arith

@@ -21,6 +21,7 @@ use Rattle.rules.proofs.Parts.{either-none, none-either}
 use Rattle.rules.proofs.Longer.{Longer, longer-append}
 use Rattle.rules.proofs.V2Cells.{write-length, apply-length}
 use Rattle.rules.proofs.V2Longer.{Split, same, apart, Parted, alike, filled, frame-parted, Run, stop, step, run-from, rows-run}
+use Rattle.rules.proofs.Tests.{by-test}
 
 -- ── The same block in both runs ──
 
@@ -69,17 +70,13 @@ module _ {A : Type 0} (k : Kind A) where
   -- A block changes no cell outside it ..
   write-other : (b : Block) (f : List A) (i : ℕ) → (b .place ≤ i → b .place + 16 ≤ i) → getD (write k b f) i (k .constant 0) ≡ getD f i (k .constant 0)
   unfolding write block-cells
-  write-other b f i h = go (b .filler)
+  write-other b f i h = by-test (b .filler) (λ e. rw e (change-other (k .filled) (k .constant 0) 16 (b .place) g i h ∙ others)) (λ e. rw e others)
     where
       g : List A
       g = sets f (b .place) (block-cells k f b)
 
       others : getD g i (k .constant 0) ≡ getD f i (k .constant 0)
       others = sets-other 16 0 (b .place) _ f i (k .constant 0) h
-
-      go : (t : Bool) → getD (cond t (change-cells (k .filled) (k .constant 0) 16 (b .place) g) g) i (k .constant 0) ≡ getD f i (k .constant 0)
-      go true = change-other (k .filled) (k .constant 0) 16 (b .place) g i h ∙ others
-      go false = others
 
   -- .. and blocks from n on none before n.
   apply-before : (n : ℕ) {bs : List Block} → All (λ b. n ≤ b .place) bs → (f : List A) (i : ℕ) → i < n

@@ -26,6 +26,7 @@ use Rattle.rules.specs.V2.{field-widths, header, option-1, option-2, opt
 use Rattle.rules.proofs.Cells.{All, nil, more, all-map}
 use Rattle.rules.proofs.Longer.{Longer, Sure, sure-none, sure-map, sure-then, sure-cond, read-sure, fields-sure, four-sure, read-signed-sure, no-filler}
 use Rattle.rules.proofs.V2Rows.{then-rows-cases}
+use Rattle.rules.proofs.Tests.{by-test}
 
 -- ── What is read ──
 
@@ -207,18 +208,16 @@ module _ (s u : List ℕ) (longer : Longer s u) (h : V2Hdr) (w row : ℕ) where
 
     based-tail-sure : (b : Bits) → Sure state b (close (based-tail s h row col st mode b)) (close (based-tail u h row col st mode b))
     unfolding based-tail
-    based-tail-sure b = go (eqb (base-refusal row col (st .motion)) 5) (eqb (base-refusal row col (st .motion)) 6)
+    based-tail-sure b =
+        by-test (eqb (base-refusal row col (st .motion)) 5)
+        (λ e. rw e (sure-none state (close early)))
+        (λ f. rw f (by-test (eqb (base-refusal row col (st .motion)) 6) (λ e. rw e (sure-none state (close outside))) (λ e. rw e (tail-sure b))))
       where
         early : Tail
         early = record { outcome = EarlyMotion b; mode = mode; differences = [] }
 
         outside : Tail
         outside = record { outcome = Outside b; mode = mode; differences = [] }
-
-        go : (t v : Bool) → Sure state b (close (cond t early (cond v outside (tail s h row st mode b)))) (close (cond t early (cond v outside (tail u h row st mode b))))
-        go true v = sure-none state (close early)
-        go false true = sure-none state (close outside)
-        go false false = tail-sure b
 
   read-block-sure : (col : ℕ) (b : Bits) (st : V2Row) (mode : List (List ℕ))
       → Sure state b (seen (read-block s h w row col b st mode)) (seen (read-block u h w row col b st mode))
@@ -266,11 +265,7 @@ split-more ds (same p) = same (split-more ds p)
 split-more ds (apart h) = apart h
 
 filler-there : (b : Bits) → b .filler ≢ 0 → has-filler b ≡ true
-filler-there b e = go (eqb (b .filler) 0) refl
-  where
-    go : (t : Bool) → eqb (b .filler) 0 ≡ t → not t ≡ true
-    go true q = absurd (e (eqb-true (b .filler) 0 q))
-    go false q = refl
+filler-there b e = by-test (eqb (b .filler) 0) (λ q. rw q (absurd (e (eqb-true (b .filler) 0 q)))) (λ q. rw q)
 
 module _ (s u : List ℕ) (longer : Longer s u) (h : V2Hdr) (w row : ℕ) where
   module _ (col : ℕ) (b : Bits) (st : V2Row) (mode : List (List ℕ)) where
@@ -372,21 +367,13 @@ module _ (s u : List ℕ) (longer : Longer s u) (h : V2Hdr) (w row : ℕ) where
 
 then-split : (row : ℕ) (q : Row) (x y : Frame) → Split (x .blocks) (y .blocks) → Split (then-rows row q x .blocks) (then-rows row q y .blocks)
 unfolding then-rows
-then-split row q x y p = go (eqb (q .number) 0) (eqb (q .bits .filler) 0)
+then-split row q x y p =
+    by-test (eqb (q .number) 0)
+    (λ f. rw f (by-test (eqb (q .bits .filler) 0) (λ e. rw e (split-same (q .blocks) p)) (λ e. rw e whole)))
+    (λ e. rw e whole)
   where
     whole : Split (q .blocks) (q .blocks)
     whole = rw append-nil at (split-same (q .blocks) {xs = []} {ys = []} (apart nil))
-
-    go : (t v : Bool)
-        → Split (cond {A = Frame} t (cond v (record { blocks = q .blocks ++ x .blocks; answer = x .answer })
-        (record { blocks = q .blocks; answer = record { number = 8; row = row; filler = q .bits .filler } }))
-        (record { blocks = q .blocks; answer = record { number = q .number; row = row; filler = q .bits .filler } }) .blocks)
-        (cond {A = Frame} t (cond v (record { blocks = q .blocks ++ y .blocks; answer = y .answer })
-        (record { blocks = q .blocks; answer = record { number = 8; row = row; filler = q .bits .filler } }))
-        (record { blocks = q .blocks; answer = record { number = q .number; row = row; filler = q .bits .filler } }) .blocks)
-    go true true = split-same (q .blocks) p
-    go true false = whole
-    go false v = whole
 
 -- A row with filler is the last.
 then-last : (row : ℕ) (q : Row) (x : Frame) → q .bits .filler ≢ 0 → then-rows row q x .blocks ≡ q .blocks
@@ -409,21 +396,18 @@ module _ (s u : List ℕ) (longer : Longer s u) (h : V2Hdr) (w : ℕ) where
   rows-split : (k row : ℕ) (b : Bits) → Split (rows s h w k row b .blocks) (rows u h w k row b .blocks)
   unfolding rows
   rows-split zero row b = apart nil
-  rows-split (suc k) row b = go (eqb (q s .bits .filler) 0) refl (rows-split k (suc row) (q s .bits))
+  rows-split (suc k) row b =
+      by-test (eqb (q s .bits .filler) 0)
+      (λ e. rw (← row-sure row b .same (eqb-true (q s .bits .filler) 0 e)) (then-split row (q s) (rest s (q s .bits)) (rest u (q s .bits)) (rows-split k (suc row) (q s .bits))))
+      (λ e. rw (then-last row (q s) (rest s (q s .bits)) (eqb-false (q s .bits .filler) 0 e))
+      (then-rows-cases (λ y. Split (q s .blocks) (y .blocks)) row (q u) (rest u (q u .bits)) (λ r. row-split row b) (λ r m. row-split row b)
+      (λ r m. split-more (rest u (q u .bits) .blocks) (row-split row b))))
     where
       q : List ℕ → Row
       q v = read-row v h w row b
 
       rest : List ℕ → Bits → Frame
       rest v b′ = rows v h w k (suc row) b′
-
-      go : (t : Bool) → eqb (q s .bits .filler) 0 ≡ t → Split (rest s (q s .bits) .blocks) (rest u (q s .bits) .blocks)
-          → Split (then-rows row (q s) (rest s (q s .bits)) .blocks) (then-rows row (q u) (rest u (q u .bits)) .blocks)
-      go true e p = rw (← row-sure row b .same (eqb-true (q s .bits .filler) 0 e)) (then-split row (q s) (rest s (q s .bits)) (rest u (q s .bits)) p)
-      go false e p =
-          rw (then-last row (q s) (rest s (q s .bits)) (eqb-false (q s .bits .filler) 0 e))
-          (then-rows-cases (λ y. Split (q s .blocks) (y .blocks)) row (q u) (rest u (q u .bits)) (λ r. row-split row b) (λ r m. row-split row b)
-          (λ r m. split-more (rest u (q u .bits) .blocks) (row-split row b)))
 
   rows-filled : (k row : ℕ) (b : Bits) → b .filler ≢ 0 → All (λ x. x .filler ≡ true) (rows s h w k row b .blocks)
   unfolding rows
@@ -439,13 +423,11 @@ pub data Parted (s u : List ℕ) (z : Size) : Type 0 where
 
 pub frame-parted : (s u : List ℕ) → Longer s u → (z : Size) → Parted s u z
 unfolding read-frame
-frame-parted s u longer z = go (eqb (header s .bits .filler) 0) refl
-  where
-    go : (t : Bool) → eqb (header s .bits .filler) 0 ≡ t → Parted s u z
-    go true e =
-        let q = header-sure s u longer .same (eqb-true (header s .bits .filler) 0 e) in
-        alike q (rw (← q) (rows-split s u longer (header s .hdr) (z .width) (z .height) 0 (header s .bits)))
-    go false e = filled (rows-filled s u longer (header s .hdr) (z .width) (z .height) 0 (header s .bits) (eqb-false (header s .bits .filler) 0 e))
+frame-parted s u longer z =
+    by-test (eqb (header s .bits .filler) 0)
+    (λ e. let q = header-sure s u longer .same (eqb-true (header s .bits .filler) 0 e) in
+    alike q (rw (← q) (rows-split s u longer (header s .hdr) (z .width) (z .height) 0 (header s .bits))))
+    (λ e. filled (rows-filled s u longer (header s .hdr) (z .width) (z .height) 0 (header s .bits) (eqb-false (header s .bits .filler) 0 e)))
 
 -- ── Places ──
 

@@ -1,9 +1,9 @@
 -- Document 01, "The map": an accepted V2 frame of a width divisible by 16 has no 1, by the first part of the map's bytes. Its blocks follow one another without a gap
 -- from the first sample to the last, and each reads only before itself.
 use Prim.Native.Nat.{ℕ, zero, suc, _+_, _-_, _*_, _/_, _%_, _<_, _≤_, max}
-use mathlib.Core.Bool.{Bool, true, false, cond}
+use mathlib.Core.Bool.{false}
 use mathlib.Core.Path.{_≡_, refl, ap₂, _∙_, subst₂}
-use mathlib.Core.Logic.{inl}
+use mathlib.Core.Logic.{inl, by-cases}
 use mathlib.Core.List.{List, [], _∷_, _++_}
 use native.Mathlib.Omega.{arith}
 use native.Mathlib.Decide.{ℕ-discrete}
@@ -32,6 +32,7 @@ use Rattle.rules.proofs.V2Rows.{then-rows-cases}
 use Rattle.rules.proofs.V2Places.{further, reference-is, reference-before}
 use Rattle.rules.proofs.V2References.{reference-least}
 use Rattle.rules.proofs.V2Bounds.{next-state, next-unrefused}
+use Rattle.rules.proofs.Tests.{by-test}
 
 -- ── Blocks one after another ──
 
@@ -85,11 +86,10 @@ sets-zero (suc k) i g n f l e z =
     rw q (sets-zero k (suc i) g (suc n) (set f n (g i)) (rw length-set (omega arith)) (λ j h. e j (omega arith)) first)
   where
     first : Zero (suc n) (set f n (g i))
-    first j h = go (ℕ-discrete j n)
-      where
-        go : Dec (j ≡ n) → getD (set f n (g i)) j 0 ≡ 0
-        go (yes r) = rw r (getD-set-same f n (g i) 0 (omega arith) ∙ e i (omega arith))
-        go (no r) = getD-set-other f n j (g i) 0 r ∙ z j (omega arith)
+    first j h =
+        by-cases (ℕ-discrete j n)
+        (λ r. rw r (getD-set-same f n (g i) 0 (omega arith) ∙ e i (omega arith)))
+        (λ r. getD-set-other f n j (g i) 0 r ∙ z j (omega arith))
 
 base-zero : (n : ℕ) (f : List ℕ) → Zero n f → (b : Base) → Before n b → base-cell old-kind f b ≡ 0
 unfolding base-cell
@@ -111,34 +111,26 @@ module _ (w row col motion i : ℕ) (wide : 20 ≤ w) (two : 2 ≤ row) (l : i <
   referred-before : 5 ≤ reference-5 w row col motion i → Before (row * w + col) (referred w row col motion i)
   unfolding referred
   referred-before k =
-      rw (reference-is w row col motion i, le-ltb (reference-5 w row col motion i) 5 k) (go (getD motion-averages motion false) refl k)
-    where
-      go : (t : Bool) → getD motion-averages motion false ≡ t → 5 ≤ reference-5 w row col motion i → (let p = reference-5 w row col motion i - 5 in
-          Before (row * w + col) (cond t (averaged p (p + 2)) (copied p)))
-      go true f k = let q = rw f at (reference-before w row col motion i two l wide) in (omega arith, omega arith)
-      go false f k = let q = rw f at (reference-before w row col motion i two l wide) in omega arith
+      rw (reference-is w row col motion i, le-ltb (reference-5 w row col motion i) 5 k) (by-test (getD motion-averages motion false)
+      (λ f. rw f (let q = rw f at (reference-before w row col motion i two l wide) in (omega arith, omega arith)))
+      (λ f. rw f (let q = rw f at (reference-before w row col motion i two l wide) in omega arith)))
 
 module _ (h : V2Hdr) (w row col : ℕ) (wide : 20 ≤ w) (column : col % 16 ≡ 0) where
   repeated-before : (i : ℕ) → Before (row * w + col) (repeated h w row col i)
   unfolding repeated
-  repeated-before i = go (eqb col 0) refl
-    where
-      go : (t : Bool) → eqb col 0 ≡ t → Before (row * w + col) (cond t (given (h .initial)) (copied (row * w + col - 2 + i % 2)))
-      go true e = tt
-      go false e = let q = eqb-false col 0 e in omega arith
+  repeated-before i = by-test (eqb col 0) (λ e. rw e tt) (λ e. rw e (let q = eqb-false col 0 e in omega arith))
 
   -- A base that met no refusal reads before its block.
   base-before : (motion i : ℕ) → i < 16 → base-refusal row col motion ≡ 0 → Before (row * w + col) (base h w row col motion i)
   unfolding base base-refusal
-  base-before motion i l = go (eqb motion 7) (ltb row 2) refl (refers-before row col motion) refl
-    where
-      go : (t u : Bool) → ltb row 2 ≡ u → (v : Bool) → refers-before row col motion ≡ v → cond {A = ℕ} t 0 (cond u 5 (cond v 6 0)) ≡ 0
-          → Before (row * w + col) (cond t (repeated h w row col i) (referred w row col motion i))
-      go true u e v f r = repeated-before i
-      go false true e v f r = absurd (let q : 5 ≡ 0 = r in omega arith)
-      go false false e true f r = absurd (let q : 6 ≡ 0 = r in omega arith)
-      go false false e false f r =
-          referred-before w row col motion i wide (ltb-false row 2 e) l (reference-least w row col motion (ltb-false row 2 e) (omega arith) column f i)
+  base-before motion i l =
+      by-test (eqb motion 7)
+      (λ e. rw e (λ r. repeated-before i))
+      (λ g. rw g (by-test (ltb row 2)
+      (λ e. rw e (λ r. absurd (let q : 5 ≡ 0 = r in omega arith)))
+      (λ e. rw e (by-test (refers-before row col motion)
+      (λ f. rw f (λ r. absurd (let q : 6 ≡ 0 = r in omega arith)))
+      (λ f. rw f (λ r. referred-before w row col motion i wide (ltb-false row 2 e) l (reference-least w row col motion (ltb-false row 2 e) (omega arith) column f i)))))))
 
 -- ── Rows and frames ──
 

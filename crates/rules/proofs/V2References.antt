@@ -18,7 +18,7 @@ use Rattle.rules.specs.V2.{motion-offsets, reference, refers-before, bas
 use Rattle.rules.specs.References.{outside, strays, any-strays, tested-refusal}
 use Rattle.rules.specs.Ranges.{offset-4, reference-5}
 use Rattle.rules.proofs.Cells.{All, nil, more, all-get}
-use Rattle.rules.proofs.Tests.{clash}
+use Rattle.rules.proofs.Tests.{clash, by-test}
 use Rattle.rules.proofs.V2Places.{block-inside, further, reference-is, reference-row}
 
 -- ── The highest reference ──
@@ -63,7 +63,10 @@ module _ (w row col motion : ℕ) (two : 2 ≤ row) (wide : 16 ≤ w) (column : 
   -- No reference is below 0.
   pub reference-least : (i : ℕ) → 5 ≤ reference-5 w row col motion i
   unfolding reference-5
-  reference-least i = go (eqb ((row + i) % 2) 1) refl
+  reference-least i =
+      by-test (eqb ((row + i) % 2) 1)
+      (λ f. rw f (two-up (eqb-true ((row + i) % 2) 1 f) (ℕ-discrete row 2)))
+      (λ f. rw f (omega (arith, up (row - 1) (omega arith))))
     where
       up : (k : ℕ) → 1 ≤ k → w ≤ k * w
       up k h = let q : 1 * w ≤ k * w = mul-le-mul-right w h in omega arith
@@ -75,11 +78,6 @@ module _ (w row col motion : ℕ) (two : 2 ≤ row) (wide : 16 ≤ w) (column : 
       two-up : (row + i) % 2 ≡ 1 → Dec (row ≡ 2) → 5 ≤ (row - 2) * w + col + i + offset-4 motion + 1
       two-up odd (yes er) = first odd er (ℕ-discrete col 0)
       two-up odd (no nr) = omega (arith, up (row - 2) (omega arith))
-
-      go : (t : Bool) → eqb ((row + i) % 2) 1 ≡ t
-          → 5 ≤ cond t ((row - 2) * w + col + i + offset-4 motion + 1) ((row - 1) * w + col + i + offset-4 motion + (2 - i % 2 * 2))
-      go true f = two-up (eqb-true ((row + i) % 2) 1 f) (ℕ-discrete row 2)
-      go false f = omega (arith, up (row - 1) (omega arith))
 
   -- Each reference, with averaging, lies among n samples that hold the block.
   pub reference-inside : (n i : ℕ) → i < 16 → col + 16 ≤ w → row * w + col + 16 ≤ n
@@ -127,25 +125,21 @@ module _ (n w row col motion : ℕ) (two : 2 ≤ row) (fits : col + 16 ≤ w) (c
   -- A reference is outside exactly at row 2, column 0, motion 0, 1 or 2.
   pub strays-exactly : any-strays n w row col motion 16 0 ≡ refers-before row col motion
   unfolding refers-before
-  strays-exactly = go (refers-before row col motion) refl
-    where
-      go : (t : Bool) → refers-before row col motion ≡ t → any-strays n w row col motion 16 0 ≡ t
-      go true e =
-          let p = both-hold (eqb row 2) (eqb col 0 && ltb motion 3) e in
-          let q = both-hold (eqb col 0) (ltb motion 3) (p .1) in
-          one-strays n w row col motion (eqb-true row 2 (p .0)) (eqb-true col 0 (q .0)) (ltb-true motion 3 (q .1))
-      go false e =
-          none-strays n w row col motion 16 0
-          (λ j l. inside-stays n w row col motion j (reference-inside w row col motion two (omega arith) column e n j l fits room))
+  strays-exactly =
+      by-test (refers-before row col motion)
+      (λ e. rw e (let p = both-hold (eqb row 2) (eqb col 0 && ltb motion 3) e in
+      let q = both-hold (eqb col 0) (ltb motion 3) (p .1) in
+      one-strays n w row col motion (eqb-true row 2 (p .0)) (eqb-true col 0 (q .0)) (ltb-true motion 3 (q .1))))
+      (λ e. rw e (none-strays n w row col motion 16 0
+      (λ j l. inside-stays n w row col motion j (reference-inside w row col motion two (omega arith) column e n j l fits room))))
 
 -- So the rule is the test of all references, in every frame and at every block.
 pub refusal-tested : (z : Size) (row col motion : ℕ) → row < z .height → col + 16 ≤ z .width → col % 16 ≡ 0
     → base-refusal row col motion ≡ tested-refusal (cells z) (z .width) row col motion
 unfolding base-refusal tested-refusal
-refusal-tested z row col motion below fits column = go (eqb motion 7) (ltb row 2) refl
-  where
-    go : (t u : Bool) → ltb row 2 ≡ u
-        → cond {A = ℕ} t 0 (cond u 5 (cond (refers-before row col motion) 6 0)) ≡ cond t 0 (cond u 5 (cond (any-strays (cells z) (z .width) row col motion 16 0) 6 0))
-    go true u e = refl
-    go false true e = refl
-    go false false e = rw (strays-exactly (cells z) (z .width) row col motion (ltb-false row 2 e) fits column (block-inside z row col below fits))
+refusal-tested z row col motion below fits column =
+    by-test (eqb motion 7)
+    (λ e. rw e)
+    (λ f. rw f (by-test (ltb row 2)
+    (λ e. rw e)
+    (λ e. rw e (rw (strays-exactly (cells z) (z .width) row col motion (ltb-false row 2 e) fits column (block-inside z row col below fits))))))

@@ -1,6 +1,5 @@
 -- What an entry owes: its answer and what it leaves are what the rules say.
 use mathlib.Core.Path.{_≡_, refl, sym, ap, _∙_}
-use mathlib.Core.Bool.{Bool, true, false}
 use mathlib.Core.List.{List, _++_}
 use mathlib.Core.Option.{Option, none, some, Option·map}
 use Prim.Native.Nat.{ℕ, _≤_}
@@ -11,6 +10,7 @@ use borrow.Author.Tests.{eqb-true, eqb-false}
 use Rattle.rules.specs.declared.answer.Answer.{Answer}
 use Rattle.rules.specs.Frame.{cells}
 use Rattle.rules.specs.Answer.{refused, Ask, Lent, Buffers, lengths, Yields, refusal, answer, stream-answer, frame-samples, marks, frame-scratch, unless-refused, samples-after, map-after, scratch-after}
+use Rattle.rules.proofs.Tests.{by-test}
 use Rattle.rules.proofs.Refusals.{answer-refused, answer-passed, samples-kept, map-kept, scratch-kept}
 
 -- What leaves every buffer as it was leaves one that may not be lent as it was.
@@ -31,12 +31,8 @@ refused-yields a found k e n r q =
     l : Lent
     l = lengths found
 
-    go : (t : Bool) → eqb k 0 ≡ t → 1 ≤ refusal a l
-    go true q = absurd (n (eqb-true k 0 q))
-    go false q = let m = eqb-false k 0 q in omega (arith, e)
-
     some-refusal : 1 ≤ refusal a l
-    some-refusal = go (eqb k 0) refl
+    some-refusal = by-test (eqb k 0) (λ q. absurd (n (eqb-true k 0 q))) (λ q. let m = eqb-false k 0 q in omega (arith, e))
 
 -- Else the stream answers, the frame's samples and marks are the first of their buffers, and its directions the first of the scratch.
 module _ (a : Ask) (l : Lent) (ok : refusal a l ≡ 0) where

@@ -1,7 +1,7 @@
 -- The two-phase entry equals the direct ones: called alike, with scratch long enough, they give the same number, row and samples. The
 -- direct ones alone count missing words and make a map.
 use mathlib.Core.Path.{_≡_, refl, sym, ap, _∙_}
-use mathlib.Core.Bool.{Bool, true, false, cond}
+use mathlib.Core.Bool.{false}
 use mathlib.Core.List.{List, _++_}
 use mathlib.Core.Option.{Option, none}
 use Prim.Native.Nat.{ℕ, _≤_}
@@ -12,10 +12,11 @@ use borrow.Author.Tests.{le-ltb, eqb-true}
 use Rattle.rules.specs.declared.answer.Answer.{Answer}
 use Rattle.rules.specs.declared.answer.Size.{Size}
 use Rattle.rules.specs.Frame.{cells}
-use Rattle.rules.specs.Answer.{done, refused, Decoder, direct, two-phase, Ask, Lent, lent, lengths, too-small, short-samples, short-offsets, short-map, short-scratch, scratch-bytes, refusal, stream-answer, answer, frame-samples, unless-refused, samples-after}
+use Rattle.rules.specs.Answer.{direct, two-phase, Ask, Lent, lent, lengths, too-small, short-samples, short-offsets, short-map, short-scratch, scratch-bytes, refusal, stream-answer, answer, frame-samples, unless-refused, samples-after}
 use Rattle.rules.proofs.Refusals.{samples-enough}
 use Rattle.rules.proofs.TwoPhase.{two-phase-direct}
 use Rattle.rules.proofs.Isolation.{Returned}
+use Rattle.rules.proofs.Tests.{by-test}
 use Rattle.samsung.proofs.Isolation.{Call, returned}
 
 -- ── The statement ──
@@ -52,35 +53,25 @@ module _ (a : Ask) (is : a .decoder ≡ direct) (n : ℕ) (m : Option ℕ) (long
 
   answer-same : answer (in-two-phases a) (lent n none k) ≡ uncounted (answer a (lent n m j))
   unfolding answer stream-answer
-  answer-same = rw refusal-same (go (a .decoder) is (eqb r 0))
+  answer-same = rw refusal-same (by-test (eqb r 0) (λ e. rw e (rw is)) (λ e. rw e))
     where
       r : ℕ
       r = refusal a (lent n m j)
 
-      go : (d : Decoder) → d ≡ direct → (t : Bool)
-          → cond t done (refused r) ≡ uncounted (cond t (stream-answer d (a .stream) (a .offsets) (a .size)) (refused r))
-      go d e true = rw e
-      go d e false = refl
-
   samples-same : (buffer : List ℕ) → length buffer ≡ n → samples-after (in-two-phases a) (lent n none k) buffer ≡ samples-after a (lent n m j) buffer
   unfolding samples-after unless-refused frame-samples
-  samples-same buffer e = rw refusal-same (go (eqb r 0) refl)
+  samples-same buffer e = rw refusal-same (by-test (eqb r 0)
+      (λ q. rw q (let room : cells z ≤ length buffer = rw e (samples-enough a (lent n m j) (eqb-true r 0 q)) in
+      ap (λ f. f ++ drop (cells z) buffer)
+      (two-phase-direct (a .stream) (a .offsets) z (take (cells z) buffer) (length-take-le (cells z) buffer room)
+      ∙ ap (λ k. frame-samples k (a .stream) (a .offsets) z (take (cells z) buffer)) (sym is))))
+      (λ q. rw q))
     where
       z : Size
       z = a .size
 
       r : ℕ
       r = refusal a (lent n m j)
-
-      go : (t : Bool) → eqb r 0 ≡ t
-          → cond t (frame-samples two-phase (a .stream) (a .offsets) z (take (cells z) buffer) ++ drop (cells z) buffer) buffer
-          ≡ cond t (frame-samples (a .decoder) (a .stream) (a .offsets) z (take (cells z) buffer) ++ drop (cells z) buffer) buffer
-      go true q =
-          let room : cells z ≤ length buffer = rw e (samples-enough a (lent n m j) (eqb-true r 0 q)) in
-          ap (λ f. f ++ drop (cells z) buffer)
-          (two-phase-direct (a .stream) (a .offsets) z (take (cells z) buffer) (length-take-le (cells z) buffer room)
-          ∙ ap (λ k. frame-samples k (a .stream) (a .offsets) z (take (cells z) buffer)) (sym is))
-      go false q = refl
 
 pub same-frame : (c d : Returned) → Paired c d → SameFrame c d
 same-frame c d p =

@@ -18,7 +18,7 @@ use Rattle.rules.specs.declared.answer.Size.{Size}
 use Rattle.rules.specs.declared.v0.Predictor.the-variants.{Sample}
 use Rattle.rules.specs.declared.v0.V0Op.{V0Op}
 use Rattle.rules.proofs.Predictors.{predictor-late}
-use Rattle.v0_cells.specs.Places.{Inner, Inside, Whole}
+use Rattle.v0_cells.specs.Places.{Inner, Inside, Low, Whole}
 use Rattle.v0_cells.specs.Inner.{source-of, inner-ops}
 use Rattle.v0_cells.proofs.CellLaws.{product, apply-empty, ops-walk, Left, left-begun, left-on, left-none}
 
@@ -27,8 +27,8 @@ use Rattle.v0_cells.proofs.CellLaws.{product, apply-empty, ops-walk, Le
 rows-most : (w c : ℕ) → rows-up c * w ≤ 2 * w
 rows-most w c = mul-le-mul-right w (omega arith)
 
-module _ (w base c : ℕ) (above : 2 * w ≤ base) (fits : base < 1_000_000_000) (l : c < 16) where
-  pub up-fits : (1 + c % 2) * w < 1_000_000_000
+module _ (w base c : ℕ) (above : 2 * w ≤ base) (fits : Low base) (l : c < 16) where
+  pub up-fits : Low ((1 + c % 2) * w)
   up-fits = omega (arith, rows-most w c)
 
   pub up-before : (1 + c % 2) * w ≤ base + c
@@ -113,7 +113,7 @@ module _ (z : Size) (row col : ℕ) (i : Inner z row col) where
         room = omega (arith, end, i .inside);
       }
 
-  pub inner-fits : row * z .width + col < 1_000_000_000
+  pub inner-fits : Low (row * z .width + col)
   inner-fits = omega (arith, product row (z .width) (omega (arith, i .frame .row-in, i .frame .height)) (omega (arith, i .frame .width)), i .frame .width, i .frame .col-in)
 
   limit-far : row * z .width + col + 16 ≤ limit z

@@ -2,7 +2,7 @@
 -- comes to the operations in the order of the stream. One law for samples and marks.
 use mathlib.Core.Path.{_≡_, refl, sym, ap, subst, _∙_}
 use mathlib.Core.Bool.{Bool, true, false, cond}
-use mathlib.Core.Logic.{_≢_}
+use mathlib.Core.Logic.{_≢_, by-cases}
 use mathlib.Core.List.{List, _∷_, map}
 use Prim.Native.Nat.{ℕ, _+_, _-_, _*_, _%_, _≤_, _<_}
 use native.Mathlib.Omega.{arith}
@@ -19,6 +19,7 @@ use Rattle.rules.proofs.Order.{all-order, order-whole}
 use Rattle.v0_cells.specs.Places.{Inside}
 use Rattle.v0_cells.specs.Inner.{source-of, inner-ops, Replaced}
 use Rattle.rules.proofs.V0Cells.{apply-length}
+use Rattle.rules.proofs.Tests.{by-test}
 
 -- ── Cells replaced one after another ──
 
@@ -31,13 +32,11 @@ module _ (k : Kind ℕ) (base : ℕ) (new : ℕ → ℕ) (f₀ : List ℕ) where
   replaced-on n p v f ep l ev r =
       record {
         same-length = length-set f p v ∙ r .same-length;
-        inside = λ c h. go c h (ℕ-discrete c n);
+        inside = λ c h. by-cases (ℕ-discrete c n)
+            (λ e. rw (e, ← ep, ← ev) (getD-set-same f p v (k .constant 0) (omega (arith, r .same-length))))
+            (λ q. getD-set-other f p (base + c) v (k .constant 0) (λ e. q (omega arith)) ∙ r .inside c (omega arith));
         outside = λ i h. getD-set-other f p i v (k .constant 0) (λ e. h n (omega arith) (e ∙ ep)) ∙ r .outside i (λ c m. h c (omega arith));
       }
-    where
-      go : (c : ℕ) → c < n + 1 → Dec (c ≡ n) → getD (set f p v) (base + c) (k .constant 0) ≡ new c
-      go c h (yes e) = rw (e, ← ep, ← ev) (getD-set-same f p v (k .constant 0) (omega (arith, r .same-length)))
-      go c h (no q) = getD-set-other f p (base + c) v (k .constant 0) (λ e. q (omega arith)) ∙ r .inside c (omega arith)
 
   pub replaced-done : (n : ℕ) (f : List ℕ) → 16 ≤ n → (n ≤ 16) × Replaced k base n new f₀ f → Replaced k base 16 new f₀ f
   replaced-done n f l r = let e : n ≡ 16 = omega (arith, r .0) in rw e at (r .1)
@@ -152,11 +151,9 @@ module _ (k : Kind ℕ) (w base : ℕ) (up : Bool) (d : ℕ → ℕ) (f₀ : Lis
 -- ── The choice by parity ──
 
 by-parity : (g : ℕ → ℕ) (c r : ℕ) → r ≡ cond (eqb (c % 2) 0) (g 0) (g 1) → r ≡ g (c % 2)
-by-parity g c r e = e ∙ go (eqb (c % 2) 0) refl
-  where
-    go : (t : Bool) → eqb (c % 2) 0 ≡ t → cond t (g 0) (g 1) ≡ g (c % 2)
-    go true q = ap g (sym (eqb-true (c % 2) 0 q))
-    go false q = let n = eqb-false (c % 2) 0 q in let one : 1 ≡ c % 2 = omega arith in ap g one
+by-parity g c r e = e ∙ by-test (eqb (c % 2) 0)
+    (λ q. rw q (ap g (sym (eqb-true (c % 2) 0 q))))
+    (λ q. rw q (let n = eqb-false (c % 2) 0 q in let one : 1 ≡ c % 2 = omega arith in ap g one))
 
 -- Direction 1 takes an even cell from one row up, an odd one from two; direction 0 from two columns before the block or from one.
 pub choice-up : (w base c r z : ℕ) (f : List ℕ) → r ≡ cond (eqb (c % 2) 0) (getD f (base + c - w) z) (getD f (base + c - 2 * w) z)

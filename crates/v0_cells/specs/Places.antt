@@ -32,6 +32,10 @@ pub record Inside (w base : ℕ) (f : List ℕ) : Type 0 where
   pub rows : 2 * w ≤ base
   pub room : base + 16 ≤ length f
 
+-- Low enough that sums with it fit 64 bits with room to spare: a frame has at most 16,384 rows of 16,384 cells.
+abbrev pub Low : ℕ → Type 0
+Low base = base < 1_000_000_000
+
 -- Two rows that lie in a frame of row length w.
 pub record InPair (w row : ℕ) (f : List ℕ) : Type 0 where
   pub width : w ≤ 16_384

@@ -7,7 +7,7 @@ ghost use lib.Dec.{eqb};
 ghost use lib.ListN.{length, getD, replicate};
 ghost use Rattle.rules.specs.V0 as V0;
 ghost use Rattle.rules.specs.Map.{v0-marks};
-ghost use Rattle.v0_cells.specs.Places.{Whole, Inner, Inside};
+ghost use Rattle.v0_cells.specs.Places.{Whole, Inner, Inside, Low};
 ghost use Rattle.v0_cells.specs.Inner.{source-of, inner-ops, Replaced};
 use rules::Size;
 use rules::V0Row;
@@ -15,7 +15,7 @@ use v0_stream::order::stream_column;
 
 // Where sample c predicts from.
 fn source(w: usize, base: usize, up: bool, c: usize) -> usize
-    requires { ⌜ (2 * w ≤ base) × ((2 ≤ base) × ((base < 1_000_000_000) × (c < 16))) ⌝ }
+    requires { ⌜ (2 * w ≤ base) × ((2 ≤ base) × (Low base × (c < 16))) ⌝ }
     ensures { λ r. ⌜ (r ≡ source-of w base up c) × (r < base + 16) ⌝ }
 {
     if up {
@@ -25,8 +25,8 @@ fn source(w: usize, base: usize, up: bool, c: usize) -> usize
 }
 
 // The samples of a block at `base`.
-pub fn put_inner(out: &mut [u16], w: usize, base: usize, up: bool, residuals: [u16; 16])
-    requires { ⌜ Inside w base (now out) × (base < 1_000_000_000) ⌝ }
+pub fn put_inner(out: &mut [u16], w: usize, base: usize, up: bool, residuals: [u16; V0Row::BLOCK])
+    requires { ⌜ Inside w base (now out) × Low base ⌝ }
     ensures { λ _. ⌜ now (out .exit) ≡ V0.apply V0.sample-kind (inner-ops w base up V0.order residuals) (now (out .entry)) ⌝ }
 {
     let mut k: usize = 0;
@@ -46,8 +46,8 @@ fn mark_of(c: usize, even: u8, odd: u8) -> u8
 }
 
 // The marks of a block, once all are known.
-fn store_marks(map: &mut [u8], base: usize, values: [u8; 16])
-    requires { ⌜ (base + 16 ≤ length (now map)) × (base < 1_000_000_000) ⌝ }
+fn store_marks(map: &mut [u8], base: usize, values: [u8; V0Row::BLOCK])
+    requires { ⌜ (base + 16 ≤ length (now map)) × Low base ⌝ }
     ensures { λ _. ⌜ Replaced v0-marks base 16 (λ c. getD values c 0) (now (map .entry)) (now (map .exit)) ⌝ }
 {
     let mut c: usize = 0;
@@ -60,7 +60,7 @@ fn store_marks(map: &mut [u8], base: usize, values: [u8; 16])
 // The marks of a block of direction 1. Every source lies before the block, so that all marks are made first and then stored: a
 // store to the map between the reads would keep the compiler from joining them.
 fn mark_up(map: &mut [u8], w: usize, base: usize)
-    requires { ⌜ Inside w base (now map) × (base < 1_000_000_000) ⌝ }
+    requires { ⌜ Inside w base (now map) × Low base ⌝ }
     ensures { λ _. ⌜ now (map .exit) ≡ V0.apply v0-marks (inner-ops w base true V0.order (replicate 16 0)) (now (map .entry)) ⌝ }
 {
     let mut values = [0; V0Row::BLOCK];
@@ -76,7 +76,7 @@ fn mark_up(map: &mut [u8], w: usize, base: usize)
 
 // The marks of a block of direction 0: the two columns before it serve all sixteen. The row length is for the contract alone.
 fn mark_left(map: &mut [u8], w: usize, base: usize)
-    requires { ⌜ Inside w base (now map) × (base < 1_000_000_000) ⌝ }
+    requires { ⌜ Inside w base (now map) × Low base ⌝ }
     ensures { λ _. ⌜ now (map .exit) ≡ V0.apply v0-marks (inner-ops w base false V0.order (replicate 16 0)) (now (map .entry)) ⌝ }
 {
     let two = map[base - 2];
@@ -92,7 +92,7 @@ fn mark_left(map: &mut [u8], w: usize, base: usize)
 
 // The marks of a block at `base`: no residual changes one.
 fn mark_inner(map: &mut [u8], w: usize, base: usize, up: bool)
-    requires { ⌜ Inside w base (now map) × (base < 1_000_000_000) ⌝ }
+    requires { ⌜ Inside w base (now map) × Low base ⌝ }
     ensures { λ _. ⌜ now (map .exit) ≡ V0.apply v0-marks (inner-ops w base up V0.order (replicate 16 0)) (now (map .entry)) ⌝ }
 {
     if up {

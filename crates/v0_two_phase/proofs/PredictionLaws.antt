@@ -18,7 +18,7 @@ use Rattle.rules.specs.declared.v0.Predictor.the-variants.{Constant, Sample}
 use Rattle.rules.proofs.Cells.{All, nil, more}
 use Rattle.rules.proofs.Order.{Apart, end, next, all-order, order-apart}
 use Rattle.rules.proofs.Spill.{put-other}
-use Rattle.v0_cells.specs.Places.{Inside}
+use Rattle.v0_cells.specs.Places.{Inside, Low}
 use Rattle.v0_cells.specs.Inner.{inner-ops}
 use Rattle.v0_cells.proofs.CellLaws.{product}
 use Rattle.v0_cells.proofs.InnerLaws.{late-source}
@@ -83,7 +83,7 @@ module _ (g : Stage ℕ) (w row col : ℕ) (up : Bool) where
 
 -- A block after column 0 that lies within its row has two rows before it.
 pub late-inside : {w row : ℕ} {f : List ℕ} (col : ℕ) → LateRow w row f → 0 < col → col + 16 ≤ w
-    → Inside w (row * w + col) f × (row * w + col < 1_000_000_000)
+    → Inside w (row * w + col) f × Low (row * w + col)
 late-inside {w} {row} col l after within =
     let two : 2 * w ≤ row * w = mul-le-mul-right w (l .rows-above) in
     let most = product row w (omega (arith, l .row-below)) (omega (arith, l .width)) in

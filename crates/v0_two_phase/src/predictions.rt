@@ -7,7 +7,7 @@ ghost use lib.Dec.{eqb};
 ghost use lib.ListN.{length, getD, take, drop};
 ghost use Rattle.rules.specs.V0.{order, blocks-in, sample-kind};
 ghost use Rattle.rules.specs.Phases.{late-predictor, predict-samples, predict-blocks, phase-two, sample-stage};
-ghost use Rattle.v0_cells.specs.Places.{Inside};
+ghost use Rattle.v0_cells.specs.Places.{Inside, Low};
 ghost use Rattle.v0_cells.specs.Inner.{Replaced};
 ghost use Rattle.v0_two_phase.specs.Inner.{predict-inner};
 ghost use Rattle.v0_two_phase.specs.Lent.{LateSample, LateRow, PhaseLent};
@@ -75,7 +75,7 @@ fn sample_of(c: usize, even: u16, odd: u16) -> u16
 
 // The samples of a block, once all are known.
 fn store_samples(out: &mut [u16], base: usize, values: [u16; 16])
-    requires { ⌜ (base + 16 ≤ length (now out)) × (base < 1_000_000_000) ⌝ }
+    requires { ⌜ (base + 16 ≤ length (now out)) × Low base ⌝ }
     ensures { λ _. ⌜ Replaced sample-kind base 16 (λ c. getD values c 0) (now (out .entry)) (now (out .exit)) ⌝ }
 {
     let mut c: usize = 0;
@@ -87,7 +87,7 @@ fn store_samples(out: &mut [u16], base: usize, values: [u16; 16])
 
 // An inner block of direction 1. As for its marks, all sums are made first and then stored.
 fn add_up(out: &mut [u16], w: usize, base: usize)
-    requires { ⌜ Inside w base (now out) × (base < 1_000_000_000) ⌝ }
+    requires { ⌜ Inside w base (now out) × Low base ⌝ }
     ensures { λ _. ⌜ now (out .exit) ≡ predict-inner w base true (now (out .entry)) ⌝ }
 {
     let mut values = [0; V0Row::BLOCK];
@@ -104,7 +104,7 @@ fn add_up(out: &mut [u16], w: usize, base: usize)
 
 // An inner block of direction 0. The row length is for the contract alone.
 fn add_left(out: &mut [u16], w: usize, base: usize)
-    requires { ⌜ Inside w base (now out) × (base < 1_000_000_000) ⌝ }
+    requires { ⌜ Inside w base (now out) × Low base ⌝ }
     ensures { λ _. ⌜ now (out .exit) ≡ predict-inner w base false (now (out .entry)) ⌝ }
 {
     let two = out[base - 2];

@@ -1,5 +1,5 @@
 -- A block from its stages: what each stage gave is a variable with its equation.
-use mathlib.Core.Bool.{Bool, true, false, cond}
+use mathlib.Core.Bool.{true, false}
 use mathlib.Core.List.{List}
 use mathlib.Core.Path.{_≡_, refl, ap₂, _∙_}
 use Prim.Native.Nat.{ℕ, _+_, _≤_}
@@ -21,6 +21,7 @@ use Rattle.rules.specs.V2.{read-scale, read-motion, Base, given, copied, averag
 use Rattle.rules.specs.Ranges.{Between, Small}
 use Rattle.rules.proofs.Cells.{all-get}
 use Rattle.rules.proofs.V2Bounds.{between-abs, mag-abs, scale-read, scale-within, motion-most, lengths-small, differences-small}
+use Rattle.rules.proofs.Tests.{by-test}
 use Rattle.v2_cells.specs.declared.Place.{Place}
 use Rattle.v2.specs.Blocks.{Ready, written}
 
@@ -132,10 +133,9 @@ module _ (s : List ℕ) (h : V2Hdr) (w row col : ℕ) (b : Bits) (st : V2Row) (m
 -- A refusal that is neither 5 nor 6 is 0.
 pub refusal-zero : (row col motion k : ℕ) → k ≡ base-refusal row col motion → (k ≡ 5 → ⊥) → (k ≡ 6 → ⊥) → k ≡ 0
 unfolding base-refusal
-refusal-zero row col motion k e a b = go (eqb motion 7) (ltb row 2) (refers-before row col motion) e
-  where
-    go : (t u v : Bool) → k ≡ cond t 0 (cond u 5 (cond v 6 0)) → k ≡ 0
-    go true u v q = q
-    go false true v q = absurd (a q)
-    go false false true q = absurd (b q)
-    go false false false q = q
+refusal-zero row col motion k e a b =
+    by-test (eqb motion 7)
+    (λ f. (rw f at e))
+    (λ f. by-test (ltb row 2)
+    (λ g. absurd (a (rw (f, g) at e)))
+    (λ g. by-test (refers-before row col motion) (λ e₁. absurd (b (rw (f, g, e₁) at e))) (λ e₁. (rw (f, g, e₁) at e))))

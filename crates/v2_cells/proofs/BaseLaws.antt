@@ -15,11 +15,12 @@ use mir.ValLaws.{toZ-ofZ}
 use borrow.Author.Tests.{lt-ltb, le-ltb, ltb-false, eqb-true, eqb-false, ne-eqb}
 use Rattle.rules.specs.declared.v2.V2Hdr.{V2Hdr}
 use Rattle.rules.specs.Frame.{tabulate}
-use Rattle.rules.specs.V2.{motion-offsets, motion-averages, refers-before, base-refusal, averaged, copied, repeated, referred, base, Kind, base-cell}
+use Rattle.rules.specs.V2.{motion-offsets, motion-averages, refers-before, base-refusal, repeated, referred, base, Kind, base-cell}
 use Rattle.rules.specs.Ranges.{offset-4, reference-5}
 use Rattle.rules.proofs.Cells.{All, nil, more, all-get}
 use Rattle.rules.proofs.V2Places.{further, offset-is, offset-most, reference-is}
 use Rattle.rules.proofs.V2References.{reference-inside}
+use Rattle.rules.proofs.Tests.{by-test}
 use Rattle.v2_cells.specs.Places.{along, Runs, cell-from}
 use Rattle.v2_cells.proofs.Fill.{tabulate-same}
 
@@ -50,11 +51,10 @@ offset-code motion = rw (toZ-ofZ w64 (getD motion-offsets motion (pos 0)) (recor
 module _ (w row col motion : ℕ) where
   pub reference-small : (i : ℕ) → row < 16_384 → w ≤ 16_384 → col ≤ 16_384 → i < 16 → reference-5 w row col motion i < 536_870_000
   unfolding reference-5
-  reference-small i h k l m = go (eqb ((row + i) % 2) 1)
-    where
-      go : (t : Bool) → cond t ((row - 2) * w + col + i + offset-4 motion + 1) ((row - 1) * w + col + i + offset-4 motion + (2 - i % 2 * 2)) < 536_870_000
-      go true = omega (arith, rows-room row w h k, offset-most motion)
-      go false = omega (arith, rows-room row w h k, offset-most motion)
+  reference-small i h k l m =
+      by-test (eqb ((row + i) % 2) 1)
+      (λ e. rw e (omega (arith, rows-room row w h k, offset-most motion)))
+      (λ e. rw e (omega (arith, rows-room row w h k, offset-most motion)))
 
   -- A sample refers as far on from one of the same parity as it stands on from it.
   same-parity : (i d : ℕ) → d % 2 ≡ 0 → reference-5 w row col motion (i + d) ≡ reference-5 w row col motion i + d
@@ -62,36 +62,23 @@ module _ (w row col motion : ℕ) where
   same-parity i d e =
       let p : (row + (i + d)) % 2 ≡ (row + i) % 2 = omega arith in
       let q : (i + d) % 2 ≡ i % 2 = omega arith in
-      rw (p, q) (go (eqb ((row + i) % 2) 1))
-    where
-      go : (t : Bool)
-          → cond t ((row - 2) * w + col + (i + d) + offset-4 motion + 1) ((row - 1) * w + col + (i + d) + offset-4 motion + (2 - i % 2 * 2))
-          ≡ cond t ((row - 2) * w + col + i + offset-4 motion + 1) ((row - 1) * w + col + i + offset-4 motion + (2 - i % 2 * 2)) + d
-      go true = omega arith
-      go false = omega arith
+      rw (p, q) (by-test (eqb ((row + i) % 2) 1) (λ f. rw f (omega arith)) (λ f. rw f (omega arith)))
 
   pub along-is : (i : ℕ) → along (reference-5 w row col motion 0) (reference-5 w row col motion 1) i ≡ reference-5 w row col motion i
-  along-is i = go (eqb (i % 2) 0) refl
-    where
-      go : (t : Bool) → eqb (i % 2) 0 ≡ t → cond t (reference-5 w row col motion 0 + i) (reference-5 w row col motion 1 + i - 1) ≡ reference-5 w row col motion i
-      go true e =
-          let p : i % 2 ≡ 0 = eqb-true (i % 2) 0 e in
-          let q : 0 + i ≡ i = omega arith in
-          sym (rw q at (same-parity 0 i p))
-      go false e =
-          let n : i % 2 ≡ 0 → ⊥ = eqb-false (i % 2) 0 e in
-          let p : (i - 1) % 2 ≡ 0 = omega arith in
-          let q : 1 + (i - 1) ≡ i = omega arith in
-          let r = rw q at (same-parity 1 (i - 1) p) in
-          omega arith
+  along-is i =
+      by-test (eqb (i % 2) 0)
+      (λ e. rw e (let p : i % 2 ≡ 0 = eqb-true (i % 2) 0 e in
+      let q : 0 + i ≡ i = omega arith in
+      sym (rw q at (same-parity 0 i p))))
+      (λ e. rw e (let n : i % 2 ≡ 0 → ⊥ = eqb-false (i % 2) 0 e in
+      let p : (i - 1) % 2 ≡ 0 = omega arith in
+      let q : 1 + (i - 1) ≡ i = omega arith in
+      let r = rw q at (same-parity 1 (i - 1) p) in
+      omega arith))
 
 -- The same of places, which are 5 less.
 pub along-5 : (a b i : ℕ) → 5 ≤ a → 5 ≤ b → along (a - 5) (b - 5) i + 5 ≡ along a b i
-along-5 a b i h k = go (eqb (i % 2) 0) refl
-  where
-    go : (t : Bool) → eqb (i % 2) 0 ≡ t → cond t (a - 5 + i) (b - 5 + i - 1) + 5 ≡ cond t (a + i) (b + i - 1)
-    go true e = omega arith
-    go false e = let n : i % 2 ≡ 0 → ⊥ = eqb-false (i % 2) 0 e in omega arith
+along-5 a b i h k = by-test (eqb (i % 2) 0) (λ e. rw e (omega arith)) (λ e. rw e (let n : i % 2 ≡ 0 → ⊥ = eqb-false (i % 2) 0 e in omega arith))
 
 -- ── Which refusal the base meets ──
 
@@ -144,11 +131,10 @@ module _ (row col motion : ℕ) where
 
 -- A place on the runs is inside where their ends are.
 pub along-inside : (n even odd i : ℕ) (t : Bool) → Runs n even odd t → i < 16 → along even odd i + cond t 2 0 < n
-along-inside n even odd i t r h = go (eqb (i % 2) 0) refl
-  where
-    go : (u : Bool) → eqb (i % 2) 0 ≡ u → cond u (even + i) (odd + i - 1) + cond t 2 0 < n
-    go true e = let m : i % 2 ≡ 0 = eqb-true (i % 2) 0 e in omega (arith, r .even-end)
-    go false e = omega (arith, r .odd-end)
+along-inside n even odd i t r h =
+    by-test (eqb (i % 2) 0)
+    (λ e. rw e (let m : i % 2 ≡ 0 = eqb-true (i % 2) 0 e in omega (arith, r .even-end)))
+    (λ e. rw e (omega (arith, r .odd-end)))
 
 -- The runs from the references of samples 0 and 1.
 module _ (n w row col motion : ℕ) (each : In n w row col motion) (even odd : ℕ)
@@ -173,11 +159,7 @@ module _ (n w row col motion : ℕ) (each : In n w row col motion) (even odd : �
       let p = along even odd i in
       let l : 5 ≤ p + 5 = omega arith in
       let q : p + 5 - 5 ≡ p = omega arith in
-      rw (reference-is w row col motion i, ← place-is i, le-ltb (p + 5) 5 l, q, ← et) (go t)
-    where
-      go : (t : Bool) → cell-from K f t (along even odd i) ≡ base-cell K f (cond t (averaged (along even odd i) (along even odd i + 2)) (copied (along even odd i)))
-      go true = refl
-      go false = refl
+      rw (reference-is w row col motion i, ← place-is i, le-ltb (p + 5) 5 l, q, ← et) (by-test t (λ e. rw e) (λ e. rw e))
 
 module _ (K : Kind ℕ) (f : List ℕ) where
   module _ (h : V2Hdr) (w row col motion : ℕ) (l : List ℕ) where

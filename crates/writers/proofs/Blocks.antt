@@ -3,6 +3,7 @@ use Prim.Native.Nat.{ℕ, zero, suc, _+_, _*_, _/_, _<_, _≤_}
 use mathlib.Core.Bool.{Bool}
 use mathlib.Core.Path.{_≡_, refl}
 use mathlib.Core.List.{List, [], _∷_, _++_, append-assoc}
+use mathlib.Core.Logic.{by-cases}
 use native.Mathlib.Omega.{arith}
 use native.Mathlib.Decide.{ℕ-discrete}
 use lib.ListN.{length, length-append}
@@ -75,8 +76,5 @@ block-parts d next rest = regroup (fields-bits opening-widths opening) (run (bit
 pub each-of-run : (P : ℕ → Type 0) (n m : ℕ) → All P (tabulate n m (λ k. k)) → (k : ℕ) → m ≤ k → k < m + n → P k
 unfolding tabulate
 each-of-run P zero m a k h l = absurd (omega arith)
-each-of-run P (suc n) m (more a rest) k h l = go (ℕ-discrete k m) (λ r. each-of-run P n (suc m) rest k r (omega arith))
-  where
-    go : Dec (k ≡ m) → (suc m ≤ k → P k) → P k
-    go (yes e) others = rw e a
-    go (no e) others = others (omega arith)
+each-of-run P (suc n) m (more a rest) k h l =
+    by-cases (ℕ-discrete k m) (λ e. rw e a) (λ e. each-of-run P n (suc m) rest k (omega arith) (omega arith))

@@ -11,7 +11,7 @@ use borrow.Author.Tests.{ltb-true, ltb-false, lt-ltb, le-ltb}
 use Rattle.rules.specs.Frame.{cells}
 use Rattle.rules.specs.Answer.{too-large}
 use Rattle.rules.proofs.Cells.{All, nil, more, all-map, all-append, all-drop, all-get}
-use Rattle.rules.proofs.Tests.{neither}
+use Rattle.rules.proofs.Tests.{neither, by-test}
 use Rattle.writers.specs.Calls.{Call, frame-of, stream-of, offsets-of, any-above, too-bright, short-output, write-refusal, unless-refused, stream-after, offsets-after}
 use Rattle.writers.proofs.Ahead.{Stream}
 use Rattle.writers.proofs.V0RoundTrip.{Holds, written-holds, stream-below}
@@ -33,25 +33,18 @@ unfolding any-above
 above-on most f i top next l e =
     let one : i + 1 ≡ suc i = omega arith in
     ap (λ l. ltb most top || any-above most l) (drop-cons f i 0 l ∙ ap (λ j. getD f i 0 ∷ drop j f) (sym one))
-    ∙ go (ltb most top) refl (ltb most (getD f i 0)) refl
-    ∙ ap (λ m. ltb most m || any-above most (drop (i + 1) f)) (sym e)
+    ∙ by-test (ltb most top)
+    (λ p. rw p (rw (lt-ltb most (max top (getD f i 0)) (omega (arith, ltb-true most top p)))))
+    (λ p. rw p (by-test (ltb most (getD f i 0))
+    (λ q. rw q (rw (lt-ltb most (max top (getD f i 0)) (omega (arith, ltb-true most (getD f i 0) q)))))
+    (λ q. rw q (rw (le-ltb most (max top (getD f i 0)) (omega (arith, ltb-false most top p, ltb-false most (getD f i 0) q))))))) ∙ ap (λ m. ltb most m || any-above most (drop (i + 1) f)) (sym e)
   where
     rest : Bool
     rest = any-above most (drop (i + 1) f)
 
-    go : (t : Bool) → ltb most top ≡ t → (u : Bool) → ltb most (getD f i 0) ≡ u
-        → (t || (u || rest)) ≡ (ltb most (max top (getD f i 0)) || rest)
-    go true p u q = rw (lt-ltb most (max top (getD f i 0)) (omega (arith, ltb-true most top p)))
-    go false p true q = rw (lt-ltb most (max top (getD f i 0)) (omega (arith, ltb-true most (getD f i 0) q)))
-    go false p false q = rw (le-ltb most (max top (getD f i 0)) (omega (arith, ltb-false most top p, ltb-false most (getD f i 0) q)))
-
 pub above-gone : (most : ℕ) (f : List ℕ) (i top : ℕ) → length f ≤ i → (ltb most top || any-above most (drop i f)) ≡ ltb most top
 unfolding any-above
-above-gone most f i top l = rw (drop-of-length-le f {i = i} l) (go (ltb most top))
-  where
-    go : (t : Bool) → (t || false) ≡ t
-    go true = refl
-    go false = refl
+above-gone most f i top l = rw (drop-of-length-le f {i = i} l) (by-test (ltb most top) (λ e. rw e) (λ e. rw e))
 
 -- What a call that is done has passed.
 pub record Passed (c : Call) : Type 0 where

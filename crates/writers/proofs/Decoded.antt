@@ -1,7 +1,6 @@
 -- Decoding what a call of the V0 writer left: by either V0 decoder, over any buffer, with whatever lies past the stream and the last
 -- offset, it gives the samples that were lent, and no map byte is 1.
 use Prim.Native.Nat.{ℕ, _^_, _<_, _≤_}
-use mathlib.Core.Bool.{Bool, true, false, cond}
 use mathlib.Core.Path.{_≡_, refl, ap}
 use mathlib.Core.List.{List, _++_}
 use lib.Dec.{eqb}
@@ -13,8 +12,8 @@ use Rattle.rules.specs.Answer.{Decoder, direct, two-phase, Ask, Lent, done-with
 use Rattle.rules.proofs.Cells.{All}
 use Rattle.rules.proofs.Refusals.{samples-enough}
 use Rattle.rules.proofs.Missing.{frame-none}
-use Rattle.writers.specs.declared.Written.{Written}
-use Rattle.writers.specs.Calls.{Call, frame-of, stream-of, write-refusal, refused, written, write-answer, stream-after, offsets-after}
+use Rattle.rules.proofs.Tests.{by-test}
+use Rattle.writers.specs.Calls.{Call, frame-of, write-refusal, refused, write-answer, stream-after, offsets-after}
 use Rattle.writers.proofs.CallLaws.{write-holds}
 use Rattle.writers.proofs.V0RoundTrip.{Holds}
 
@@ -26,12 +25,7 @@ pub data OfV0 : Decoder → Type 0 where
 -- A call that answers 0 was refused by no test.
 pub done-passed : (c : Call) → write-answer c .answer .number ≡ 0 → write-refusal c ≡ 0
 unfolding write-answer
-done-passed c = go (eqb (write-refusal c) 0) refl
-  where
-    go : (t : Bool) → eqb (write-refusal c) 0 ≡ t
-        → cond {A = Written} t (written (length (stream-of c))) (refused (write-refusal c)) .answer .number ≡ 0 → write-refusal c ≡ 0
-    go true e q = eqb-true (write-refusal c) 0 e
-    go false e q = q
+done-passed c = by-test (eqb (write-refusal c) 0) (λ e. rw e (λ q. eqb-true (write-refusal c) 0 e)) (λ e. rw e (λ q. q))
 
 -- What such a call left, asked for again.
 abbrev pub again : Call → Decoder → Ask

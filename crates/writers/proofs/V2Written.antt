@@ -3,7 +3,7 @@
 use Prim.Native.Nat.{ℕ, zero, suc, _+_, _-_, _*_, _/_, _%_, _^_, _<_, _≤_}
 use mathlib.Core.Bool.{Bool, true, false, cond}
 use mathlib.Core.Path.{_≡_, refl, sym, ap, _∙_, subst}
-use mathlib.Core.Logic.{_≢_}
+use mathlib.Core.Logic.{_≢_, by-cases}
 use mathlib.Core.List.{List, [], _∷_, _++_}
 use native.Mathlib.Omega.{arith}
 use native.Mathlib.Decide.{ℕ-discrete}
@@ -18,10 +18,11 @@ use borrow.Author.Tests.{le-ltb, eqb-true, eqb-false}
 use Rattle.rules.specs.declared.reader.Bits.{Bits}
 use Rattle.rules.specs.Reader.{has-filler, signed, modulo}
 use Rattle.rules.specs.Frame.{tabulate}
-use Rattle.rules.specs.V2.{fresh-row, repeated, base, given, copied, position, Block, read-block, Row, then, blocks, base-cell, block-cells, apply, value, hold, sample, sample-kind}
+use Rattle.rules.specs.V2.{fresh-row, repeated, base, position, Block, read-block, Row, then, blocks, base-cell, block-cells, apply, value, hold, sample, sample-kind}
 use Rattle.rules.proofs.Cells.{All, nil, more, all-get}
 use Rattle.rules.proofs.ReaderLaws.{signed-mag}
 use Rattle.rules.proofs.V2Cells.{write-plain}
+use Rattle.rules.proofs.Tests.{by-test}
 use Rattle.writers.specs.Writer.{holds, lengths-for, blocks-bits}
 use Rattle.writers.specs.V2Writer.{base-of, difference, differences}
 use Rattle.writers.specs.Weight.{Short}
@@ -95,7 +96,10 @@ module _ (row : ℕ) (ls : List ℕ) (d : ℕ → ℕ) (P : ℕ → ℤ → Type
 -- Every position of a block is some difference's.
 positions-all : (row i : ℕ) → i < 16 → ((j : ℕ) → 0 ≤ j → j < 16 → position row j ≢ i) → ⊥
 unfolding position
-positions-all row i l none = go (eqb (row % 2) 0) none
+positions-all row i l none =
+    by-test (eqb (row % 2) 0)
+    (λ e. (rw e at none) (q + 8 * r) (omega arith) (omega arith) (rw (low r, high r) (omega arith)))
+    (λ e. (rw e at none) (q + 8 * (1 - r)) (omega arith) (omega arith) (rw (low (1 - r), high (1 - r)) (omega arith)))
   where
     q : ℕ
     q = i / 2
@@ -108,10 +112,6 @@ positions-all row i l none = go (eqb (row % 2) 0) none
 
     high : (m : ℕ) → (q + 8 * m) / 8 ≡ m
     high m = omega arith
-
-    go : (t : Bool) → ((j : ℕ) → 0 ≤ j → j < 16 → cond t (2 * (j % 8) + j / 8) (2 * (j % 8) + 1 - j / 8) ≢ i) → ⊥
-    go true none = none (q + 8 * r) (omega arith) (omega arith) (rw (low r, high r) (omega arith))
-    go false none = none (q + 8 * (1 - r)) (omega arith) (omega arith) (rw (low (1 - r), high (1 - r)) (omega arith))
 
 -- ── Cells ──
 
@@ -134,11 +134,10 @@ sets-same (suc k) i v n f g l h a =
     zeroth m = omega arith
 
     first : Same (suc n) (set f n (v i)) g
-    first j r = go (ℕ-discrete j n)
-      where
-        go : Dec (j ≡ n) → getD (set f n (v i)) j 0 ≡ getD g j 0
-        go (yes e) = rw e (getD-set-same f n (v i) 0 (omega arith) ∙ (rw (zeroth i, zeroth n) at (h 0 (omega arith))))
-        go (no e) = getD-set-other f n j (v i) 0 e ∙ a j (omega arith)
+    first j r =
+        by-cases (ℕ-discrete j n)
+        (λ e. rw e (getD-set-same f n (v i) 0 (omega arith) ∙ (rw (zeroth i, zeroth n) at (h 0 (omega arith)))))
+        (λ e. getD-set-other f n j (v i) 0 e ∙ a j (omega arith))
 
 -- ── A block ──
 
@@ -158,14 +157,10 @@ module _ (w h : ℕ) (g : List ℕ) (small : All (λ a. a < 16_384) g) (row : �
   base-same : (col i : ℕ) (f : List ℕ) → col % 16 ≡ 0 → Same (row * w + col) f g
       → base-cell (sample-kind 16_383) f (base written-hdr w row col 7 i) ≡ base-of w g row col i
   unfolding base repeated base-cell base-of
-  base-same col i f whole a = go (eqb col 0) refl
+  base-same col i f whole a = by-test (eqb col 0) (λ e. rw e) (λ e. rw e (let n = eqb-false col 0 e in a p (omega arith)))
     where
       p : ℕ
       p = row * w + col - 2 + i % 2
-
-      go : (t : Bool) → eqb col 0 ≡ t → base-cell (sample-kind 16_383) f (cond t (given 0) (copied p)) ≡ cond t 0 (getD g p 0)
-      go true e = refl
-      go false e = let n = eqb-false col 0 e in a p (omega arith)
 
   pub difference-short : (col i : ℕ) → Short (difference w g row col i)
   unfolding difference

@@ -30,8 +30,14 @@ shared-slice-read-word-of-4 c = search needs
 word-of-requires : tie.Need-word-of-requires
 word-of-requires c κs = search needs
 
+-- Places that the answers look back at.
+abbrev at-start : tie.After-shared-slice-known3 → tie.Start
+at-start c = c .before .before .before .before .before
+
 returns : tie.Need-returns
-returns c = cc (fetched-there (now (c .before .before .before .before .before .before .before .before .args .src)) (c .before .before .before .before .before .before .before .before .args .pos) (omega arith))
+returns c =
+    let s = at-start (c .before .before .before) in
+    cc (fetched-there (now (s .args .src)) (s .args .pos) (omega arith))
 
 returns-2 : tie.Need-returns-2
 returns-2 c = cc (fetched-missing (now (c .before .before .before .args .src)) (c .before .before .before .args .pos) (omega arith))

@@ -16,14 +16,24 @@ abbrev μ-loop : tie.MeasureT-loop
 loop-holds : tie.Need-loop-holds Inv-loop μ-loop
 loop-holds c = rows-blanked-none _ _ _ _ _
 
+-- Places that the answers look back at.
+abbrev at-start : tie.After-struct-known Inv-loop μ-loop → tie.Start Inv-loop μ-loop
+at-start c = c .before .before .before .before .before
+
+abbrev then1 : tie.After-blank-row-arg3 Inv-loop μ-loop → tie.Then1 Inv-loop μ-loop
+then1 c = c .before .before .before .before .before
+
+abbrev after-blank-row : tie.After-slice-known4 Inv-loop μ-loop → tie.After-blank-row Inv-loop μ-loop
+after-blank-row c = c .before .before .before .before
+
 mul-start : tie.Need-mul-start Inv-loop μ-loop
-mul-start c = let r = row-room _ _ (c .before .before .before .loop .row) (c .before .before .before .before .before .before .before .pre .map-lent) (omega arith) in omega arith
+mul-start c = let r = row-room _ _ (c .before .before .before .loop .row) (at-start (c .before .before) .pre .map-lent) (omega arith) in omega arith
 
 add-end : tie.Need-add-end Inv-loop μ-loop
-add-end c = let r = row-room _ _ (c .before .before .before .before .loop .row) (c .before .before .before .before .before .before .before .before .pre .map-lent) (omega arith) in omega arith
+add-end c = let r = row-room _ _ (c .before .before .before .before .loop .row) (at-start (c .before .before .before) .pre .map-lent) (omega arith) in omega arith
 
 mul-blank-row : tie.Need-mul-blank-row Inv-loop μ-loop
-mul-blank-row c = let r = row-room _ _ (c .before .before .before .before .loop .row) (c .before .before .before .before .before .before .before .before .pre .map-lent) (omega arith) in omega arith
+mul-blank-row c = let r = row-room _ _ (c .before .before .before .before .loop .row) (at-start (c .before .before .before) .pre .map-lent) (omega arith) in omega arith
 
 sub-blank-row : tie.Need-sub-blank-row Inv-loop μ-loop
 sub-blank-row c = search needs
@@ -33,7 +43,7 @@ part-blank-row-start c = search needs
 
 part-blank-row-end : tie.Need-part-blank-row-end Inv-loop μ-loop
 part-blank-row-end c =
-    let p = c .before .before .before .before .before .before .before .before .pre in
+    let p = at-start (c .before .before .before) .pre in
     let l = c .before .before .before .before .loop in
     let r = row-room _ _ (l .row) (p .map-lent) (omega arith) in omega (arith, l .inv .kept, p .written, p .map-lent .read)
 
@@ -44,10 +54,10 @@ part-blank-row-start-2 : tie.Need-part-blank-row-start-2 Inv-loop μ-loop
 part-blank-row-start-2 c = search needs
 
 part-blank-row-end-2 : tie.Need-part-blank-row-end-2 Inv-loop μ-loop
-part-blank-row-end-2 c = let r = row-room _ _ (c .before .before .before .before .before .loop .row) (c .before .before .before .before .before .before .before .before .before .pre .map-lent) (omega arith) in omega arith
+part-blank-row-end-2 c = let r = row-room _ _ (c .before .before .before .before .before .loop .row) (at-start (c .before .before .before .before) .pre .map-lent) (omega arith) in omega arith
 
 blank-row-requires : tie.Need-blank-row-requires Inv-loop μ-loop
-blank-row-requires c κs = row-lent (c .before .before .before .before .before .before .before .loop .inv) (c .before .before .before .before .before .before .before .before .before .before .before .pre) (omega arith)
+blank-row-requires c κs = row-lent (then1 c .before .before .loop .inv) (at-start (then1 c .before) .pre) (omega arith)
 
 add-row : tie.Need-add-row Inv-loop μ-loop
 add-row c = search needs
@@ -57,8 +67,9 @@ loop-less c = search needs
 
 loop-again : tie.Need-loop-again Inv-loop μ-loop
 loop-again c =
-    let r = c .before .before .before .before .blank-row in
-    rows-blanked-more (c .before .before .before .before .before .before .before .before .before .before .before .before .loop .inv) (c .before .before .before .before .before .before .before .before .before .before .before .before .before .before .before .before .pre) (omega arith) _ _ _ (r .ensures .0) (r .ensures .1 .0) (r .ensures .1 .1)
+    let b = then1 (after-blank-row c .before) in
+    let r = after-blank-row c .blank-row in
+    rows-blanked-more (b .before .before .loop .inv) (at-start (b .before) .pre) (omega arith) _ _ _ (r .ensures .0) (r .ensures .1 .0) (r .ensures .1 .1)
 
 same-length : tie.Need-same-length Inv-loop μ-loop
 same-length c = search needs
@@ -67,7 +78,7 @@ same-length-2 : tie.Need-same-length-2 Inv-loop μ-loop
 same-length-2 c = search needs
 
 returns : tie.Need-returns Inv-loop μ-loop
-returns c = rows-blanked-all (omega arith) (c .before .before .before .before .before .before .pre) (c .before .before .loop .inv)
+returns c = rows-blanked-all (omega arith) (at-start (c .before) .pre) (c .before .before .loop .inv)
 
 pub blank-frame-spec : {M : Type 1} → statement M
 blank-frame-spec =

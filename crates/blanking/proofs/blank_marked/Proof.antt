@@ -1,8 +1,10 @@
 -- What is listed and set so far, with the runs that are left at a column, are the row's.
-use Prim.Native.Nat.{_-_}
+use Prim.Native.Nat.{_+_, _-_, _≤_}
+use mathlib.Core.Bool.{true}
+use mathlib.Core.Path.{_≡_}
 use native.Mathlib.Omega.{arith}
-use lib.ListN.{length}
-use Rattle.blanking.specs.Blanking.{blank-row}
+use lib.ListN.{length, getD}
+use Rattle.blanking.specs.Blanking.{marked, blank-row}
 use Rattle.blanking.specs.Lent.{meant}
 use Rattle.blanking.proofs.ByteLaws.{zero-unmarked, other-marked}
 use Rattle.blanking.proofs.RunLaws.{stretch-more}
@@ -29,10 +31,23 @@ add-col c = search needs
 loop-less : tie.Need-loop-less Inv-loop μ-loop
 loop-less c = search needs
 
+-- Places that the answers look back at.
+abbrev at-start : tie.At-loop Inv-loop μ-loop → tie.Start Inv-loop μ-loop
+at-start c = c .before .before .before .before
+
+abbrev at-loop : tie.After-stretch-at Inv-loop μ-loop → tie.At-loop Inv-loop μ-loop
+at-loop c = c .before .before .before .before
+
+abbrev after-stretch-at : tie.After-samples Inv-loop μ-loop → tie.After-stretch-at Inv-loop μ-loop
+after-stretch-at c = c .before .before .before .before .before
+
+abbrev after-samples : tie.After-slice-known4 Inv-loop μ-loop → tie.After-samples Inv-loop μ-loop
+after-samples c = c .before .before .before .before .before
+
 loop-again : tie.Need-loop-again Inv-loop μ-loop
 loop-again c =
     let l = c .before .before .before .loop in
-    let a = c .before .before .before .before .before .before .before .args in
+    let a = at-start (c .before .before .before) .args in
     let none = zero-unmarked _ (c .if1 .taken) in
     (listed-passed (l .inv .0) (omega arith) none, filled-unmarked (a .fill) (a .samples .now) (a .map .now) (l .inv .1) (omega arith) none)
 
@@ -42,57 +57,47 @@ stretch-at-requires c κs = search needs
 turns-at-requires : tie.Need-turns-at-requires Inv-loop μ-loop
 turns-at-requires c κs = search needs
 
+-- The cell that a turn met is marked, and the stretch from it on lies in the row.
+met : (c : tie.After-stretch-at Inv-loop μ-loop) → marked (getD (at-start (at-loop c) .args .map .now) (at-loop c .loop .col) 0) ≡ true
+met c = other-marked _ (c .before .if1 .left)
+
+run-in : (c : tie.After-stretch-at Inv-loop μ-loop) → at-loop c .loop .col + c .stretch-at .result ≤ length (at-start (at-loop c) .args .map .now)
+run-in c = run-within (at-loop c .loop .inv .0) (omega arith) (met c) (c .stretch-at .result) (c .stretch-at .ensures)
+
 set-run-requires : tie.Need-set-run-requires Inv-loop μ-loop
 set-run-requires c κs =
-    let l = c .before .before .before .before .before .before .before .loop in
-    let at-start = c .before .before .before .before .before .before .before .before .before .before .before in
-    let s = c .before .before .before .stretch-at in
-    let marks = other-marked _ (c .before .before .before .before .if1 .left) in
-    omega (arith, run-within (l .inv .0) (omega arith) marks (s .result) (s .ensures), l .inv .1 .kept, at-start .pre .1)
+    let d = c .before .before .before in
+    omega (arith, run-in d, at-loop d .loop .inv .1 .kept, at-start (at-loop d) .pre .1)
 
 put-run-requires : tie.Need-put-run-requires Inv-loop μ-loop
 put-run-requires c κs =
-    let l = c .before .before .before .before .before .before .before .before .before .before .before .loop in
-    let at-start = c .before .before .before .before .before .before .before .before .before .before .before .before .before .before .before in
-    let s = c .before .before .before .before .before .before .before .stretch-at in
-    let marks = other-marked _ (c .before .before .before .before .before .before .before .before .if1 .left) in
-    let w = run-within (l .inv .0) (omega arith) marks (s .result) (s .ensures) in
-    let p = at-start .pre .0 in
-    (run-room (l .inv .0) (omega arith) marks (s .result) (s .ensures) (p .room), (p .few, (omega (arith, p .wide), omega (arith, p .wide, w))))
+    let d = after-stretch-at (c .before .before) in
+    let p = at-start (at-loop d) .pre .0 in
+    (run-room (at-loop d .loop .inv .0) (omega arith) (met d) _ (d .stretch-at .ensures) (p .room), (p .few, (omega (arith, p .wide), omega (arith, p .wide, run-in d))))
 
 add-at : tie.Need-add-at Inv-loop μ-loop
 add-at c =
-    let l = c .before .before .before .before .before .before .before .before .before .before .before .before .before .before .loop in
-    let at-start = c .before .before .before .before .before .before .before .before .before .before .before .before .before .before .before .before .before .before in
-    let s = c .before .before .before .before .before .before .before .before .before .before .stretch-at in
-    let marks = other-marked _ (c .before .before .before .before .before .before .before .before .before .before .before .if1 .left) in
-    let r = run-room (l .inv .0) (omega arith) marks (s .result) (s .ensures) (at-start .pre .0 .room) in omega arith
+    let d = after-stretch-at (after-samples c) in
+    let l = at-loop d in
+    omega (arith, run-room (l .loop .inv .0) (omega arith) (met d) _ (d .stretch-at .ensures) (at-start l .pre .0 .room))
 
 add-col-2 : tie.Need-add-col-2 Inv-loop μ-loop
-add-col-2 c =
-    let l = c .before .before .before .before .before .before .before .before .before .before .before .before .before .before .loop in
-    let at-start = c .before .before .before .before .before .before .before .before .before .before .before .before .before .before .before .before .before .before in
-    let s = c .before .before .before .before .before .before .before .before .before .before .stretch-at in
-    let marks = other-marked _ (c .before .before .before .before .before .before .before .before .before .before .before .if1 .left) in
-    let w = run-within (l .inv .0) (omega arith) marks (s .result) (s .ensures) in omega arith
+add-col-2 c = omega (arith, run-in (after-stretch-at (after-samples c)))
 
 loop-less-2 : tie.Need-loop-less-2 Inv-loop μ-loop
 loop-less-2 c =
-    let l = c .before .before .before .before .before .before .before .before .before .before .before .before .before .before .loop in
-    let at-start = c .before .before .before .before .before .before .before .before .before .before .before .before .before .before .before .before .before .before in
-    let s = c .before .before .before .before .before .before .before .before .before .before .stretch-at in
-    let marks = other-marked _ (c .before .before .before .before .before .before .before .before .before .before .before .if1 .left) in
-    let one = stretch-more (at-start .args .map .now) (l .col) (omega arith) marks in omega (arith, one, s .ensures)
+    let d = after-stretch-at (after-samples c) in
+    let l = at-loop d in
+    omega (arith, stretch-more (at-start l .args .map .now) (l .loop .col) (omega arith) (met d), d .stretch-at .ensures, run-in d)
 
 loop-again-2 : tie.Need-loop-again-2 Inv-loop μ-loop
 loop-again-2 c =
-    let l = c .before .before .before .before .before .before .before .before .before .before .before .before .before .before .loop in
-    let at-start = c .before .before .before .before .before .before .before .before .before .before .before .before .before .before .before .before .before .before in
-    let s = c .before .before .before .before .before .before .before .before .before .before .stretch-at in
-    let marks = other-marked _ (c .before .before .before .before .before .before .before .before .before .before .before .if1 .left) in
-    let a = at-start .args in (
-      listed-run (l .inv .0) (omega arith) marks (s .result) (s .ensures) _ (c .before .before .put-run .ensures),
-      filled-run (a .fill) (a .samples .now) (a .map .now) (s .result) _ _ (l .inv .1) (at-start .pre .1) (run-within (l .inv .0) (omega arith) marks (s .result) (s .ensures)) (s .ensures) (c .before .before .before .before .before .before .before .before .turns-at .ensures) (c .before .before .before .before .before .before .set-run .ensures),
+    let d = after-stretch-at (after-samples c) in
+    let l = at-loop d .loop in
+    let s = at-start (at-loop d) in
+    let a = s .args in (
+      listed-run (l .inv .0) (omega arith) (met d) (d .stretch-at .result) (d .stretch-at .ensures) _ (c .before .before .put-run .ensures),
+      filled-run (a .fill) (a .samples .now) (a .map .now) (d .stretch-at .result) _ _ (l .inv .1) (s .pre .1) (run-in d) (d .stretch-at .ensures) (after-samples c .before .before .before .turns-at .ensures) (after-samples c .before .set-run .ensures),
     )
 
 same-length : tie.Need-same-length Inv-loop μ-loop
@@ -104,7 +109,7 @@ same-length-2 c = search needs
 returns : tie.Need-returns Inv-loop μ-loop
 returns c =
     let l = c .before .loop in
-    let a = c .before .before .before .before .before .args in
+    let a = at-start (c .before) .args in
     let listed = listed-all (omega arith) (l .inv .0) in
     (listed .0, (filled-done (a .fill) (a .samples .now) (a .map .now) (l .inv .1) (omega arith), listed .1))
 

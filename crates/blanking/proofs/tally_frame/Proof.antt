@@ -15,42 +15,51 @@ abbrev μ-loop : tie.MeasureT-loop
 loop-holds : tie.Need-loop-holds Inv-loop μ-loop
 loop-holds c = rows-tallied-none _ _
 
+-- Places that the answers look back at.
+abbrev at-start : tie.Then1 Inv-loop μ-loop → tie.Start Inv-loop μ-loop
+at-start c = c .before .before .before .before
+
+abbrev then1 : tie.After-struct-known4 Inv-loop μ-loop → tie.Then1 Inv-loop μ-loop
+then1 c = c .before .before .before .before .before
+
 mul-at : tie.Need-mul-at Inv-loop μ-loop
-mul-at c = let r = row-room _ _ (c .before .before .before .loop .row) (c .before .before .before .before .before .pre) (omega arith) in omega arith
+mul-at c = let r = row-room _ _ (c .before .before .before .loop .row) (at-start (c .before) .pre) (omega arith) in omega arith
 
 add-end : tie.Need-add-end Inv-loop μ-loop
-add-end c = let r = row-room _ _ (c .before .before .before .before .loop .row) (c .before .before .before .before .before .before .pre) (omega arith) in omega arith
+add-end c = let r = row-room _ _ (c .before .before .before .before .loop .row) (at-start (c .before .before) .pre) (omega arith) in omega arith
 
 sub-tally-row : tie.Need-sub-tally-row Inv-loop μ-loop
-sub-tally-row c = let r = row-room _ _ (c .before .before .before .before .loop .row) (c .before .before .before .before .before .before .pre) (omega arith) in omega arith
+sub-tally-row c = let r = row-room _ _ (c .before .before .before .before .loop .row) (at-start (c .before .before) .pre) (omega arith) in omega arith
 
 part-tally-row-start : tie.Need-part-tally-row-start Inv-loop μ-loop
-part-tally-row-start c = let r = row-room _ _ (c .before .before .before .before .loop .row) (c .before .before .before .before .before .before .pre) (omega arith) in omega arith
+part-tally-row-start c = let r = row-room _ _ (c .before .before .before .before .loop .row) (at-start (c .before .before) .pre) (omega arith) in omega arith
 
 part-tally-row-end : tie.Need-part-tally-row-end Inv-loop μ-loop
-part-tally-row-end c = let r = row-room _ _ (c .before .before .before .before .loop .row) (c .before .before .before .before .before .before .pre) (omega arith) in omega arith
+part-tally-row-end c = let r = row-room _ _ (c .before .before .before .before .loop .row) (at-start (c .before .before) .pre) (omega arith) in omega arith
 
 tally-row-requires : tie.Need-tally-row-requires Inv-loop μ-loop
 tally-row-requires c κs =
+    let s = at-start (c .before .before .before) in
     let l = c .before .before .before .before .before .loop in
-    let p = c .before .before .before .before .before .before .before .pre in
+    let p = s .pre in
     let r = row-room _ _ (l .row) p (omega arith) in
-    let a = c .before .before .before .before .before .before .before .args in
+    let a = s .args in
     omega (arith, row-length (a .size .width) (l .row) (a .map .now) (r .0), p .wide)
 
 add-marked : tie.Need-add-marked Inv-loop μ-loop
 add-marked c =
-    let m = rows-tallied-more (c .before .before .before .before .before .before .before .loop .inv) (c .before .tally-row .result) (omega arith) (c .before .tally-row .ensures) in
+    let m = rows-tallied-more (then1 c .before .before .loop .inv) (c .before .tally-row .result) (omega arith) (c .before .tally-row .ensures) in
     let few = tallied-few m in
-    let p = c .before .before .before .before .before .before .before .before .before .pre in
-    let r = row-room _ _ (c .before .before .before .before .before .before .before .loop .row) p (omega arith) in omega arith
+    let p = at-start (then1 c) .pre in
+    let r = row-room _ _ (then1 c .before .before .loop .row) p (omega arith) in omega arith
 
 add-runs : tie.Need-add-runs Inv-loop μ-loop
 add-runs c =
-    let m = rows-tallied-more (c .before .before .before .before .before .before .before .before .loop .inv) (c .before .before .tally-row .result) (omega arith) (c .before .before .tally-row .ensures) in
+    let b = then1 (c .before) in
+    let m = rows-tallied-more (b .before .before .loop .inv) (c .before .before .tally-row .result) (omega arith) (c .before .before .tally-row .ensures) in
     let few = tallied-few m in
-    let p = c .before .before .before .before .before .before .before .before .before .before .pre in
-    let r = row-room _ _ (c .before .before .before .before .before .before .before .before .loop .row) p (omega arith) in omega arith
+    let p = at-start b .pre in
+    let r = row-room _ _ (b .before .before .loop .row) p (omega arith) in omega arith
 
 add-row : tie.Need-add-row Inv-loop μ-loop
 add-row c = search needs
@@ -59,7 +68,7 @@ loop-less : tie.Need-loop-less Inv-loop μ-loop
 loop-less c = search needs
 
 loop-again : tie.Need-loop-again Inv-loop μ-loop
-loop-again c = rows-tallied-more (c .before .before .before .before .before .before .before .before .loop .inv) (c .before .before .tally-row .result) (omega arith) (c .before .before .tally-row .ensures)
+loop-again c = rows-tallied-more (then1 (c .before) .before .before .loop .inv) (c .before .before .tally-row .result) (omega arith) (c .before .before .tally-row .ensures)
 
 returns : tie.Need-returns Inv-loop μ-loop
 returns c = rows-tallied-all (c .before .before .loop .inv) (omega arith) (c .before .before .before .before .pre .read)

@@ -30,8 +30,24 @@ part-decode-v0-reference-map-end c = search needs
 array-share-prefix-offsets : tie.Need-array-share-prefix-offsets
 array-share-prefix-offsets c = search needs
 
+-- Places that the answers look back at.
+abbrev at-start : tie.After-read-offsets → tie.Start
+at-start c = c .before .before .before .before
+
+abbrev after-read-offsets : tie.After-map → tie.After-read-offsets
+after-read-offsets c = c .before .before .before .before .before
+
+abbrev after-decode-v0-reference-map : tie.After-struct-known → tie.After-decode-v0-reference-map
+after-decode-v0-reference-map c = c .before .before .before
+
+abbrev then1 : tie.After-map3 → tie.Then1
+then1 c = c .before .before .before
+
+abbrev else1 : tie.After-slice-known3 → tie.Else1
+else1 c = c .before .before .before .before .before
+
 slice-aggregate-decode-v0-reference-map : tie.Need-slice-aggregate-decode-v0-reference-map
-slice-aggregate-decode-v0-reference-map c = offsets-fit _ _ _ (c .before .before .before .before .before .before .before .pre .0) _ (omega arith)
+slice-aggregate-decode-v0-reference-map c = offsets-fit _ _ _ (at-start (c .before .before .before) .pre .0) _ (omega arith)
 
 slice-aggregate-decode-v0-reference-map-2 : tie.Need-slice-aggregate-decode-v0-reference-map-2
 slice-aggregate-decode-v0-reference-map-2 c = search needs
@@ -49,25 +65,33 @@ slice-aggregate-put-frame-2 : tie.Need-slice-aggregate-put-frame-2
 slice-aggregate-put-frame-2 c = search needs
 
 put-frame-requires : tie.Need-put-frame-requires
-put-frame-requires c κs = ((omega arith, omega arith), left-room (answer-done _ _ _ (c .before .before .before .before .before .before .before .before .before .before .before .before .before .before .before .before .before .pre .0) _ (c .before .before .before .before .before .before .before .before .before .before .before .before .before .read-offsets .ensures) _ _ _ _ (c .before .before .before .before .before .before .before .decode-v0-reference-map .ensures) (omega arith)) (c .before .before .before .before .before .before .before .before .before .before .before .before .before .before .before .before .before .pre .1))
+put-frame-requires c κs =
+    let d = after-read-offsets (after-decode-v0-reference-map (then1 c .before) .before) in
+    ((omega arith, omega arith), left-room (answer-done _ _ _ (at-start d .pre .0) _ (d .read-offsets .ensures) _ _ _ _ (after-decode-v0-reference-map (then1 c .before) .decode-v0-reference-map .ensures) (omega arith)) (at-start d .pre .1))
 
 same-length : tie.Need-same-length
 same-length c = search needs
 
 returns : tie.Need-returns
-returns c = left-last (answer-done _ _ _ (c .before .before .before .before .before .before .before .before .before .before .before .before .before .before .before .before .before .before .before .before .pre .0) _ (c .before .before .before .before .before .before .before .before .before .before .before .before .before .before .before .before .read-offsets .ensures) _ _ _ _ (c .before .before .before .before .before .before .before .before .before .before .decode-v0-reference-map .ensures) (omega arith)) (c .before .before .put-frame .ensures)
+returns c =
+    let d = after-decode-v0-reference-map (then1 (c .before .before .before) .before) in
+    left-last (answer-done _ _ _ (at-start (after-read-offsets (d .before)) .pre .0) _ (after-read-offsets (d .before) .read-offsets .ensures) _ _ _ _ (d .decode-v0-reference-map .ensures) (omega arith)) (c .before .before .put-frame .ensures)
 
 cast-put-refused : tie.Need-cast-put-refused
 cast-put-refused c = search needs
 
 put-refused-requires : tie.Need-put-refused-requires
-put-refused-requires c κs = left-room (answer-refused _ _ _ (c .before .before .before .before .before .before .before .before .before .before .before .before .before .before .before .before .pre .0) _ (c .before .before .before .before .before .before .before .before .before .before .before .before .read-offsets .ensures) _ _ _ _ (c .before .before .before .before .before .before .decode-v0-reference-map .ensures) (omega arith)) (c .before .before .before .before .before .before .before .before .before .before .before .before .before .before .before .before .pre .1)
+put-refused-requires c κs =
+    let d = after-read-offsets (after-decode-v0-reference-map (c .before .before .before) .before) in
+    left-room (answer-refused _ _ _ (at-start d .pre .0) _ (d .read-offsets .ensures) _ _ _ _ (after-decode-v0-reference-map (c .before .before .before) .decode-v0-reference-map .ensures) (omega arith)) (at-start d .pre .1)
 
 same-length-2 : tie.Need-same-length-2
 same-length-2 c = search needs
 
 returns-2 : tie.Need-returns-2
-returns-2 c = left-last (answer-refused _ _ _ (c .before .before .before .before .before .before .before .before .before .before .before .before .before .before .before .before .before .before .before .pre .0) _ (c .before .before .before .before .before .before .before .before .before .before .before .before .before .before .before .read-offsets .ensures) _ _ _ _ (c .before .before .before .before .before .before .before .before .before .decode-v0-reference-map .ensures) (omega arith)) (c .before .before .put-refused .ensures)
+returns-2 c =
+    let d = after-decode-v0-reference-map (else1 c .before) in
+    left-last (answer-refused _ _ _ (at-start (after-read-offsets (d .before)) .pre .0) _ (after-read-offsets (d .before) .read-offsets .ensures) _ _ _ _ (d .decode-v0-reference-map .ensures) (omega arith)) (c .before .before .put-refused .ensures)
 
 pub put-answer-spec : {M : Type 1} → statement M
 put-answer-spec =

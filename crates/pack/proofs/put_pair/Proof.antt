@@ -18,9 +18,13 @@ put-requires c κs = search needs
 same-length : tie.Need-same-length
 same-length c = search needs
 
+-- Places that the answers look back at.
+abbrev at-start : tie.After-out → tie.Start
+at-start c = c .before .before .before .before .before
+
 returns : tie.Need-returns
 returns c =
-    let s = c .before .before .before .before .before .before in
+    let s = at-start (c .before) in
     let a = s .args in
     pair-wrote (now (a .out)) _ (a .p) _ (a .n) (a .a) (a .b) _ (s .pre .0) (s .pre .1) (c .before .before .before .pair .ensures) (c .before .before .put .ensures .0) (c .before .before .put .ensures .1)
 

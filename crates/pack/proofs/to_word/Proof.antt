@@ -19,9 +19,13 @@ put-requires c κs = search needs
 same-length : tie.Need-same-length
 same-length c = search needs
 
+-- Places that the answers look back at.
+abbrev at-start : tie.After-put-arg → tie.Start
+at-start c = c .before .before .before .before .before
+
 returns-2 : tie.Need-returns-2
 returns-2 c =
-    let s = c .before .before .before .before .before .before .before .before in
+    let s = at-start (c .before .before .before) in
     let a = s .args in
     word-law (now (a .out)) _ (a .p) _ _ (s .pre .0) (omega arith) refl (c .before .before .put .ensures .0) (c .before .before .put .ensures .1)
 

@@ -29,20 +29,27 @@ part-split-row-end c = let r = room (c .before .before .pre) in omega arith
 split-row-requires : tie.Need-split-row-requires
 split-row-requires c κs = search needs
 
+-- Places that the answers look back at.
+abbrev at-start : tie.After-split-row → tie.Start
+at-start c = c .before .before .before .before
+
+abbrev after-split-row : tie.After-half2 → tie.After-split-row
+after-split-row c = c .before .before .before .before .before
+
 mul-odd-at : tie.Need-mul-odd-at
-mul-odd-at c = let r = room (c .before .before .before .before .before .before .pre) in omega arith
+mul-odd-at c = let r = room (at-start (c .before .before) .pre) in omega arith
 
 mul-odd-at-2 : tie.Need-mul-odd-at-2
-mul-odd-at-2 c = let r = room (c .before .before .before .before .before .before .pre) in omega arith
+mul-odd-at-2 c = let r = room (at-start (c .before .before) .pre) in omega arith
 
 add-odd-at : tie.Need-add-odd-at
-add-odd-at c = let r = room (c .before .before .before .before .before .before .pre) in omega arith
+add-odd-at c = let r = room (at-start (c .before .before) .pre) in omega arith
 
 add-odd-end : tie.Need-add-odd-end
-add-odd-end c = let r = room (c .before .before .before .before .before .before .pre) in omega arith
+add-odd-end c = let r = room (at-start (c .before .before) .pre) in omega arith
 
 mul-split-row-2 : tie.Need-mul-split-row-2
-mul-split-row-2 c = let r = room (c .before .before .before .before .before .before .pre) in omega arith
+mul-split-row-2 c = let r = room (at-start (c .before .before) .pre) in omega arith
 
 sub-split-row-2 : tie.Need-sub-split-row-2
 sub-split-row-2 c = search needs
@@ -51,7 +58,7 @@ part-split-row-start-2 : tie.Need-part-split-row-start-2
 part-split-row-start-2 c = search needs
 
 part-split-row-end-2 : tie.Need-part-split-row-end-2
-part-split-row-end-2 c = let r = room (c .before .before .before .before .before .before .pre) in omega arith
+part-split-row-end-2 c = let r = room (at-start (c .before .before) .pre) in omega arith
 
 split-row-requires-2 : tie.Need-split-row-requires-2
 split-row-requires-2 c κs = search needs
@@ -61,8 +68,8 @@ same-length c = search needs
 
 returns : tie.Need-returns
 returns c =
-    let a = c .before .before .before .before .before .before .before .before .before .before .args in
-    row-is-put (a .row .now) (a .half .now) (a .rows) (a .k) _ _ (c .before .before .before .before .before .before .split-row .ensures) (c .before .before .split-row2 .ensures)
+    let a = at-start (after-split-row (c .before)) .args in
+    row-is-put (a .row .now) (a .half .now) (a .rows) (a .k) _ _ (after-split-row (c .before) .split-row .ensures) (c .before .before .split-row2 .ensures)
 
 pub put-row-spec : {M : Type 1} → statement M
 put-row-spec =

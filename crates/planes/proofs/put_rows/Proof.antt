@@ -1,8 +1,9 @@
 -- What is put so far, with the columns of the rows that are left, is all columns.
-use Prim.Native.Nat.{_+_, _-_, _*_}
+use Prim.Native.Nat.{_+_, _-_, _*_, _≤_}
 use native.Mathlib.Omega.{arith}
 use borrow.Author.Needs.{needs}
 use lib.ListN.{drop}
+use Rattle.rules.specs.Frame.{cells}
 use Rattle.planes.specs.Planes.{evens, rows-of}
 use Rattle.planes.proofs.HalfLaws.{Put, put-none, put-more, put-all}
 use Rattle.planes.proofs.FrameLaws.{row-room, parity-row, parity-rows, parity-row-length, put-lent}
@@ -31,52 +32,41 @@ mul-at c = search needs
 add-at : tie.Need-add-at Inv-loop μ-loop
 add-at c = search needs
 
+-- Places that the answers look back at.
+abbrev at-start : tie.In-loop Inv-loop μ-loop → tie.Start Inv-loop μ-loop
+at-start c = c .before .before .before .before .before
+
+abbrev in-loop : tie.After-put-row-arg2 Inv-loop μ-loop → tie.In-loop Inv-loop μ-loop
+in-loop c = c .before .before .before .before
+
+-- The row that a turn reads lies in the frame.
+row-in : (c : tie.In-loop Inv-loop μ-loop)
+    → (let a = at-start c .args in
+    ((2 * c .before .loop .k + a .parity) * a .size .width + a .size .width ≤ cells (a .size)) × (cells (a .size) ≤ 268_435_456))
+row-in c = let s = at-start c in row-room (s .args .size) (2 * c .before .loop .k + s .args .parity) (s .pre .within) (omega (arith, s .pre .bit))
+
 mul-at-2 : tie.Need-mul-at-2 Inv-loop μ-loop
-mul-at-2 c =
-    let a = c .before .before .before .before .before .before .args in
-    let p = c .before .before .before .before .before .before .pre in
-    let r = row-room (a .size) (2 * c .before .before .loop .k + a .parity) (p .within) (omega (arith, p .bit)) in
-    omega (arith, p .read)
+mul-at-2 c = omega (arith, row-in (c .before), at-start (c .before) .pre .read)
 
 add-end : tie.Need-add-end Inv-loop μ-loop
-add-end c =
-    let a = c .before .before .before .before .before .before .before .args in
-    let p = c .before .before .before .before .before .before .before .pre in
-    let r = row-room (a .size) (2 * c .before .before .before .loop .k + a .parity) (p .within) (omega (arith, p .bit)) in
-    omega (arith, p .read)
+add-end c = omega (arith, row-in (c .before .before), at-start (c .before .before) .pre .read)
 
 mul-put-row : tie.Need-mul-put-row Inv-loop μ-loop
-mul-put-row c =
-    let a = c .before .before .before .before .before .before .before .args in
-    let p = c .before .before .before .before .before .before .before .pre in
-    let r = row-room (a .size) (2 * c .before .before .before .loop .k + a .parity) (p .within) (omega (arith, p .bit)) in
-    omega (arith, p .read)
+mul-put-row c = omega (arith, row-in (c .before .before), at-start (c .before .before) .pre .read)
 
 sub-put-row : tie.Need-sub-put-row Inv-loop μ-loop
-sub-put-row c =
-    let a = c .before .before .before .before .before .before .before .args in
-    let p = c .before .before .before .before .before .before .before .pre in
-    let r = row-room (a .size) (2 * c .before .before .before .loop .k + a .parity) (p .within) (omega (arith, p .bit)) in
-    omega (arith, p .read)
+sub-put-row c = omega (arith, row-in (c .before .before), at-start (c .before .before) .pre .read)
 
 part-put-row-start : tie.Need-part-put-row-start Inv-loop μ-loop
-part-put-row-start c =
-    let a = c .before .before .before .before .before .before .before .args in
-    let p = c .before .before .before .before .before .before .before .pre in
-    let r = row-room (a .size) (2 * c .before .before .before .loop .k + a .parity) (p .within) (omega (arith, p .bit)) in
-    omega (arith, p .read)
+part-put-row-start c = omega (arith, row-in (c .before .before), at-start (c .before .before) .pre .read)
 
 part-put-row-end : tie.Need-part-put-row-end Inv-loop μ-loop
-part-put-row-end c =
-    let a = c .before .before .before .before .before .before .before .args in
-    let p = c .before .before .before .before .before .before .before .pre in
-    let r = row-room (a .size) (2 * c .before .before .before .loop .k + a .parity) (p .within) (omega (arith, p .bit)) in
-    omega (arith, p .read)
+part-put-row-end c = omega (arith, row-in (c .before .before), at-start (c .before .before) .pre .read)
 
 put-row-requires : tie.Need-put-row-requires Inv-loop μ-loop
 put-row-requires c κs =
-    let l = c .before .before .before .before .before .loop in
-    put-lent _ _ (l .k) _ _ (l .half) (c .before .before .before .before .before .before .before .before .before .pre) (omega arith) (l .inv .kept)
+    let l = in-loop c .before .loop in
+    put-lent _ _ (l .k) _ _ (l .half) (at-start (in-loop c) .pre) (omega arith) (l .inv .kept)
 
 add-k : tie.Need-add-k Inv-loop μ-loop
 add-k c = search needs
@@ -86,9 +76,10 @@ loop-less c = search needs
 
 loop-again : tie.Need-loop-again Inv-loop μ-loop
 loop-again c =
-    let a = c .before .before .before .before .before .before .before .before .before .before .before .before .args in
-    let p = c .before .before .before .before .before .before .before .before .before .before .before .before .pre in
-    let l = c .before .before .before .before .before .before .before .before .loop in
+    let l₀ = in-loop (c .before .before .before) in
+    let a = at-start l₀ .args in
+    let p = at-start l₀ .pre in
+    let l = l₀ .before .loop in
     put-more _ _ (parity-rows (a .size) (a .parity) (a .samples .now) (p .bit)) (omega (arith, l .inv .kept, p .written)) (omega arith)
     (parity-row (a .size) (a .parity) (l .k) (a .samples .now) (omega (arith, p .bit)))
     (parity-row-length (a .size) (a .parity) (l .k) (a .samples .now) (a .half .now) (l .half) p (omega arith) (l .inv .kept))

@@ -56,9 +56,13 @@ weave-row-requires c κs = search needs
 same-length : tie.Need-same-length
 same-length c = search needs
 
+-- Places that the answers look back at.
+abbrev at-start : tie.After-weave-row-arg3 → tie.Start
+at-start c = c .before .before .before .before .before
+
 returns : tie.Need-returns
 returns c =
-    let a = c .before .before .before .before .before .before .before .before .args in
+    let a = at-start (c .before .before .before) .args in
     row-is-taken (a .half .now) _ (a .rows) (a .k) _ (c .before .before .weave-row .ensures)
 
 pub take-row-spec : {M : Type 1} → statement M

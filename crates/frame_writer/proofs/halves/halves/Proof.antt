@@ -24,14 +24,18 @@ half-start-requires c κs = search needs
 mul-a : tie.Need-mul-a Inv-loop μ-loop
 mul-a c = record { fits = omega arith }
 
+-- Places that the answers look back at.
+abbrev at-start : tie.After-half-start Inv-loop μ-loop → tie.Start Inv-loop μ-loop
+at-start c = c .before .before .before .before
+
 add-a : tie.Need-add-a Inv-loop μ-loop
-add-a c = let s = c .before .before .before .before in let a = s .args in let k = c .before .before .loop .k in record { fits = omega (arith, c .half-start .ensures, half-in k (a .first) (a .second) (length (a .samples .now)) (s .pre .0) (s .pre .1)) }
+add-a c = let s = at-start c in let a = s .args in let k = c .before .before .loop .k in record { fits = omega (arith, c .half-start .ensures, half-in k (a .first) (a .second) (length (a .samples .now)) (s .pre .0) (s .pre .1)) }
 
 mul-a-2 : tie.Need-mul-a-2 Inv-loop μ-loop
-mul-a-2 c = let s = c .before .before .before .before in let a = s .args in let k = c .before .before .loop .k in record { fits = omega (arith, c .half-start .ensures, half-in k (a .first) (a .second) (length (a .samples .now)) (s .pre .0) (s .pre .1)) }
+mul-a-2 c = let s = at-start c in let a = s .args in let k = c .before .before .loop .k in record { fits = omega (arith, c .half-start .ensures, half-in k (a .first) (a .second) (length (a .samples .now)) (s .pre .0) (s .pre .1)) }
 
 shared-slice-read-a : tie.Need-shared-slice-read-a Inv-loop μ-loop
-shared-slice-read-a c = let s = c .before .before .before .before .before in let a = s .args in let k = c .before .before .before .loop .k in omega (arith, c .before .half-start .ensures, half-in k (a .first) (a .second) (length (a .samples .now)) (s .pre .0) (s .pre .1))
+shared-slice-read-a c = let s = at-start (c .before) in let a = s .args in let k = c .before .before .before .loop .k in omega (arith, c .before .half-start .ensures, half-in k (a .first) (a .second) (length (a .samples .now)) (s .pre .0) (s .pre .1))
 
 half-prediction-requires : tie.Need-half-prediction-requires Inv-loop μ-loop
 half-prediction-requires c κs = search needs
@@ -53,7 +57,7 @@ loop-less c = omega arith
 
 loop-again : tie.Need-loop-again Inv-loop μ-loop
 loop-again c =
-    let a = c .before .before .before .before .before .before .before .args in
+    let a = at-start (c .before .before .before) .args in
     let l = c .before .before .before .before .before .loop in
     halves-on (a .samples .now) (l .d) (a .first) (a .second) (a .p) (a .q) (l .k) _ _ (c .less .result) (omega arith) (c .before .before .before .half-start .ensures) (c .before .half-prediction .ensures) (c .less .ensures) (l .inv)
 

@@ -21,8 +21,12 @@ sample-requires c κs = search needs
 less-requires : tie.Need-less-requires
 less-requires c κs = search needs
 
+-- Places that the answers look back at.
+abbrev at-start : tie.After-sample → tie.Start
+at-start c = c .before .before .before
+
 returns-2 : tie.Need-returns-2
-returns-2 c = let s = c .before .before .before .before .before in let a = s .args in first-block (a .width) (a .row) (a .col) (a .c) (exchanged (a .width) (a .height) (a .samples .now)) _ _ (omega arith) (omega arith) (c .before .before .sample .ensures) (c .less .ensures)
+returns-2 c = let s = at-start (c .before .before) in let a = s .args in first-block (a .width) (a .row) (a .col) (a .c) (exchanged (a .width) (a .height) (a .samples .now)) _ _ (omega arith) (omega arith) (c .before .before .sample .ensures) (c .less .ensures)
 
 sub-sample : tie.Need-sub-sample
 sub-sample c = search needs
@@ -37,7 +41,7 @@ less-requires-2 : tie.Need-less-requires-2
 less-requires-2 c κs = search needs
 
 returns-3 : tie.Need-returns-3
-returns-3 c = let s = c .before .before .before .before .before .before in let a = s .args in later-block (a .width) (a .row) (a .col) (a .c) (exchanged (a .width) (a .height) (a .samples .now)) _ _ _ (omega arith) (s .pre .1) (λ e. omega arith) (c .before .before .before .sample .ensures) (c .before .sample2 .ensures) (c .less2 .ensures)
+returns-3 c = let s = at-start (c .before .before .before) in let a = s .args in later-block (a .width) (a .row) (a .col) (a .c) (exchanged (a .width) (a .height) (a .samples .now)) _ _ _ (omega arith) (s .pre .1) (λ e. omega arith) (c .before .before .before .sample .ensures) (c .before .sample2 .ensures) (c .less2 .ensures)
 
 pub residual-at-spec : {M : Type 1} → statement M
 residual-at-spec =

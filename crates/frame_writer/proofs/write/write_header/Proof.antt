@@ -26,8 +26,20 @@ store-requires-4 c κs = search needs
 same-length : tie.Need-same-length
 same-length c = search needs
 
+-- Places that the answers look back at.
+abbrev after-store : tie.After-store2 → tie.After-store
+after-store c = c .before .before .before .before
+
+abbrev after-store2 : tie.After-store3 → tie.After-store2
+after-store2 c = c .before .before .before .before
+
+abbrev after-store3 : tie.After-out4 → tie.After-store3
+after-store3 c = c .before .before .before .before .before
+
 returns : tie.Need-returns
-returns c = let a = c .before .before .before .before .before .before .before .before .before .before .before .before .before .before .before .before .before .args in header-law (now (a .out)) _ _ _ _ (c .before .before .before .before .before .before .before .before .before .before .before .before .before .before .store .ensures) (c .before .before .before .before .before .before .before .before .before .before .store2 .ensures) (c .before .before .before .before .before .before .store3 .ensures) (c .before .before .store4 .ensures)
+returns c =
+    let d = after-store2 (after-store3 (c .before)) in
+    let a = after-store d .before .before .before .args in header-law (now (a .out)) _ _ _ _ (after-store d .store .ensures) (d .store2 .ensures) (after-store3 (c .before) .store3 .ensures) (c .before .before .store4 .ensures)
 
 pub write-header-spec : {M : Type 1} → statement M
 write-header-spec =

@@ -22,16 +22,23 @@ none-requires c κs = tt
 loop-holds : tie.Need-loop-holds Inv-loop μ-loop
 loop-holds c = let a = c .before .before .before .args in row-begun (coding (a .format) (a .width) (a .height) (a .samples .now)) (a .row) (a .at) (a .out .now) (c .none .result) (c .none .ensures)
 
+-- Places that the answers look back at.
+abbrev at-start : tie.At-loop Inv-loop μ-loop → tie.Start Inv-loop μ-loop
+at-start c = c .before .before .before .before
+
+abbrev at-loop : tie.After-out Inv-loop μ-loop → tie.At-loop Inv-loop μ-loop
+at-loop c = c .before .before .before .before .before
+
 numbers-of-requires : tie.Need-numbers-of-requires Inv-loop μ-loop
 numbers-of-requires c κs =
-    let s = c .before .before .before .before .before in
+    let s = at-start (c .before) in
     let a = s .args in
     let l = c .before .loop in
     (record { wide = s .pre .0 .wide; high = s .pre .0 .high; row-in = s .pre .1; col-in = omega arith }, l .inv .whole, s .pre .0 .blocks, record { whole = s .pre .0 .whole })
 
 put-block-requires : tie.Need-put-block-requires Inv-loop μ-loop
 put-block-requires c κs =
-    let s = c .before .before .before .before .before .before .before in
+    let s = at-start (c .before .before .before) in
     let a = s .args in
     let l = c .before .before .before .loop in
     let e = c .before .numbers-of .ensures in
@@ -39,19 +46,19 @@ put-block-requires c κs =
 
 add-col : tie.Need-add-col Inv-loop μ-loop
 add-col c =
-    let s = c .before .before .before .before .before .before .before .before .before .before in
+    let s = at-start (at-loop (c .before)) in
     let a = s .args in
-    let l = c .before .before .before .before .before .before .loop in
+    let l = at-loop (c .before) .loop in
     record { fits = omega (arith, l .inv .most, width-is (a .width) (a .height) (a .samples .now) (a .format), s .pre .0 .wide) }
 
 loop-less : tie.Need-loop-less Inv-loop μ-loop
-loop-less c = let a = c .before .before .before .before .before .before .before .before .before .before .args in let l = c .before .before .before .before .before .before .loop in omega (arith, l .inv .most, width-is (a .width) (a .height) (a .samples .now) (a .format))
+loop-less c = let a = at-start (at-loop (c .before)) .args in let l = at-loop (c .before) .loop in omega (arith, l .inv .most, width-is (a .width) (a .height) (a .samples .now) (a .format))
 
 loop-again : tie.Need-loop-again Inv-loop μ-loop
 loop-again c =
-    let s = c .before .before .before .before .before .before .before .before .before .before in
+    let s = at-start (at-loop (c .before)) in
     let a = s .args in
-    let l = c .before .before .before .before .before .before .loop in
+    let l = at-loop (c .before) .loop in
     row-on (coding (a .format) (a .width) (a .height) (a .samples .now)) (coding-unit (a .width) (a .height) (a .samples .now) (a .format)) (a .row) (a .at) (a .out .now) (l .out) (l .p) (l .col) (l .inv) _ _ _ (c .before .before .before .before .numbers-of .ensures) (omega (arith, width-is (a .width) (a .height) (a .samples .now) (a .format))) (c .before .before .put-block .ensures)
 
 unit-of-requires : tie.Need-unit-of-requires Inv-loop μ-loop
@@ -59,7 +66,7 @@ unit-of-requires c κs = tt
 
 finish-requires : tie.Need-finish-requires Inv-loop μ-loop
 finish-requires c κs =
-    let s = c .before .before .before .before .before .before .before in
+    let s = at-start (c .before .before .before) in
     let a = s .args in
     let l = c .before .before .before .loop in
     let e = c .unit-of .ensures in
@@ -76,9 +83,10 @@ same-length c = search needs
 
 returns : tie.Need-returns Inv-loop μ-loop
 returns c =
-    let s = c .before .before .before .before .before .before .before .before .before .before in
+    let after-loop = c .before .before .before .before .before in
+    let s = at-start (after-loop .before) in
     let a = s .args in
-    let l = c .before .before .before .before .before .before .loop in
+    let l = after-loop .before .loop in
     let e = c .before .before .before .unit-of .ensures in
     row-gone (coding (a .format) (a .width) (a .height) (a .samples .now)) (coding-unit (a .width) (a .height) (a .samples .now) (a .format)) (a .row) (a .at) (a .out .now) (l .out) (l .p) (l .col) (l .inv) _ (e ∙ sym (unit-is (a .width) (a .height) (a .samples .now) (a .format))) (rw e (s .pre .2)) (omega (arith, width-is (a .width) (a .height) (a .samples .now) (a .format))) _ _ (c .before .before .finish .ensures)
 

@@ -18,14 +18,21 @@ abbrev μ-loop : tie.MeasureT-loop
 loop-holds : tie.Need-loop-holds Inv-loop μ-loop
 loop-holds c = let s = c .before .before .before in let a = s .args in frame-begun (coding (a .format) (a .width) (a .height) (a .samples .now)) (a .height) (a .start) (a .out .now) (a .offsets .now) (rw (unit-is (a .width) (a .height) (a .samples .now) (a .format)) (s .pre .1))
 
+-- Places that the answers look back at.
+abbrev at-start : tie.At-loop Inv-loop μ-loop → tie.Start Inv-loop μ-loop
+at-start c = c .before .before .before .before
+
+abbrev after-put-offset : tie.After-write-row-arg Inv-loop μ-loop → tie.After-put-offset Inv-loop μ-loop
+after-put-offset c = c .before .before .before
+
 put-offset-requires : tie.Need-put-offset-requires Inv-loop μ-loop
-put-offset-requires c κs = let s = c .before .before .before .before .before .before in let a = s .args in let l = c .before .before .loop in offset-fits (coding (a .format) (a .width) (a .height) (a .samples .now)) (coding-unit (a .width) (a .height) (a .samples .now) (a .format)) (a .height) (a .start) (a .out .now) (a .offsets .now) (l .out) (l .offsets) (l .at) (l .row) (l .inv) (rw (width-is (a .width) (a .height) (a .samples .now) (a .format)) (s .pre .0 .wide)) (s .pre .0 .high) (s .pre .2)
+put-offset-requires c κs = let s = at-start (c .before .before) in let a = s .args in let l = c .before .before .loop in offset-fits (coding (a .format) (a .width) (a .height) (a .samples .now)) (coding-unit (a .width) (a .height) (a .samples .now) (a .format)) (a .height) (a .start) (a .out .now) (a .offsets .now) (l .out) (l .offsets) (l .at) (l .row) (l .inv) (rw (width-is (a .width) (a .height) (a .samples .now) (a .format)) (s .pre .0 .wide)) (s .pre .0 .high) (s .pre .2)
 
 write-row-requires : tie.Need-write-row-requires Inv-loop μ-loop
 write-row-requires c κs =
-    let s = c .before .before .before .before .before .before .before .before .before .before in
+    let s = at-start (after-put-offset c .before .before .before) in
     let a = s .args in
-    let l = c .before .before .before .before .before .before .loop in
+    let l = after-put-offset c .before .before .before .loop in
     (s .pre .0, omega arith, rw (← unit-is (a .width) (a .height) (a .samples .now) (a .format)) (l .inv .whole), row-room (coding (a .format) (a .width) (a .height) (a .samples .now)) (coding-unit (a .width) (a .height) (a .samples .now) (a .format)) (a .height) (a .start) (a .out .now) (a .offsets .now) (l .out) (l .offsets) (l .at) (l .row) (l .inv) (omega arith) (s .pre .3))
 
 add-row : tie.Need-add-row Inv-loop μ-loop
@@ -36,28 +43,29 @@ loop-less c = omega arith
 
 loop-again : tie.Need-loop-again Inv-loop μ-loop
 loop-again c =
-    let s = c .before .before .before .before .before .before .before .before .before .before .before .before .before in
+    let d = after-put-offset (c .before .before .before) in
+    let s = at-start (d .before .before .before) in
     let a = s .args in
-    let l = c .before .before .before .before .before .before .before .before .before .loop in
-    frame-on (coding (a .format) (a .width) (a .height) (a .samples .now)) (coding-unit (a .width) (a .height) (a .samples .now) (a .format)) (a .height) (a .start) (a .out .now) (a .offsets .now) (l .out) (l .offsets) (l .at) (l .row) (l .inv) _ _ _ (omega arith) (c .before .before .before .before .before .before .put-offset .ensures) (c .before .before .write-row .ensures .0) (c .before .before .write-row .ensures .1)
+    let l = d .before .before .before .loop in
+    frame-on (coding (a .format) (a .width) (a .height) (a .samples .now)) (coding-unit (a .width) (a .height) (a .samples .now) (a .format)) (a .height) (a .start) (a .out .now) (a .offsets .now) (l .out) (l .offsets) (l .at) (l .row) (l .inv) _ _ _ (omega arith) (d .put-offset .ensures) (c .before .before .write-row .ensures .0) (c .before .before .write-row .ensures .1)
 
 same-length : tie.Need-same-length Inv-loop μ-loop
 same-length c =
-    let s = c .before .before .before .before .before in
+    let s = at-start (c .before) in
     let a = s .args in
     let l = c .before .loop in
     stream-length (coding (a .format) (a .width) (a .height) (a .samples .now)) (coding-unit (a .width) (a .height) (a .samples .now) (a .format)) (a .height) (a .start) (a .out .now) (a .offsets .now) (l .out) (l .offsets) (l .at) (l .row) (l .inv)
 
 same-length-2 : tie.Need-same-length-2 Inv-loop μ-loop
 same-length-2 c =
-    let s = c .before .before .before .before .before in
+    let s = at-start (c .before) in
     let a = s .args in
     let l = c .before .loop in
     table-length (coding (a .format) (a .width) (a .height) (a .samples .now)) (coding-unit (a .width) (a .height) (a .samples .now) (a .format)) (a .height) (a .start) (a .out .now) (a .offsets .now) (l .out) (l .offsets) (l .at) (l .row) (l .inv)
 
 returns : tie.Need-returns Inv-loop μ-loop
 returns c =
-    let s = c .before .before .before .before .before in
+    let s = at-start (c .before) in
     let a = s .args in
     let l = c .before .loop in
     frame-gone (coding (a .format) (a .width) (a .height) (a .samples .now)) (coding-unit (a .width) (a .height) (a .samples .now) (a .format)) (a .height) (a .start) (a .out .now) (a .offsets .now) (l .out) (l .offsets) (l .at) (l .row) (l .inv) (omega arith)

@@ -14,10 +14,24 @@ same-length c = search needs
 same-length-2 : tie.Need-same-length-2
 same-length-2 c = search needs
 
+-- Places that the answers look back at.
+abbrev at-start : tie.After-slice-known4 → tie.Start
+at-start c = c .before .before .before .before .before
+
+abbrev after-blank-with : tie.After-answer → tie.After-blank-with
+after-blank-with c = c .before .before .before .before .before
+
+abbrev else1 : tie.After-write-v0 → tie.Else1
+else1 c = c .before .before .before .before
+
+abbrev after-write-v0 : tie.After-answer2 → tie.After-write-v0
+after-write-v0 c = c .before .before .before .before .before
+
 returns : tie.Need-returns
 returns c =
-    let a = c .before .before .before .before .before .before .before .before .before .before .before .before .before .before .before .args in
-    refused-yields (now (a .samples)) (now (a .map)) (a .width) (a .height) (now (a .runs)) (now (a .stream)) (now (a .offsets)) _ _ _ (c .before .before .before .before .before .before .before .blank-with .ensures) (c .if1 .taken)
+    let d = after-blank-with (c .before .before) in
+    let a = at-start (d .before .before .before) .args in
+    refused-yields (now (a .samples)) (now (a .map)) (a .width) (a .height) (now (a .runs)) (now (a .stream)) (now (a .offsets)) _ _ _ (d .blank-with .ensures) (c .if1 .taken)
 
 write-v0-requires : tie.Need-write-v0-requires
 write-v0-requires c κs = search needs
@@ -36,8 +50,9 @@ same-length-6 c = search needs
 
 returns-2 : tie.Need-returns-2
 returns-2 c =
-    let a = c .before .before .before .before .before .before .before .before .before .before .before .before .before .before .before .before .before .before .before .before .before .before .before .before .args in
-    written-yields (now (a .samples)) (now (a .map)) (a .width) (a .height) (now (a .runs)) (now (a .stream)) (now (a .offsets)) _ _ _ (c .before .before .before .before .before .before .before .before .before .before .before .before .before .before .before .before .blank-with .ensures) (c .before .before .before .before .before .before .before .before .before .if1 .left) _ _ _ (c .before .before .before .before .before .write-v0 .ensures)
+    let d = after-blank-with (else1 (after-write-v0 c) .before .before) in
+    let a = at-start (d .before .before .before) .args in
+    written-yields (now (a .samples)) (now (a .map)) (a .width) (a .height) (now (a .runs)) (now (a .stream)) (now (a .offsets)) _ _ _ (d .blank-with .ensures) (else1 (after-write-v0 c) .if1 .left) _ _ _ (after-write-v0 c .write-v0 .ensures)
 
 pub export-v0-spec : {M : Type 1} → statement M
 export-v0-spec =

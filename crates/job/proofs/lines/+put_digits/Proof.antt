@@ -57,13 +57,17 @@ glyph-requires-2 : (t : ℕ) → lts.Need-glyph-requires-2 (claims t) (at t) rea
 glyph-requires-2 t c κs = search needs
 
 put-requires-2 : (t : ℕ) → lts.Need-put-requires-2 (claims t) (at t) reads.Post
-put-requires-2 t c κs = left-room (left-step (more-digits _ _ _ _ _ (omega arith) (omega arith) (c .glyph2 .ensures)) (c .before .before .before .before .put-digits .ensures)) (c .before .before .before .before .before .before .before .before .before .pre .1)
+put-requires-2 t c κs =
+    let d = c .before .before .before .before in
+    left-room (left-step (more-digits _ _ _ _ _ (omega arith) (omega arith) (c .glyph2 .ensures)) (d .put-digits .ensures)) (d .before .before .before .before .before .pre .1)
 
 same-length-2 : (t : ℕ) → lts.Need-same-length-2 (claims t) (at t) reads.Post
 same-length-2 t c = search needs
 
 returns-3 : (t : ℕ) → lts.Need-returns-3 (claims t) (at t) reads.Post
-returns-3 t c = left-last (left-step (more-digits _ _ _ _ _ (omega arith) (omega arith) (c .before .before .before .glyph2 .ensures)) (c .before .before .before .before .before .before .before .put-digits .ensures)) (c .before .before .put2 .ensures)
+returns-3 t c =
+    let g = c .before .before .before in
+    left-last (left-step (more-digits _ _ _ _ _ (omega arith) (omega arith) (g .glyph2 .ensures)) (g .before .before .before .before .put-digits .ensures)) (c .before .before .put2 .ensures)
 
 pub +put-digits-spec : {M : Type 1} → statement M
 +put-digits-spec = close measure λ t. lts.spec (claims t) (at t) reads.Post

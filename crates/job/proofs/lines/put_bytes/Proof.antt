@@ -22,8 +22,15 @@ loop-holds c = (omega arith, left-start _ _ _)
 shared-slice-read-put : tie.Need-shared-slice-read-put Inv-loop μ-loop
 shared-slice-read-put c = search needs
 
+-- Places that the answers look back at.
+abbrev at-start : tie.In-loop Inv-loop μ-loop → tie.Start Inv-loop μ-loop
+at-start c = c .before .before .before .before
+
+abbrev in-loop : tie.After-slice-known2 Inv-loop μ-loop → tie.In-loop Inv-loop μ-loop
+in-loop c = c .before .before .before .before .before
+
 put-requires : tie.Need-put-requires Inv-loop μ-loop
-put-requires c κs = part-room _ (byte-parts _ _ (c .before .before .loop-test .taken) (c .before .before .before .loop .inv .1)) (c .before .before .before .before .before .before .pre)
+put-requires c κs = part-room _ (byte-parts _ _ (c .before .before .loop-test .taken) (c .before .before .before .loop .inv .1)) (at-start (c .before .before) .pre)
 
 add-i : tie.Need-add-i Inv-loop μ-loop
 add-i c = search needs
@@ -32,7 +39,7 @@ loop-less : tie.Need-loop-less Inv-loop μ-loop
 loop-less c = search needs
 
 loop-again : tie.Need-loop-again Inv-loop μ-loop
-loop-again c = (omega arith, left-step (byte-parts _ _ (c .before .before .before .before .before .loop-test .taken) (c .before .before .before .before .before .before .loop .inv .1)) (c .before .before .put .ensures))
+loop-again c = (omega arith, left-step (byte-parts _ _ (in-loop c .loop-test .taken) (in-loop c .before .loop .inv .1)) (c .before .before .put .ensures))
 
 same-length : tie.Need-same-length Inv-loop μ-loop
 same-length c = search needs

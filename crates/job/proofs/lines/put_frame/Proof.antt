@@ -16,8 +16,12 @@ put-rows-requires c κs = search needs
 same-length : tie.Need-same-length
 same-length c = search needs
 
+-- Places that the answers look back at.
+abbrev after-put-bytes : tie.After-text2 → tie.After-put-bytes
+after-put-bytes c = c .before .before .before .before .before
+
 returns : tie.Need-returns
-returns c = left-last (left-step (left-start _ _ _) (c .before .before .before .before .before .before .put-bytes .ensures)) (c .before .before .put-rows .ensures)
+returns c = left-last (left-step (left-start _ _ _) (after-put-bytes (c .before) .put-bytes .ensures)) (c .before .before .put-rows .ensures)
 
 pub put-frame-spec : {M : Type 1} → statement M
 put-frame-spec =

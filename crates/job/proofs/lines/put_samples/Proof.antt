@@ -32,8 +32,15 @@ wide-requires c κs = search needs
 shared-slice-read-put-sample : tie.Need-shared-slice-read-put-sample Inv-loop μ-loop
 shared-slice-read-put-sample c = search needs
 
+-- Places that the answers look back at.
+abbrev at-start : tie.In-loop Inv-loop μ-loop → tie.Start Inv-loop μ-loop
+at-start c = c .before .before .before .before .before
+
+abbrev in-loop : tie.After-shared-slice-known4 Inv-loop μ-loop → tie.In-loop Inv-loop μ-loop
+in-loop c = c .before .before .before .before
+
 put-sample-requires : tie.Need-put-sample-requires Inv-loop μ-loop
-put-sample-requires c κs = part-room _ (samples-parts _ _ _ _ (c .before .before .before .before .loop-test .taken) (c .before .before .before .before .before .before .before .before .before .pre .0) (c .before .wide .ensures) (c .before .before .before .before .before .loop .inv .1)) (c .before .before .before .before .before .before .before .before .before .pre .1)
+put-sample-requires c κs = part-room _ (samples-parts _ _ _ _ (in-loop c .loop-test .taken) (at-start (in-loop c) .pre .0) (c .before .wide .ensures) (in-loop c .before .loop .inv .1)) (at-start (in-loop c) .pre .1)
 
 add-i : tie.Need-add-i Inv-loop μ-loop
 add-i c = search needs
@@ -42,7 +49,9 @@ loop-less : tie.Need-loop-less Inv-loop μ-loop
 loop-less c = search needs
 
 loop-again : tie.Need-loop-again Inv-loop μ-loop
-loop-again c = (omega arith, left-step (samples-parts _ _ _ _ (c .before .before .before .before .before .before .before .loop-test .taken) (c .before .before .before .before .before .before .before .before .before .before .before .before .pre .0) (c .before .before .before .before .wide .ensures) (c .before .before .before .before .before .before .before .before .loop .inv .1)) (c .before .before .put-sample .ensures))
+loop-again c =
+    let l = in-loop (c .before .before .before) in
+    (omega arith, left-step (samples-parts _ _ _ _ (l .loop-test .taken) (at-start l .pre .0) (c .before .before .before .before .wide .ensures) (l .before .loop .inv .1)) (c .before .before .put-sample .ensures))
 
 same-length : tie.Need-same-length Inv-loop μ-loop
 same-length c = search needs

@@ -22,16 +22,14 @@ use types.Part.{whole, sub, look-in, store-in}
 use types.Run.{look, init, forget, stop, hop, fld, from, load, of-opd, and-then, no-more, assigns, land, returns, enter, alloc1, alloc0, params1, pass1, pass0, free1, free0}
 use types.SemTy.{Body}
 use sound.WpLaws.{FmC, fmOf, WpFn-mono}
-use denote.RattleType.{RattleType, owns}
+use denote.RattleType.{owns}
 use denote.Laws.{Is, shows}
 use denote.Memory.{mem, cellAt}
 use denote.Plain.{uint-vals, uint-tells, uint-makes}
 use denote.Builtin.{u8, u32}
-use denote.Ref.{RefT, NamedLft, MutRef, ptr-vals, mut-tells, now}
-use denote.Signature.{Slot, plain, namedLft}
+use denote.Ref.{RefT, MutRef, ptr-vals, mut-tells, now}
 use denote.Slice.{sliceVal, ShrSlice}
 use denote.Steps.{only, opens, closes, owned, peeks, heard, nothing}
-use denote.Struct.Declared.{Declared}
 use denote.Struct.Laws as LL
 use denote.Struct.Rest.{all-own, own-open, own-put}
 use denote.Struct.Steps.{spelt}
@@ -48,7 +46,6 @@ use Rattle.rules.specs.Reader.{read}
 use Rattle.ph1bits.specs.declared.Ph1Bits.{Ph1Bits}
 use Rattle.rules.specs.declared.reader.Got.{Got}
 use Rattle.rules.specs.declared.reader.Bits.{Bits}
-use Rattle.ph1bits.proofs.Ph1Bits as T
 use Rattle.ph1bits.proofs.Ph1Bits.Laws as T′
 use Rattle.rules.proofs.reader.Got as S
 use Rattle.rules.proofs.reader.Got.Laws as S′
@@ -58,21 +55,11 @@ use Rattle.bits.proofs.get as core
 use Rattle.bits.proofs.get.Symbol as core-def
 use Rattle.bits.proofs.get.Symbol.{name as #core}
 use Rattle.bits.proofs.get.Met as core-thm
+use Rattle.ph1bits.proofs.Lent.{α, B, behind, D, L, mach, wt}
 use Rattle.ph1bits.proofs.Ph1Bits.get.Key.{name as #get}
 use Rattle.ph1bits.proofs.Ph1Bits.get as get
 use Rattle.ph1bits.proofs.Ph1Bits.get.Statement as stated
 use Rattle.ph1bits.proofs.Ph1Bits.get.Code as code
-
--- 'a, and the struct's type at it
-abbrev α : Lft → NamedLft
-α κ′ = record { mir = named 1; lft = κ′ }
-
-abbrev B : Lft → RattleType
-B κ′ = T.the-row (α κ′)
-
--- `Ph1Bits<'a>`, as the referent's place in the signature
-abbrev behind : Slot 2
-behind = plain (λ κs. T.the-row (namedLft 2 1 tt κs))
 
 abbrev stayed : Stays (get.ended .signature .params) (get.ended .kept)
 stayed = (stay-ref (0 ∷ []) tt behind, (stay-none (λ _. u32) yes, tt))
@@ -98,20 +85,11 @@ module _ {M : Type 1} (𝓤 : URA M) (H : Heap 𝓤) (A : Atoms 𝓤) (W : Given
   abbrev Post : Val → SProp 𝓤
   Post = walkOf 𝓤 H A get.ended stayed (get.clauses 𝓤 H A at-mem run) .post (((κ, (κ′, tt)), (q, (q′, tt)), bounds, x, at), tt)
 
-  abbrev D : Declared
-  D = T.the-type (α κ′)
-
-  abbrev L : LL.Laws D
-  L = T′.the-laws (α κ′)
-
-  abbrev vd : Values (D .parts)
+  abbrev vd : Values (D κ′ .parts)
   vd = (h .«data», (h .state, tt))
 
-  abbrev mach : Val
-  mach = T′.lowered h
-
   abbrev Own : Fml
-  Own = B κ′ .own h (mach ∷ [])
+  Own = B κ′ .own h (mach h ∷ [])
 
   -- what the callee is passed
   abbrev given-args : Vals core.signature (κ′, tt)
@@ -127,8 +105,8 @@ module _ {M : Type 1} (𝓤 : URA M) (H : Heap 𝓤) (A : Atoms 𝓤) (W : Given
   apart : ent 𝓤 (sep 𝓤 (sep 𝓤 (A .lft κ′ q′) (emp 𝓤)) (sem 𝓤 H A Own)) (sep 𝓤 (Core 𝓤 H A at-mem run .pre to) (sem 𝓤 H A Own))
   apart =
       qed W ((‵ (flft κ′ q′) ⊛ ‵ ftrue) ∷ ‵ Own ∷ []) ∵
-      move ! (1 ∷ []) $ use1 W (‵ Own ⊛ ‵ Own) (LL.copy D (T′.the-copy (α κ′)) 𝓤 H A W .twice h (mach ∷ [])) $ split ! $
-      use1 W (given (mach ∷ [] ≡ mach ∷ []) (‵ (all-own (D .parts) L vd))) (own-open 𝓤 H A W D L vd mach) $ learn ! (λ _. fsplit ! $ move ! (1 ∷ []) $ fsplit ! $ move ! (1 ∷ []) $ drop ! $
+      move ! (1 ∷ []) $ use1 W (‵ Own ⊛ ‵ Own) (LL.copy (D κ′) (T′.the-copy (α κ′)) 𝓤 H A W .twice h (mach h ∷ [])) $ split ! $
+      use1 W (given (mach h ∷ [] ≡ (mach h) ∷ []) (‵ (all-own ((D κ′) .parts) (L κ′) vd))) (own-open 𝓤 H A W (D κ′) (L κ′) vd (mach h)) $ learn ! (λ _. fsplit ! $ move ! (1 ∷ []) $ fsplit ! $ move ! (1 ∷ []) $ drop ! $
       -- [what state owns; what src owns; what the struct owns; the token]
       nothing ! $ owned ! u32 (Is u32) (uint-makes 𝓤 H A W w32) n _ (refl, gn) $ fjoin ! $ move ! (1 ∷ 0 ∷ []) $ fjoin ! $ move ! (1 ∷ 0 ∷ []) $ fjoin ! $
       move ! (2 ∷ 0 ∷ []) $ use2 W (raw (Core 𝓤 H A at-mem run .pre to)) asked $ frame ! $ done !)
@@ -146,10 +124,6 @@ module _ {M : Type 1} (𝓤 : URA M) (H : Heap 𝓤) (A : Atoms 𝓤) (W : Given
       frame ! $ feqI ! (List Val) (vptr b o ∷ []) (vptr b o ∷ []) refl $ fjoin3 ! $ nothing ! $ owned ! u32 (Is u32) (uint-makes 𝓤 H A W w32) n _ (refl, gn) $ fjoin ! $ move ! (1 ∷ 0 ∷ []) $ fjoin ! $
       owned ! u32 (Is u32) (uint-makes 𝓤 H A W w32) (r .value) _ (refl, fits) $ move ! (1 ∷ 0 ∷ []) $ done !
 
-  -- what whoever holds the struct knows of it
-  wt : Is (B κ′) h (mach ∷ []) → Holds (hasTy (T′.mir (named 1)) mach) × WT mach
-  wt was = LL.lawful D L 𝓤 H A W .typed h _ was .0
-
   -- and of what the callee answers
   gwt : (r : Got) (u : Val) → Is S.the-row r (u ∷ []) → Holds (hasTy S′.mir (S′.lowered r)) × WT (S′.lowered r)
   gwt r u is = subst (λ (w : Val). Holds (hasTy S′.mir w) × WT w) (ap only (LL.tells S.the-type S′.the-laws r _ is)) (LL.lawful S.the-type S′.the-laws 𝓤 H A W .typed r _ is .0)
@@ -160,12 +134,12 @@ module _ {M : Type 1} (𝓤 : URA M) (H : Heap 𝓤) (A : Atoms 𝓤) (W : Given
         qed W ((‵ (flft κ q) ⊛ ‵ (flft κ′ q′) ⊛ ‵ ftrue) ∷ ‵ (owns (MutRef (named 0) κ (B κ′) ∷ u32 ∷ []) x at) ∷ []) ∵ enter ! C Λ code.function (vptr b o ∷ vint w32 n ∷ []) _ $
         alloc1 ! (λ l₀. alloc1 ! (λ l₁. alloc1 ! (λ l₂. alloc1 ! (λ l₃. alloc1 ! (λ l₄. alloc1 ! (λ l₅. alloc0 ! $ params1 ! $ pass1 ! (init ! 8 refl (tt, tt)) $ pass1 ! (init ! 6 refl (tt, record { fits = gn })) $ pass0 ! $
         move ! (13 ∷ []) $ fsplit ! $ fsplit3 ! $ drop ! $ move ! (15 ∷ []) $ split ! $ move ! (2 ∷ 3 ∷ 0 ∷ []) $
-        opens ! tt (B κ′) {h = h} b o (λ vs. spelt ! (B κ′) (Is (B κ′)) (shows 𝓤 H A (B κ′)) (LL.vals D L) (LL.tells D L) fullShare h vs b o $
-        use1 W (‵ (fat fullShare (T′.mir erased) b o mach)) (W .laws .raw-at fullShare (T′.mir erased) b o mach) $
-        move ! (1 ∷ []) $ peeks ! (B κ′) (Is (B κ′)) (shows 𝓤 H A (B κ′)) h (mach ∷ []) (λ was. move ! (1 ∷ 0 ∷ []) $
+        opens ! tt (B κ′) {h = h} b o (λ vs. spelt ! (B κ′) (Is (B κ′)) (shows 𝓤 H A (B κ′)) (LL.vals (D κ′) (L κ′)) (LL.tells (D κ′) (L κ′)) fullShare h vs b o $
+        use1 W (‵ (fat fullShare (T′.mir erased) b o (mach h))) (W .laws .raw-at fullShare (T′.mir erased) b o (mach h)) $
+        move ! (1 ∷ []) $ peeks ! (B κ′) (Is (B κ′)) (shows 𝓤 H A (B κ′)) h (mach h ∷ []) (λ was. move ! (1 ∷ 0 ∷ []) $
         -- [the struct's cell; what it owns; the open borrow; obs; auth; 'a's token; n's; _5; …; _4; …; _3; …; _2; …; _1; …; room for _0; …]
-        assigns ! (of-opd ! (load ! (from ! (hop ! (look ! 15 refl) (fld ! refl (stop !)))) (look-in ! 0 (sub ! 0 refl (whole !))))) (from ! (stop !)) (init ! 9 refl (tt, wt was .1 .0)) $
-        assigns ! (of-opd ! (load ! (from ! (hop ! (look ! 15 refl) (fld ! refl (stop !)))) (look-in ! 0 (sub ! 1 refl (whole !))))) (from ! (stop !)) (init ! 7 refl (tt, wt was .1 .1 .0)) $
+        assigns ! (of-opd ! (load ! (from ! (hop ! (look ! 15 refl) (fld ! refl (stop !)))) (look-in ! 0 (sub ! 0 refl (whole !))))) (from ! (stop !)) (init ! 9 refl (tt, wt 𝓤 H A W κ′ h was .1 .0)) $
+        assigns ! (of-opd ! (load ! (from ! (hop ! (look ! 15 refl) (fld ! refl (stop !)))) (look-in ! 0 (sub ! 1 refl (whole !))))) (from ! (stop !)) (init ! 7 refl (tt, wt 𝓤 H A W κ′ h was .1 .1 .0)) $
         move ! (5 ∷ 1 ∷ []) $ use2 W (raw (Core 𝓤 H A at-mem run .pre to) ⊛ ‵ Own) apart $ split ! $
         calls-at ! fm (Core 𝓤 H A at-mem run) known to (and-then ! (load ! (from ! (stop !)) (look ! 9 refl)) (and-then ! (load ! (from ! (stop !)) (look ! 7 refl)) (and-then ! (load ! (from ! (stop !)) (look ! 13 refl)) (no-more !)))) (λ u.
         use1 W (later (some (λ (r : Got). ((‵ (flft κ′ q′) ⊛ ‵ ftrue) ⊛ ‵ (S.the-row .own r (u ∷ []))) ⊛ raw (ensured 𝓤 H A core.ended (core.clauses 𝓤 H A at-mem run) (κ′, tt) (h .«data», (h .state, (n, tt))) tt r)))) (id⊢ 𝓤 _) $ await ! tt $ pick ! (λ r.
@@ -177,7 +151,7 @@ module _ {M : Type 1} (𝓤 : URA M) (H : Heap 𝓤) (A : Atoms 𝓤) (W : Given
         assigns ! (of-opd ! (load ! (from ! (fld ! refl (stop !))) (look-in ! 12 (sub ! 0 refl (whole !))))) (from ! (stop !)) (init ! 18 refl (tt, gwt r u is .1 .0)) $
         -- the new state's part of what the result owns goes into the struct
         use1 W (given (u ∷ [] ≡ S′.lowered r ∷ []) (‵ (all-own (S.the-type .parts) S′.the-laws (r .value, (r .bits, tt))))) (own-open 𝓤 H A W S.the-type S′.the-laws (r .value, (r .bits, tt)) u) $ learn ! (λ _. fsplit ! $ drop ! $ fsplit ! $ move ! (1 ∷ []) $ drop ! $
-        move ! (2 ∷ 0 ∷ []) $ use2 W (‵ (B κ′ .own (h′ (r .bits)) (T′.lowered (h′ (r .bits)) ∷ []))) (own-put 𝓤 H A W D L 1 vd (r .bits) mach) $
+        move ! (2 ∷ 0 ∷ []) $ use2 W (‵ (B κ′ .own (h′ (r .bits)) (T′.lowered (h′ (r .bits)) ∷ []))) (own-put 𝓤 H A W (D κ′) (L κ′) 1 vd (r .bits) (mach h)) $
         move ! (2 ∷ []) $ use1 W (‵ (cellAt fullShare (B κ′ .mir) (T′.lowered (h′ (r .bits)) ∷ []) b o)) (W .laws .at-raw fullShare (T′.mir erased) b o (T′.lowered (h′ (r .bits)))) $
         move ! (0 ∷ 1 ∷ 3 ∷ 4 ∷ 5 ∷ []) $ closes ! tt (B κ′) (h′ (r .bits)) (T′.lowered (h′ (r .bits)) ∷ []) b o $
         returns ! (look ! 15 refl) $ forget ! 5 refl $ forget ! 7 refl $ forget ! 9 refl $ forget ! 11 refl $ forget ! 13 refl $ forget ! 15 refl $

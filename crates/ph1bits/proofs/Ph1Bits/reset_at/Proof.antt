@@ -21,15 +21,13 @@ use types.Part.{whole, sub, look-in, store-in}
 use types.Run.{look, init, forget, stop, hop, fld, from, load, unit-lit, of-opd, and-then, no-more, assigns, land, returns, enter, alloc1, alloc0, params1, pass1, pass0, free1, free0}
 use types.SemTy.{Body}
 use sound.WpLaws.{FmC, fmOf, WpFn-mono}
-use denote.RattleType.{RattleType, owns}
+use denote.RattleType.{owns}
 use denote.Laws.{Is, shows}
 use denote.Memory.{mem, cellAt}
 use denote.Plain.{uint-vals, uint-tells, uint-makes}
 use denote.Builtin.{u64}
-use denote.Ref.{RefT, NamedLft, MutRef, ptr-vals, mut-tells, now}
-use denote.Signature.{Slot, plain, namedLft}
+use denote.Ref.{RefT, MutRef, ptr-vals, mut-tells, now}
 use denote.Steps.{only, opens, closes, owned, peeks, heard, nothing}
-use denote.Struct.Declared.{Declared}
 use denote.Struct.Laws as LL
 use denote.Struct.Rest.{all-own, own-open, own-put}
 use denote.Struct.Steps.{spelt}
@@ -45,7 +43,6 @@ use denote.Exit.{yes}
 use Rattle.rules.specs.Reader.{reset-at as reset}
 use Rattle.ph1bits.specs.declared.Ph1Bits.{Ph1Bits}
 use Rattle.rules.specs.declared.reader.Bits.{Bits}
-use Rattle.ph1bits.proofs.Ph1Bits as T
 use Rattle.ph1bits.proofs.Ph1Bits.Laws as T′
 use Rattle.rules.proofs.reader.Bits as R
 use Rattle.rules.proofs.reader.Bits.Laws as R′
@@ -53,21 +50,11 @@ use Rattle.bits.proofs.reset_at as core
 use Rattle.bits.proofs.reset_at.Symbol as core-def
 use Rattle.bits.proofs.reset_at.Symbol.{name as #core}
 use Rattle.bits.proofs.reset_at.Met as core-thm
+use Rattle.ph1bits.proofs.Lent.{α, B, behind, D, L, mach, wt}
 use Rattle.ph1bits.proofs.Ph1Bits.reset_at.Key.{name as #reset-at}
 use Rattle.ph1bits.proofs.Ph1Bits.reset_at as reset-at
 use Rattle.ph1bits.proofs.Ph1Bits.reset_at.Statement as stated
 use Rattle.ph1bits.proofs.Ph1Bits.reset_at.Code as code
-
--- 'a, and the struct's type at it
-abbrev α : Lft → NamedLft
-α κ′ = record { mir = named 1; lft = κ′ }
-
-abbrev B : Lft → RattleType
-B κ′ = T.the-row (α κ′)
-
--- `Ph1Bits<'a>`, as the referent's place in the signature
-abbrev behind : Slot 2
-behind = plain (λ κs. T.the-row (namedLft 2 1 tt κs))
 
 abbrev stayed : Stays (reset-at.ended .signature .params) (reset-at.ended .kept)
 stayed = (stay-ref (0 ∷ []) tt behind, (stay-none (λ _. u64) yes, tt))
@@ -93,20 +80,11 @@ module _ {M : Type 1} (𝓤 : URA M) (H : Heap 𝓤) (A : Atoms 𝓤) (W : Given
   abbrev Post : Val → SProp 𝓤
   Post = walkOf 𝓤 H A reset-at.ended stayed (reset-at.clauses 𝓤 H A at-mem run) .post (((κ, (κ′, tt)), (q, (q′, tt)), bounds, x, at), tt)
 
-  abbrev D : Declared
-  D = T.the-type (α κ′)
-
-  abbrev L : LL.Laws D
-  L = T′.the-laws (α κ′)
-
-  abbrev vd : Values (D .parts)
+  abbrev vd : Values (D κ′ .parts)
   vd = (h .«data», (h .state, tt))
 
-  abbrev mach : Val
-  mach = T′.lowered h
-
   abbrev Own : Fml
-  Own = B κ′ .own h (mach ∷ [])
+  Own = B κ′ .own h (mach h ∷ [])
 
   -- what the callee is passed
   abbrev given-args : Vals core.signature tt
@@ -122,8 +100,8 @@ module _ {M : Type 1} (𝓤 : URA M) (H : Heap 𝓤) (A : Atoms 𝓤) (W : Given
   apart : ent 𝓤 (sem 𝓤 H A Own) (sep 𝓤 (Core 𝓤 H A at-mem run .pre to) (sem 𝓤 H A Own))
   apart =
       qed W (‵ Own ∷ []) ∵
-      use1 W (‵ Own ⊛ ‵ Own) (LL.copy D (T′.the-copy (α κ′)) 𝓤 H A W .twice h (mach ∷ [])) $ split ! $
-      use1 W (given (mach ∷ [] ≡ mach ∷ []) (‵ (all-own (D .parts) L vd))) (own-open 𝓤 H A W D L vd mach) $ learn ! (λ _. fsplit ! $ drop ! $ fsplit ! $ move ! (1 ∷ []) $ drop ! $
+      use1 W (‵ Own ⊛ ‵ Own) (LL.copy (D κ′) (T′.the-copy (α κ′)) 𝓤 H A W .twice h (mach h ∷ [])) $ split ! $
+      use1 W (given (mach h ∷ [] ≡ (mach h) ∷ []) (‵ (all-own ((D κ′) .parts) (L κ′) vd))) (own-open 𝓤 H A W (D κ′) (L κ′) vd (mach h)) $ learn ! (λ _. fsplit ! $ drop ! $ fsplit ! $ move ! (1 ∷ []) $ drop ! $
       -- [what state owns; what the struct owns]
       nothing ! $ owned ! u64 (Is u64) (uint-makes 𝓤 H A W w64) n _ (refl, gn) $ fjoin ! $ move ! (1 ∷ 0 ∷ []) $ fjoin ! $
       nothing ! $ use2 W (raw (Core 𝓤 H A at-mem run .pre to)) asked $ frame ! $ done !)
@@ -141,10 +119,6 @@ module _ {M : Type 1} (𝓤 : URA M) (H : Heap 𝓤) (A : Atoms 𝓤) (W : Given
       frame ! $ feqI ! (List Val) (vptr b o ∷ []) (vptr b o ∷ []) refl $ fjoin3 ! $ nothing ! $ owned ! u64 (Is u64) (uint-makes 𝓤 H A W w64) n _ (refl, gn) $ fjoin ! $ move ! (1 ∷ 0 ∷ []) $ fjoin ! $
       feqI ! (List Val) (vunit ∷ []) (vunit ∷ []) refl $ move ! (1 ∷ 0 ∷ []) $ done !
 
-  -- what whoever holds the struct knows of it
-  wt : Is (B κ′) h (mach ∷ []) → Holds (hasTy (T′.mir (named 1)) mach) × WT mach
-  wt was = LL.lawful D L 𝓤 H A W .typed h _ was .0
-
   -- and of what the callee answers
   spelled : (r : Bits) (u : Val) → Is R.the-row r (u ∷ []) → u ≡ R′.lowered r
   spelled r u is = ap only (LL.tells R.the-type R′.the-laws r _ is)
@@ -158,11 +132,11 @@ module _ {M : Type 1} (𝓤 : URA M) (H : Heap 𝓤) (A : Atoms 𝓤) (W : Given
         qed W ((‵ (flft κ q) ⊛ ‵ (flft κ′ q′) ⊛ ‵ ftrue) ∷ ‵ (owns (MutRef (named 0) κ (B κ′) ∷ u64 ∷ []) x at) ∷ []) ∵ enter ! C Λ code.function (vptr b o ∷ vint w64 n ∷ []) _ $
         alloc1 ! (λ l₀. alloc1 ! (λ l₁. alloc1 ! (λ l₂. alloc1 ! (λ l₃. alloc1 ! (λ l₄. alloc0 ! $ params1 ! $ pass1 ! (init ! 6 refl (tt, tt)) $ pass1 ! (init ! 4 refl (tt, record { fits = gn })) $ pass0 ! $
         move ! (11 ∷ []) $ fsplit ! $ fsplit3 ! $ drop ! $ move ! (13 ∷ []) $ split ! $ move ! (2 ∷ 3 ∷ 0 ∷ []) $
-        opens ! tt (B κ′) {h = h} b o (λ vs. spelt ! (B κ′) (Is (B κ′)) (shows 𝓤 H A (B κ′)) (LL.vals D L) (LL.tells D L) fullShare h vs b o $
-        use1 W (‵ (fat fullShare (T′.mir erased) b o mach)) (W .laws .raw-at fullShare (T′.mir erased) b o mach) $
-        move ! (1 ∷ []) $ peeks ! (B κ′) (Is (B κ′)) (shows 𝓤 H A (B κ′)) h (mach ∷ []) (λ was. move ! (1 ∷ 0 ∷ []) $
+        opens ! tt (B κ′) {h = h} b o (λ vs. spelt ! (B κ′) (Is (B κ′)) (shows 𝓤 H A (B κ′)) (LL.vals (D κ′) (L κ′)) (LL.tells (D κ′) (L κ′)) fullShare h vs b o $
+        use1 W (‵ (fat fullShare (T′.mir erased) b o (mach h))) (W .laws .raw-at fullShare (T′.mir erased) b o (mach h)) $
+        move ! (1 ∷ []) $ peeks ! (B κ′) (Is (B κ′)) (shows 𝓤 H A (B κ′)) h (mach h ∷ []) (λ was. move ! (1 ∷ 0 ∷ []) $
         -- [the struct's cell; what it owns; the open borrow; obs; auth; 'a's token; n's; _4; …; _3; …; _2; …; _1; …; room for _0; …]
-        assigns ! (of-opd ! (load ! (from ! (hop ! (look ! 13 refl) (fld ! refl (stop !)))) (look-in ! 0 (sub ! 1 refl (whole !))))) (from ! (stop !)) (init ! 7 refl (tt, wt was .1 .1 .0)) $
+        assigns ! (of-opd ! (load ! (from ! (hop ! (look ! 13 refl) (fld ! refl (stop !)))) (look-in ! 0 (sub ! 1 refl (whole !))))) (from ! (stop !)) (init ! 7 refl (tt, wt 𝓤 H A W κ′ h was .1 .1 .0)) $
         move ! (1 ∷ []) $ use1 W (raw (Core 𝓤 H A at-mem run .pre to) ⊛ ‵ Own) apart $ split ! $
         calls-at ! fm (Core 𝓤 H A at-mem run) known to (and-then ! (load ! (from ! (stop !)) (look ! 8 refl)) (and-then ! (load ! (from ! (stop !)) (look ! 12 refl)) (no-more !))) (λ u.
         use1 W (later (some (λ (r : Bits). (‵ ftrue ⊛ ‵ (R.the-row .own r (u ∷ []))) ⊛ raw (ensured 𝓤 H A core.ended (core.clauses 𝓤 H A at-mem run) tt (h .state, (n, tt)) tt r)))) (id⊢ 𝓤 _) $ await ! tt $ pick ! (λ r.
@@ -173,7 +147,7 @@ module _ {M : Type 1} (𝓤 : URA M) (H : Heap 𝓤) (A : Atoms 𝓤) (W : Given
         rewrite ! 0 (λ (w : Val). ‵ (R.the-row .own r (w ∷ []))) (spelled r u is) refl $
         assigns ! (of-opd ! (load ! (from ! (stop !)) (look ! 10 refl))) (from ! (hop ! (look ! 14 refl) (fld ! refl (stop !)))) (store-in ! 2 (sub ! 1 refl (whole !)) (tt, rwt r u is .1)) $
         assigns ! (of-opd ! (unit-lit !)) (from ! (stop !)) (init ! 16 refl (tt, tt)) $
-        move ! (1 ∷ 0 ∷ []) $ use2 W (‵ (B κ′ .own (h′ r) (T′.lowered (h′ r) ∷ []))) (own-put 𝓤 H A W D L 1 vd r mach) $
+        move ! (1 ∷ 0 ∷ []) $ use2 W (‵ (B κ′ .own (h′ r) (T′.lowered (h′ r) ∷ []))) (own-put 𝓤 H A W (D κ′) (L κ′) 1 vd r (mach h)) $
         move ! (1 ∷ []) $ use1 W (‵ (cellAt fullShare (B κ′ .mir) (T′.lowered (h′ r) ∷ []) b o)) (W .laws .at-raw fullShare (T′.mir erased) b o (T′.lowered (h′ r))) $
         closes ! tt (B κ′) (h′ r) (T′.lowered (h′ r) ∷ []) b o $
         returns ! (look ! 13 refl) $ forget ! 5 refl $ forget ! 7 refl $ forget ! 9 refl $ forget ! 11 refl $ forget ! 13 refl $

@@ -20,9 +20,13 @@ decode-frame-requires c κs = search needs
 same-length : tie.Need-same-length
 same-length c = search needs
 
+-- Places that the answers look back at.
+abbrev else1 : tie.After-slice-known2 → tie.Else1
+else1 c = c .before .before .before .before .before
+
 returns-2 : tie.Need-returns-2
 returns-2 c =
-    let v = c .before .before .before .before .before .before .before .before .check-frame in
+    let v = else1 (c .before) .before .before .check-frame in
     let taken = eq-eqb (v .result .number) 0 (omega arith) in
     (v .ensures, rw taken (c .before .before .before .decode-frame .ensures .1 .0))
 

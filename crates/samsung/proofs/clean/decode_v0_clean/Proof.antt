@@ -5,7 +5,7 @@ use native.Mathlib.Omega.{arith}
 use lib.Seq.{length-take-le}
 use Rattle.rules.specs.Answer.{refusal, too-small, short-samples, short-offsets, short-map, short-scratch}
 use Rattle.refusals.specs.Lending.{short}
-use Rattle.refusals.proofs.RefusalLaws.{cells-most, room, long-enough}
+use Rattle.refusals.proofs.RefusalLaws.{room, long-enough}
 use Rattle.profile.proofs.Calls.{refused-yields, checked-answer, checked-samples}
 use borrow.Author.Needs.{needs}
 use Rattle.samsung.proofs.clean.decode_v0_clean.Statement.{statement}
@@ -21,13 +21,10 @@ returns : tie.Need-returns
 unfolding refusal too-small short-samples short-offsets short-map short-scratch short
 returns c =
     let e = sym (c .before .before .refuse .ensures) in
-    let n = c .before .if1 .taken in
-    refused-yields _ _ _ e n _ (c .refused .ensures)
+    refused-yields _ _ _ e (c .before .if1 .taken) _ (c .refused .ensures)
 
 mul-n : tie.Need-mul-n
-mul-n c =
-    let p = room _ _ _ _ _ _ _ (c .before .refuse .ensures) (c .if1 .left) in
-    omega (arith, cells-most _ _ (p .wide) (p .high))
+mul-n c = omega (arith, room _ _ _ _ _ _ _ (c .before .refuse .ensures) (c .if1 .left) .few)
 
 slice-relend-prefix-decode-checked : tie.Need-slice-relend-prefix-decode-checked
 slice-relend-prefix-decode-checked c = room _ _ _ _ _ _ _ (c .before .refuse .ensures) (c .if1 .left) .samples-enough

@@ -5,7 +5,7 @@ use native.Mathlib.Omega.{arith}
 use lib.Seq.{length-take-le}
 use Rattle.rules.specs.Answer.{refusal, too-small, short-samples, short-offsets, short-map, short-scratch}
 use Rattle.refusals.specs.Lending.{short}
-use Rattle.refusals.proofs.RefusalLaws.{cells-most, room, long-enough}
+use Rattle.refusals.proofs.RefusalLaws.{room, long-enough}
 use Rattle.profile.proofs.Calls.{refused-yields, checked-answer, checked-samples, fault-map, taken-map}
 use borrow.Author.Needs.{needs}
 use Rattle.samsung.proofs.clean.decode_v0_clean_map.Statement.{statement}
@@ -21,13 +21,10 @@ returns : tie.Need-returns
 unfolding refusal too-small short-samples short-offsets short-map short-scratch short
 returns c =
     let e = sym (c .before .before .refuse .ensures) in
-    let n = c .before .if1 .taken in
-    refused-yields _ _ _ e n _ (c .refused .ensures)
+    refused-yields _ _ _ e (c .before .if1 .taken) _ (c .refused .ensures)
 
 mul-n : tie.Need-mul-n
-mul-n c =
-    let p = room _ _ _ _ _ _ _ (c .before .refuse .ensures) (c .if1 .left) in
-    omega (arith, cells-most _ _ (p .wide) (p .high))
+mul-n c = omega (arith, room _ _ _ _ _ _ _ (c .before .refuse .ensures) (c .if1 .left) .few)
 
 slice-relend-prefix-decode-checked : tie.Need-slice-relend-prefix-decode-checked
 slice-relend-prefix-decode-checked c = room _ _ _ _ _ _ _ (c .before .refuse .ensures) (c .if1 .left) .samples-enough
@@ -43,10 +40,17 @@ decode-checked-requires c κs =
 same-length : tie.Need-same-length
 same-length c = search needs
 
+-- Places that the answers look back at.
+abbrev else1 : tie.After-struct-known → tie.Else1
+else1 c = c .before .before .before .before .before
+
+abbrev else2 : tie.After-slice-known4 → tie.Else2
+else2 c = c .before .before .before .before
+
 returns-2 : tie.Need-returns-2
 unfolding refusal too-small short-samples short-offsets short-map short-scratch short
 returns-2 c =
-    let ok = sym (c .before .before .before .before .before .before .before .refuse .ensures) ∙ c .before .before .before .before .before .before .if1 .left in
+    let ok = sym (else1 (c .before) .before .refuse .ensures) ∙ else1 (c .before) .if1 .left in
     let d = c .before .before .before .before .decode-checked .ensures in
     record {
       answered = checked-answer _ refl _ ok _ (d .0);
@@ -55,10 +59,10 @@ returns-2 c =
     }
 
 slice-relend-prefix-mark-all : tie.Need-slice-relend-prefix-mark-all
-slice-relend-prefix-mark-all c = long-enough _ _ (room _ _ _ _ _ _ _ (c .before .before .before .before .before .before .before .refuse .ensures) (c .before .before .before .before .before .before .if1 .left) .map-enough)
+slice-relend-prefix-mark-all c = long-enough _ _ (room _ _ _ _ _ _ _ (else1 (c .before) .before .refuse .ensures) (else1 (c .before) .if1 .left) .map-enough)
 
 slice-aggregate-mark-all : tie.Need-slice-aggregate-mark-all
-slice-aggregate-mark-all c = sym (length-take-le _ _ (long-enough _ _ (room _ _ _ _ _ _ _ (c .before .before .before .before .before .before .before .before .refuse .ensures) (c .before .before .before .before .before .before .before .if1 .left) .map-enough)))
+slice-aggregate-mark-all c = sym (length-take-le _ _ (long-enough _ _ (room _ _ _ _ _ _ _ (else1 (c .before .before) .before .refuse .ensures) (else1 (c .before .before) .if1 .left) .map-enough)))
 
 mark-all-requires : tie.Need-mark-all-requires
 mark-all-requires c κs = search needs
@@ -72,12 +76,12 @@ same-length-3 c = search needs
 returns-3 : tie.Need-returns-3
 unfolding refusal too-small short-samples short-offsets short-map short-scratch short
 returns-3 c =
-    let ok = sym (c .before .before .before .before .before .before .before .before .before .before .before .refuse .ensures) ∙ c .before .before .before .before .before .before .before .before .before .before .if1 .left in
-    let d = c .before .before .before .before .before .before .before .before .decode-checked .ensures in
+    let ok = sym (else1 (else2 c .before) .before .refuse .ensures) ∙ else1 (else2 c .before) .if1 .left in
+    let d = else2 c .before .before .before .before .decode-checked .ensures in
     record {
       answered = checked-answer _ refl _ ok _ (d .0);
       samples = checked-samples _ refl _ ok _ (d .0) _ _ (d .1);
-      map = taken-map _ refl _ ok _ (d .0) (c .before .before .before .before .if2 .left) _ _ refl (c .before .before .mark-all .ensures);
+      map = taken-map _ refl _ ok _ (d .0) (else2 c .if2 .left) _ _ refl (c .before .before .mark-all .ensures);
     }
 
 pub decode-v0-clean-map-spec : {M : Type 1} → statement M

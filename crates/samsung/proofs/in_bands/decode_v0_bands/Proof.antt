@@ -6,7 +6,7 @@ use borrow.Author.Needs.{needs}
 use lib.Seq.{length-take-le}
 use Rattle.rules.specs.Answer.{refusal, too-small, short-samples, short-offsets, short-map, short-scratch}
 use Rattle.refusals.specs.Lending.{short}
-use Rattle.refusals.proofs.RefusalLaws.{cells-most, room, long-enough}
+use Rattle.refusals.proofs.RefusalLaws.{room, long-enough}
 use Rattle.bands.proofs.Calls.{list-passed, refusal-plain, refusal-list, refused-yields, done-yields}
 use Rattle.samsung.proofs.in_bands.decode_v0_bands.Statement.{statement}
 use Rattle.samsung.proofs.in_bands.decode_v0_bands.Tie as tie
@@ -37,9 +37,7 @@ returns-2 c =
     refused-yields _ _ (refusal-list _ ok ∙ sym (c .before .before .refuse-steps .ensures)) n _ (c .refused2 .ensures)
 
 mul-n : tie.Need-mul-n
-mul-n c =
-    let p = room _ _ _ _ _ _ _ (c .before .before .before .refuse .ensures) (c .before .before .if1 .left) in
-    omega (arith, cells-most _ _ (p .wide) (p .high))
+mul-n c = omega (arith, room _ _ _ _ _ _ _ (c .before .before .before .refuse .ensures) (c .before .before .if1 .left) .few)
 
 slice-relend-prefix-decode-frame : tie.Need-slice-relend-prefix-decode-frame
 slice-relend-prefix-decode-frame c = room _ _ _ _ _ _ _ (c .before .before .before .refuse .ensures) (c .before .before .if1 .left) .samples-enough
@@ -62,11 +60,16 @@ same-length c = search needs
 same-length-2 : tie.Need-same-length-2
 same-length-2 c = search needs
 
+-- Places that the answers look back at.
+abbrev else2 : tie.After-slice-known3 → tie.Else2
+else2 c = c .before .before .before .before .before
+
 returns-3 : tie.Need-returns-3
 unfolding refusal too-small short-samples short-offsets short-map short-scratch short
 returns-3 c =
-    let plain = sym (c .before .before .before .before .before .before .before .before .before .before .before .refuse .ensures) ∙ c .before .before .before .before .before .before .before .before .before .before .if1 .left in
-    let ok = refusal-list _ plain ∙ sym (c .before .before .before .before .before .before .before .before .before .refuse-steps .ensures) ∙ c .before .before .before .before .before .before .before .before .if2 .left in
+    let b = else2 (c .before .before .before) in
+    let plain = sym (b .before .before .before .refuse .ensures) ∙ b .before .before .if1 .left in
+    let ok = refusal-list _ plain ∙ sym (b .before .refuse-steps .ensures) ∙ b .if2 .left in
     let d = c .before .before .before .before .before .decode-frame .ensures in
     done-yields _ ok _ (c .done .ensures) _ _ (d .0) (d .1)
 

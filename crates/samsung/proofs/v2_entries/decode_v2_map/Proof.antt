@@ -6,7 +6,7 @@ use borrow.Author.Needs.{needs}
 use lib.Seq.{length-take-le}
 use Rattle.rules.specs.Answer.{refusal, short-samples, short-offsets, short-map, short-scratch, frame-samples, frame-marks, stream-answer}
 use Rattle.refusals.specs.Lending.{short}
-use Rattle.refusals.proofs.RefusalLaws.{cells-most, room, small-as, long-enough}
+use Rattle.refusals.proofs.RefusalLaws.{room, small-as, long-enough}
 use Rattle.samsung.proofs.EntryLaws.{refused-yields, passed-answer, passed-samples, passed-map}
 use Rattle.samsung.proofs.v2_entries.decode_v2_map.Statement.{statement}
 use Rattle.samsung.proofs.v2_entries.decode_v2_map.Tie as tie
@@ -24,13 +24,10 @@ returns : tie.Need-returns
 unfolding refusal short-samples short-offsets short-map short-scratch short
 returns c =
     let e = small-as _ _ _ _ _ _ (c .before .before .refuse .ensures) (c .before .before .before .is-too-small .ensures) in
-    let n = c .before .if1 .taken in
-    refused-yields _ _ _ e n _ (c .refused .ensures)
+    refused-yields _ _ _ e (c .before .if1 .taken) _ (c .refused .ensures)
 
 mul-n : tie.Need-mul-n
-mul-n c =
-    let p = room _ _ _ _ _ _ _ (c .before .refuse .ensures) (c .if1 .left) in
-    omega (arith, cells-most _ _ (p .wide) (p .high))
+mul-n c = omega (arith, room _ _ _ _ _ _ _ (c .before .refuse .ensures) (c .if1 .left) .few)
 
 slice-relend-prefix-decode-marked : tie.Need-slice-relend-prefix-decode-marked
 slice-relend-prefix-decode-marked c = room _ _ _ _ _ _ _ (c .before .refuse .ensures) (c .if1 .left) .samples-enough
@@ -56,10 +53,15 @@ same-length c = search needs
 same-length-2 : tie.Need-same-length-2
 same-length-2 c = search needs
 
+-- Places that the answers look back at.
+abbrev else1 : tie.After-slice-known3 → tie.Else1
+else1 c = c .before .before .before .before .before
+
 returns-2 : tie.Need-returns-2
 unfolding refusal short-samples short-offsets short-map short-scratch short frame-samples frame-marks stream-answer
 returns-2 c =
-    let ok = small-as _ _ _ _ _ _ (c .before .before .before .before .before .before .before .before .refuse .ensures) (c .before .before .before .before .before .before .before .before .before .is-too-small .ensures) ∙ c .before .before .before .before .before .before .before .if1 .left in
+    let b = else1 (c .before .before) in
+    let ok = small-as _ _ _ _ _ _ (b .before .refuse .ensures) (b .before .before .is-too-small .ensures) ∙ b .if1 .left in
     let d = c .before .before .before .before .decode-marked .ensures in
     record { answered = passed-answer _ _ ok _ (d .0); samples = passed-samples _ _ ok _ _ (d .1 .0); map = passed-map _ _ ok _ _ (d .1 .1); scratch = refl }
 

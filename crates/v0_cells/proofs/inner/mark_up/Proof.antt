@@ -50,9 +50,16 @@ add-c c = omega arith
 loop-less : tie.Need-loop-less Inv-loop μ-loop
 loop-less c = omega arith
 
+-- Places that the answers look back at.
+abbrev at-start : tie.At-loop Inv-loop μ-loop → tie.Start Inv-loop μ-loop
+at-start c = c .before .before
+
+abbrev at-loop : tie.After-slice-known4 Inv-loop μ-loop → tie.At-loop Inv-loop μ-loop
+at-loop c = c .before .before .before .before .before
+
 loop-again : tie.Need-loop-again Inv-loop μ-loop
 loop-again c =
-    let a = c .before .before .before .before .before .before .args in
+    let a = at-start (c .before .before .before .before) .args in
     let l = c .before .before .before .before .loop in
     made-on _ _ _ _ _ _ _ _ _ (omega arith) (choice-up (a .w) (a .base) (l .c) _ 0 (a .map .now) (c .mark-of .ensures)) (l .inv)
 
@@ -63,7 +70,7 @@ same-length : tie.Need-same-length Inv-loop μ-loop
 same-length c = search needs
 
 returns : tie.Need-returns Inv-loop μ-loop
-returns c = staged v0-marks _ _ _ (λ i. 0) _ _ _ _ (c .before .before .before .before .before .before .before .pre .0) (omega arith) (c .before .before .before .before .before .loop .inv) (c .before .before .store-marks .ensures)
+returns c = staged v0-marks _ _ _ (λ i. 0) _ _ _ _ (at-start (at-loop c) .pre .0) (omega arith) (at-loop c .loop .inv) (c .before .before .store-marks .ensures)
 
 pub mark-up-spec : {M : Type 1} → statement M
 mark-up-spec =

@@ -19,8 +19,12 @@ loop-holds c = putting-begun _ _ _ _ _ _
 stream-column-requires : tie.Need-stream-column-requires Inv-loop μ-loop
 stream-column-requires c κs = search needs
 
+-- Places that the answers look back at.
+abbrev at-start : tie.After-stream-column Inv-loop μ-loop → tie.Start Inv-loop μ-loop
+at-start c = c .before .before .before .before
+
 source-requires : tie.Need-source-requires Inv-loop μ-loop
-source-requires c κs = let a = c .before .before .before .before .pre in (a .0 .rows, (omega (arith, a .0 .rows, a .0 .wide), (a .1, c .stream-column .ensures .1)))
+source-requires c κs = let a = at-start c .pre in (a .0 .rows, (omega (arith, a .0 .rows, a .0 .wide), (a .1, c .stream-column .ensures .1)))
 
 mul-wrapping-add-u16 : tie.Need-mul-wrapping-add-u16 Inv-loop μ-loop
 mul-wrapping-add-u16 c = omega arith
@@ -53,7 +57,7 @@ loop-less : tie.Need-loop-less Inv-loop μ-loop
 loop-less c = omega arith
 
 loop-again : tie.Need-loop-again Inv-loop μ-loop
-loop-again c = putting-on _ _ _ _ (c .before .before .before .before .before .before .before .args .t5) _ _ _ _ (c .before .before .source .result) _ (omega arith) (omega arith) (c .before .before .before .stream-column .ensures .0) (c .before .before .source .ensures .0) (c .wrapping-add-u16 .ensures) (c .before .before .before .before .before .loop .inv)
+loop-again c = putting-on _ _ _ _ (at-start (c .before .before .before) .args .t5) _ _ _ _ (c .before .before .source .result) _ (omega arith) (omega arith) (c .before .before .before .stream-column .ensures .0) (c .before .before .source .ensures .0) (c .wrapping-add-u16 .ensures) (c .before .before .before .before .before .loop .inv)
 
 same-length : tie.Need-same-length Inv-loop μ-loop
 same-length c = search needs

@@ -25,47 +25,63 @@ next-motion-requires c κs = search needs
 refusal-of-requires : tie.Need-refusal-of-requires
 refusal-of-requires c κs = search needs
 
+-- Places that the answers look back at.
+abbrev at-start : tie.After-next-scale → tie.Start
+at-start c = c .before .before .before .before
+
+abbrev after-next-scale : tie.After-refusal-of → tie.After-next-scale
+after-next-scale c = c .before .before .before .before
+
+abbrev after-refusal-of : tie.Else2 → tie.After-refusal-of
+after-refusal-of c = c .before .before
+
+abbrev else2 : tie.After-base2 → tie.Else2
+else2 c = c .before .before .before .before .before
+
 returns : tie.Need-returns
 returns c =
-    let a = c .before .before .before .before .before .before .before .before .before in
+    let a = at-start (after-next-scale (c .before)) in
     let z = a .args .state .scale in
-    let ec = rw (toZ-ofZ w32 z (scale-fits z (ready-scale (now (a .args .src)) _ _ _ (a .args .bits) _ (a .pre .0)))) at (c .before .before .before .before .before .next-scale .ensures) in
+    let ec = rw (toZ-ofZ w32 z (scale-fits z (ready-scale (now (a .args .src)) _ _ _ (a .args .bits) _ (a .pre .0)))) at (after-next-scale (c .before) .next-scale .ensures) in
     let q = block-early _ _ _ _ _ _ _ (now (a .args .mode)) _ ec _ (c .before .before .before .next-motion .ensures) _ (c .before .refusal-of .ensures) (c .if1 .taken) in
     (q .0, (q .1, kept-early _ _ _))
 
 returns-2 : tie.Need-returns-2
 returns-2 c =
-    let a = c .before .before .before .before .before .before .before .before .before .before in
+    let d = after-next-scale (c .before .before) in
+    let a = at-start d in
     let z = a .args .state .scale in
-    let ec = rw (toZ-ofZ w32 z (scale-fits z (ready-scale (now (a .args .src)) _ _ _ (a .args .bits) _ (a .pre .0)))) at (c .before .before .before .before .before .before .next-scale .ensures) in
+    let ec = rw (toZ-ofZ w32 z (scale-fits z (ready-scale (now (a .args .src)) _ _ _ (a .args .bits) _ (a .pre .0)))) at (d .next-scale .ensures) in
     let q = block-outside _ _ _ _ _ _ _ (now (a .args .mode)) _ ec _ (c .before .before .before .before .next-motion .ensures) _ (c .before .before .refusal-of .ensures) (c .if2 .taken) in
     (q .0, (q .1, kept-outside _ _ _))
 
 bases-requires : tie.Need-bases-requires
 bases-requires c κs =
-    let a = c .before .before .before .before .before .before .before .before .before .before .before in
+    let a = at-start (after-next-scale (after-refusal-of (c .before))) in
     let ek = c .before .before .before .refusal-of .ensures in
     (a .pre .0 .inside, (own-motion _ _ _ _ _ _ (a .pre .0) _ (c .before .before .before .before .before .next-motion .ensures), (refl, sym ek ∙ refusal-zero _ _ _ _ ek (c .before .before .if1 .left) (c .before .if2 .left))))
 
 read-tail-requires : tie.Need-read-tail-requires
 read-tail-requires c κs =
-    let a = c .before .before .before .before .before .before .before .before .before .before .before .before .before .before .before .before in
+    let d = after-next-scale (after-refusal-of (else2 (c .before))) in
+    let a = at-start d in
     let z = a .args .state .scale in
-    let ec = rw (toZ-ofZ w32 z (scale-fits z (ready-scale (now (a .args .src)) _ _ _ (a .args .bits) _ (a .pre .0)))) at (c .before .before .before .before .before .before .before .before .before .before .before .before .next-scale .ensures) in
-    let y = c .before .before .before .before .before .before .before .before .before .before .before .before .next-scale .result .scale in
+    let ec = rw (toZ-ofZ w32 z (scale-fits z (ready-scale (now (a .args .src)) _ _ _ (a .args .bits) _ (a .pre .0)))) at (d .next-scale .ensures) in
+    let y = d .next-scale .result .scale in
     let p = own-scale _ _ _ _ _ _ (a .pre .0) _ ec in
     rw (toZ-ofZ w32 y (scale-fits y p)) (a .pre .0 .depth, (p, a .pre .1))
 
 returns-3 : tie.Need-returns-3
 returns-3 c =
-    let a = c .before .before .before .before .before .before .before .before .before .before .before .before .before .before .before .before .before in
+    let d = after-refusal-of (else2 (c .before .before)) in
+    let a = at-start (after-next-scale d) in
     let z = a .args .state .scale in
-    let ec = rw (toZ-ofZ w32 z (scale-fits z (ready-scale (now (a .args .src)) _ _ _ (a .args .bits) _ (a .pre .0)))) at (c .before .before .before .before .before .before .before .before .before .before .before .before .before .next-scale .ensures) in
-    let y = c .before .before .before .before .before .before .before .before .before .before .before .before .before .next-scale .result .scale in
-    let em = c .before .before .before .before .before .before .before .before .before .before .before .next-motion .ensures in
-    let ek = c .before .before .before .before .before .before .before .before .before .refusal-of .ensures in
-    let e5 = ne-eqb _ _ (c .before .before .before .before .before .before .before .before .if1 .left) in
-    let e6 = ne-eqb _ _ (c .before .before .before .before .before .before .before .if2 .left) in
+    let ec = rw (toZ-ofZ w32 z (scale-fits z (ready-scale (now (a .args .src)) _ _ _ (a .args .bits) _ (a .pre .0)))) at (after-next-scale d .next-scale .ensures) in
+    let y = after-next-scale d .next-scale .result .scale in
+    let em = d .before .before .next-motion .ensures in
+    let ek = d .refusal-of .ensures in
+    let e5 = ne-eqb _ _ (else2 (c .before .before) .before .if1 .left) in
+    let e6 = ne-eqb _ _ (else2 (c .before .before) .if2 .left) in
     let m = now (a .args .mode) in
     let r = simp (toZ-ofZ w32 y (scale-fits y (own-scale _ _ _ _ _ _ (a .pre .0) _ ec))) at (c .read-tail .ensures) in (
       r .0 ∙ sym (block-outcome _ _ _ _ _ _ _ m _ ec _ em _ ek e5 e6),

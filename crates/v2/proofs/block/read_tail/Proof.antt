@@ -23,21 +23,30 @@ block-differences-requires c κs = search needs
 top-of-requires : tie.Need-top-of-requires
 top-of-requires c κs = search needs
 
+-- Places that the answers look back at.
+abbrev at-start : tie.Else1 → tie.Start
+at-start c = c .before .before .before .before .before
+
+abbrev else1 : tie.After-d2 → tie.Else1
+else1 c = c .before .before .before .before .before
+
 build-requires : tie.Need-build-requires
 build-requires c κs =
-    let a = c .before .before .before .before .before .before .before .before .before .before .before .before in
+    let b = else1 (c .before .before) in
+    let a = at-start b in
     let z = a .args .state .scale in
-    let e = c .before .before .before .before .before .before .before .before .before .block-lengths .ensures in
+    let e = b .before .before .block-lengths .ensures in
     rw (toZ-ofZ w32 z (scale-fits z (a .pre .1 .0)))
-    (tail-small _ _ _ (a .args .state) _ _ _ _ e _ _ (c .before .before .before .before .block-differences .ensures) (a .pre .0) (c .before .before .before .before .before .before .before .if1 .left), (a .pre .1 .0, (omega (arith, c .before .before .before .top-of .ensures, top-below (a .args .hdr) (a .pre .0)), a .pre .1 .1)))
+    (tail-small _ _ _ (a .args .state) _ _ _ _ e _ _ (c .before .before .before .before .block-differences .ensures) (a .pre .0) (b .if1 .left), (a .pre .1 .0, (omega (arith, c .before .before .before .top-of .ensures, top-below (a .args .hdr) (a .pre .0)), a .pre .1 .1)))
 
 returns-2 : tie.Need-returns-2
 returns-2 c =
-    let a = c .before .before .before .before .before .before .before .before .before .before .before .before .before in
+    let b = else1 (c .before .before .before) in
+    let a = at-start b in
     let z = a .args .state .scale in
-    let e = c .before .before .before .before .before .before .before .before .before .before .block-lengths .ensures in
+    let e = b .before .before .block-lengths .ensures in
     let ed = c .before .before .before .before .before .block-differences .ensures in (
-      tail-next _ _ _ _ _ _ _ _ e _ _ ed (c .before .before .before .before .before .before .before .before .if1 .left),
+      tail-next _ _ _ _ _ _ _ _ e _ _ ed (b .if1 .left),
       (
         tail-mode _ _ _ _ _ _ _ _ e,
         tail-samples _ _ _ _ _ _ _ _ e _ _ ed (now (a .args .base)) _ (now (a .args .samples)) _ (c .before .before .before .before .top-of .ensures) (simp (toZ-ofZ w32 z (scale-fits z (a .pre .1 .0))) at (c .build .ensures)),

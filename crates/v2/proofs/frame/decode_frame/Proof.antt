@@ -39,8 +39,36 @@ read-header-requires c κs = search needs
 done-with-requires : tie.Need-done-with-requires Inv-loop μ-loop Inv-frame μ-frame
 done-with-requires c κs = search needs
 
+-- Places that the answers look back at.
+abbrev at-start : tie.After-read-header Inv-loop μ-loop Inv-frame μ-frame → tie.Start Inv-loop μ-loop Inv-frame μ-frame
+at-start c = c .before .before .before .before
+
+abbrev after-read-header : tie.In-frame Inv-loop μ-loop Inv-frame μ-frame → tie.After-read-header Inv-loop μ-loop Inv-frame μ-frame
+after-read-header c = c .before .before .before .before .before
+
+abbrev in-frame : tie.At-loop Inv-loop μ-loop Inv-frame μ-frame → tie.In-frame Inv-loop μ-loop Inv-frame μ-frame
+in-frame c = c .before .before .before .before
+
+abbrev at-loop : tie.After-struct-known Inv-loop μ-loop Inv-frame μ-frame → tie.At-loop Inv-loop μ-loop Inv-frame μ-frame
+at-loop c = c .before .before
+
+abbrev in-loop : tie.After-read-block Inv-loop μ-loop Inv-frame μ-frame → tie.In-loop Inv-loop μ-loop Inv-frame μ-frame
+in-loop c = c .before .before .before .before
+
+abbrev after-read-block : tie.After-number Inv-loop μ-loop Inv-frame μ-frame → tie.After-read-block Inv-loop μ-loop Inv-frame μ-frame
+after-read-block c = c .before .before .before
+
+abbrev at-match-keys1 : tie.After-first Inv-loop μ-loop Inv-frame μ-frame → tie.At-match-keys1 Inv-loop μ-loop Inv-frame μ-frame
+at-match-keys1 c = c .before .before .before .before
+
+abbrev after-first : tie.After-mark-block-arg Inv-loop μ-loop Inv-frame μ-frame → tie.After-first Inv-loop μ-loop Inv-frame μ-frame
+after-first c = c .before .before .before .before .before
+
+abbrev after-mark-block : tie.After-slice-known4 Inv-loop μ-loop Inv-frame μ-frame → tie.After-mark-block Inv-loop μ-loop Inv-frame μ-frame
+after-mark-block c = c .before .before
+
 frame-holds : tie.Need-frame-holds Inv-loop μ-loop Inv-frame μ-frame
-frame-holds c = (omega arith, (c .before .before .before .before .before .before .before .pre .samples-lent, (refl, (c .done-with .ensures, frame-starts _ _ _ _ _ _ _ _))))
+frame-holds c = (omega arith, (at-start (c .before .before .before) .pre .samples-lent, (refl, (c .done-with .ensures, frame-starts _ _ _ _ _ _ _ _))))
 
 align-requires : tie.Need-align-requires Inv-loop μ-loop Inv-frame μ-frame
 align-requires c κs = search needs
@@ -60,19 +88,22 @@ add-loop c = search needs
 abbrev In : Type 0
 In = tie.In-loop Inv-loop μ-loop Inv-frame μ-frame
 
-placed : (c : In) → Placed (record { width = c .before .before .before .before .before .before .before .before .before .before .before .before .before .before .args .size .width; row = c .before .before .before .before .before .before .frame .row; col = c .before .loop .col })
+placed : (c : In) → Placed (record { width = at-start (after-read-header (in-frame (c .before))) .args .size .width; row = in-frame (c .before) .before .frame .row; col = c .before .loop .col })
 placed c =
-    let q : c .before .before .before .before .before .before .frame .row < c .before .before .before .before .before .before .before .before .before .before .before .before .before .before .args .size .height = c .before .before .before .before .before .frame-test .taken in
-    record { wide = c .before .before .before .before .before .before .before .before .before .before .before .before .before .before .pre .width; high = omega (arith, c .before .before .before .before .before .before .before .before .before .before .before .before .before .before .pre .height); column = c .loop-test .taken; whole = c .before .loop .inv .1 .1 .whole-blocks }
+    let s = at-start (after-read-header (in-frame (c .before))) in
+    let q : in-frame (c .before) .before .frame .row < s .args .size .height = in-frame (c .before) .frame-test .taken in
+    record { wide = s .pre .width; high = omega (arith, s .pre .height); column = c .loop-test .taken; whole = c .before .loop .inv .1 .1 .whole-blocks }
 
-room : (c : In) → c .before .before .before .before .before .before .frame .row * c .before .before .before .before .before .before .before .before .before .before .before .before .before .before .args .size .width + c .before .loop .col + 16 ≤ cells (c .before .before .before .before .before .before .before .before .before .before .before .before .before .before .args .size)
-room c = block-inside (c .before .before .before .before .before .before .before .before .before .before .before .before .before .before .args .size) (c .before .before .before .before .before .before .frame .row) (c .before .loop .col) (c .before .before .before .before .before .frame-test .taken) (c .loop-test .taken)
+room : (c : In) → in-frame (c .before) .before .frame .row * at-start (after-read-header (in-frame (c .before))) .args .size .width + c .before .loop .col + 16 ≤ cells (at-start (after-read-header (in-frame (c .before))) .args .size)
+room c =
+    let l = in-frame (c .before) in
+    block-inside (at-start (after-read-header l) .args .size) (l .before .frame .row) (c .before .loop .col) (l .frame-test .taken) (c .loop-test .taken)
 
 read-block-requires : tie.Need-read-block-requires Inv-loop μ-loop Inv-frame μ-frame
 read-block-requires c κs =
     let g = c .before .before .before .before .loop .inv in (
       record {
-        depth = depth-is _ _ (c .before .before .before .before .before .before .before .before .before .before .before .before .before .read-header .ensures);
+        depth = depth-is _ _ (after-read-header (in-frame (c .before .before .before .before)) .read-header .ensures);
         inside = record { placed = placed (c .before .before .before); room = omega (arith, g .0, room (c .before .before .before)) };
         motion = g .1 .1 .motion;
         scale = g .1 .1 .scale;
@@ -90,33 +121,43 @@ number-requires : tie.Need-number-requires Inv-loop μ-loop Inv-frame μ-frame
 number-requires c κs = search needs
 
 cast-t30 : tie.Need-cast-t30 Inv-loop μ-loop Inv-frame μ-frame
-cast-t30 c = omega (arith, c .before .before .before .before .before .before .before .before .before .before .before .before .frame-test .taken, c .before .before .before .before .before .before .before .before .before .before .before .before .before .before .before .before .before .before .before .before .before .pre .height)
+cast-t30 c =
+    let l = in-frame (in-loop (after-read-block c) .before) in
+    omega (arith, l .frame-test .taken, at-start (after-read-header l) .pre .height)
 
 first-requires : tie.Need-first-requires Inv-loop μ-loop Inv-frame μ-frame
-first-requires c κs = placed (c .before .before .before .before .before .before .before .before)
+first-requires c κs = placed (in-loop (c .before .before .before .before))
 
 store-requires : tie.Need-store-requires Inv-loop μ-loop Inv-frame μ-frame
-store-requires c κs = (omega (arith, c .before .first .ensures, room (c .before .before .before .before .before .before .before .before .before .before), c .before .before .before .before .before .before .before .before .before .before .before .loop .inv .0), samples-length _ _ _ _ _ _ refl (c .before .before .before .before .before .before .read-block .ensures .1 .1))
+store-requires c κs =
+    let l = at-match-keys1 (c .before) in
+    (omega (arith, c .before .first .ensures, room (in-loop (l .before)), in-loop (l .before) .before .loop .inv .0), samples-length _ _ _ _ _ _ refl (l .before .read-block .ensures .1 .1))
 
 mark-block-requires : tie.Need-mark-block-requires Inv-loop μ-loop Inv-frame μ-frame
 mark-block-requires c κs =
-    let l = c .before .before .before .before .before .before .before .before .before .before .before .before .before .before .before .loop in
-    let y = c .before .before .before .before .before .before .before .before .before .before .read-block .ensures in
-    markable _ _ _ _ _ _ _ _ _ _ _ (sym (y .0) ∙ c .before .before .before .before .before .before .before .before .outcome .given .1) (l .inv .1 .1 .motion) (placed (c .before .before .before .before .before .before .before .before .before .before .before .before .before .before)) (room (c .before .before .before .before .before .before .before .before .before .before .before .before .before .before)) (l .inv .1 .0 ∙ c .before .before .before .before .before .before .before .before .before .before .before .before .before .before .before .before .before .before .before .before .frame .inv .1 .1 .0) (c .before .before .before .before .before .before .before .before .before .before .before .before .before .before .before .before .before .before .before .before .before .before .before .before .before .before .before .before .pre .map-lent)
+    let l₀ = in-loop (at-match-keys1 (after-first c) .before) in
+    let l = l₀ .before .loop in
+    let y = at-match-keys1 (after-first c) .before .read-block .ensures in
+    markable _ _ _ _ _ _ _ _ _ _ _ (sym (y .0) ∙ after-first c .before .before .before .outcome .given .1) (l .inv .1 .1 .motion) (placed l₀) (room l₀) (l .inv .1 .0 ∙ in-frame (l₀ .before) .before .frame .inv .1 .1 .0) (at-start (after-read-header (in-frame (l₀ .before))) .pre .map-lent)
 
 add-col : tie.Need-add-col Inv-loop μ-loop Inv-frame μ-frame
-add-col c = omega (arith, c .before .before .before .before .before .before .before .before .before .before .before .before .before .before .before .before .before .loop-test .taken, c .before .before .before .before .before .before .before .before .before .before .before .before .before .before .before .before .before .before .before .before .before .before .before .before .before .before .before .before .before .before .before .pre .width)
+add-col c =
+    let l = in-loop (at-match-keys1 (after-first (after-mark-block c .before)) .before) in
+    omega (arith, l .loop-test .taken, at-start (after-read-header (in-frame (l .before))) .pre .width)
 
 loop-less : tie.Need-loop-less Inv-loop μ-loop Inv-frame μ-frame
 loop-less c = search needs
 
 loop-again : tie.Need-loop-again Inv-loop μ-loop Inv-frame μ-frame
-loop-again c = let l = c .before .before .before .before .before .before .before .before .before .before .before .before .before .before .before .before .before .before .loop in
-    let y = c .before .before .before .before .before .before .before .before .before .before .before .before .before .read-block .ensures in (
-      c .before .before .before .before .before .before .store .kept .0 ∙ l .inv .0,
+loop-again c =
+    let d = after-first (after-mark-block c .before) in
+    let l₀ = in-loop (at-match-keys1 d .before) in
+    let l = l₀ .before .loop in
+    let y = at-match-keys1 d .before .read-block .ensures in (
+      after-mark-block c .before .before .before .before .store .kept .0 ∙ l .inv .0,
       (
         c .before .before .mark-block .kept .0 ∙ l .inv .1 .0,
-        row-goes _ _ _ _ _ _ _ _ _ _ _ _ _ _ (l .inv .1 .1) (c .before .before .before .before .before .before .before .before .before .before .before .before .before .before .before .before .before .loop-test .taken) _ (y .0) _ _ (c .before .before .before .before .before .before .before .before .before .before .before .outcome .given .1) _ (y .1 .0) _ _ _ _ _ (c .before .before .before .before .before .before .before .before .first .ensures) (y .1 .1) (c .before .before .before .before .before .before .store .ensures) (c .before .before .mark-block .ensures _),
+        row-goes _ _ _ _ _ _ _ _ _ _ _ _ _ _ (l .inv .1 .1) (l₀ .loop-test .taken) _ (y .0) _ _ (d .before .before .before .outcome .given .1) _ (y .1 .0) _ _ _ _ _ (d .first .ensures) (y .1 .1) (after-mark-block c .before .before .before .before .store .ensures) (c .before .before .mark-block .ensures _),
       ),
     )
 
@@ -127,16 +168,19 @@ done-requires : tie.Need-done-requires Inv-loop μ-loop Inv-frame μ-frame
 done-requires c κs = search needs
 
 add-row : tie.Need-add-row Inv-loop μ-loop Inv-frame μ-frame
-add-row c = omega (arith, c .before .before .before .before .before .before .before .before .frame-test .taken, c .before .before .before .before .before .before .before .before .before .before .before .before .before .before .before .before .before .pre .height)
+add-row c =
+    let l = in-frame (at-loop (c .before .before)) in
+    omega (arith, l .frame-test .taken, at-start (after-read-header l) .pre .height)
 
 frame-less : tie.Need-frame-less Inv-loop μ-loop Inv-frame μ-frame
 frame-less c = search needs
 
 frame-again : tie.Need-frame-again Inv-loop μ-loop Inv-frame μ-frame
 frame-again c =
+    let l = at-loop (c .before .before) in
     let i = c .before .before .before .before .loop .inv in
-    let j = c .before .before .before .before .before .before .before .before .before .frame .inv in
-    let t = c .before .before .before .before .before .before .before .before .frame-test .taken in
+    let j = in-frame l .before .frame .inv in
+    let t = in-frame l .frame-test .taken in
     let e = row-ends _ _ _ _ _ _ _ _ _ _ _ _ _ _ (i .1 .1) (c .before .before .before .loop-test .left) in (
       omega (arith, t),
       (
@@ -145,14 +189,14 @@ frame-again c =
           i .1 .0 ∙ j .1 .1 .0,
           (
             c .done .ensures ∙ ap done-with (sym (c .before .if1 .left)),
-            frame-goes _ _ _ _ _ _ _ _ _ _ _ _ (j .1 .1 .1 .1) t _ (whole-row _ _ _ _ _ _ _ _ (c .before .before .before .before .before .before .before .align .ensures) (c .before .before .before .before .before .before .fresh .ensures) (c .before .before .before .before .before .mode .ensures)) _ _ (e .1 .1) _ (e .0) (e .1 .0) (c .before .if1 .left),
+            frame-goes _ _ _ _ _ _ _ _ _ _ _ _ (j .1 .1 .1 .1) t _ (whole-row _ _ _ _ _ _ _ _ (l .before .before .before .align .ensures) (l .before .before .fresh .ensures) (c .before .before .before .before .before .mode .ensures)) _ _ (e .1 .1) _ (e .0) (e .1 .0) (c .before .if1 .left),
           ),
         ),
       ),
     )
 
 same-length : tie.Need-same-length Inv-loop μ-loop Inv-frame μ-frame
-same-length c = c .before .frame .inv .1 .0 ∙ sym (c .before .before .before .before .before .before .before .before .before .pre .samples-lent)
+same-length c = c .before .frame .inv .1 .0 ∙ sym (at-start (c .before .before .before .before .before) .pre .samples-lent)
 
 same-length-2 : tie.Need-same-length-2 Inv-loop μ-loop Inv-frame μ-frame
 same-length-2 c = c .before .frame .inv .1 .1 .0
@@ -164,31 +208,34 @@ returns c =
     frame-is _ _ _ _ _ _ _ _ (c .before .before .before .before .before .read-header .ensures) (e .0 ∙ sym (i .1 .1 .1 .0), e .1)
 
 same-length-3 : tie.Need-same-length-3 Inv-loop μ-loop Inv-frame μ-frame
-same-length-3 c = c .before .before .before .before .before .before .before .before .loop .inv .0 ∙ sym (c .before .before .before .before .before .before .before .before .before .before .before .before .before .before .before .before .before .before .before .before .before .pre .samples-lent)
+same-length-3 c = in-loop (after-read-block c) .before .loop .inv .0 ∙ sym (at-start (after-read-header (in-frame (in-loop (after-read-block c) .before))) .pre .samples-lent)
 
 same-length-4 : tie.Need-same-length-4 Inv-loop μ-loop Inv-frame μ-frame
-same-length-4 c = c .before .before .before .before .before .before .before .before .loop .inv .1 .0 ∙ c .before .before .before .before .before .before .before .before .before .before .before .before .before .frame .inv .1 .1 .0
+same-length-4 c = in-loop (after-read-block c) .before .loop .inv .1 .0 ∙ in-frame (in-loop (after-read-block c) .before) .before .frame .inv .1 .1 .0
 
 returns-2 : tie.Need-returns-2 Inv-loop μ-loop Inv-frame μ-frame
 returns-2 c =
-    let l = c .before .before .before .before .before .before .before .before .loop in
-    let y = c .before .before .before .read-block .ensures in
-    let no-next : (b : Bits) (st : V2Row) → c .before .before .before .read-block .result ≡ Next b st → ⊥ = (λ b st q. ⊎-elim (λ e. omega arith) (⊎-elim (λ e. omega arith) (λ e. omega arith)) (rw q at (c .before .before .match .keys2))) in
-    let x = row-stops _ _ _ _ _ _ _ _ _ _ _ _ _ _ (l .inv .1 .1) (c .before .before .before .before .before .before .before .loop-test .taken) _ (y .0) no-next in
-    frame-is _ _ _ _ _ _ _ _ (c .before .before .before .before .before .before .before .before .before .before .before .before .before .before .before .before .before .read-header .ensures)
-    (frame-refuses _ _ _ _ _ _ _ _ _ _ _ _ (c .before .before .before .before .before .before .before .before .before .before .before .before .before .frame .inv .1 .1 .1 .1) (c .before .before .before .before .before .before .before .before .before .before .before .before .frame-test .taken) _ (whole-row _ _ _ _ _ _ _ _ (c .before .before .before .before .before .before .before .before .before .before .before .align .ensures) (c .before .before .before .before .before .before .before .before .before .before .fresh .ensures) (c .before .before .before .before .before .before .before .before .before .mode .ensures)) _ _ (x .1 .1) _ _ (x .0 ∙ sym (c .number .ensures)) (rw (c .number .ensures) (refusal-number _ no-next)) (x .1 .0 ∙ sym (c .before .bits2 .ensures)))
+    let l₀ = in-loop (after-read-block c) in
+    let l₁ = in-frame (l₀ .before) in
+    let l = l₀ .before .loop in
+    let y = after-read-block c .read-block .ensures in
+    let no-next : (b : Bits) (st : V2Row) → after-read-block c .read-block .result ≡ Next b st → ⊥ = (λ b st q. ⊎-elim (λ e. omega arith) (⊎-elim (λ e. omega arith) (λ e. omega arith)) (rw q at (c .before .before .match .keys2))) in
+    let x = row-stops _ _ _ _ _ _ _ _ _ _ _ _ _ _ (l .inv .1 .1) (l₀ .loop-test .taken) _ (y .0) no-next in
+    frame-is _ _ _ _ _ _ _ _ (after-read-header l₁ .read-header .ensures)
+    (frame-refuses _ _ _ _ _ _ _ _ _ _ _ _ (l₁ .before .frame .inv .1 .1 .1 .1) (l₁ .frame-test .taken) _ (whole-row _ _ _ _ _ _ _ _ (l₀ .before .before .before .before .align .ensures) (l₀ .before .before .before .fresh .ensures) (l₀ .before .before .mode .ensures)) _ _ (x .1 .1) _ _ (x .0 ∙ sym (c .number .ensures)) (rw (c .number .ensures) (refusal-number _ no-next)) (x .1 .0 ∙ sym (c .before .bits2 .ensures)))
 
 same-length-5 : tie.Need-same-length-5 Inv-loop μ-loop Inv-frame μ-frame
-same-length-5 c = c .before .before .before .loop .inv .0 ∙ sym (c .before .before .before .before .before .before .before .before .before .before .before .before .before .before .before .before .pre .samples-lent)
+same-length-5 c = c .before .before .before .loop .inv .0 ∙ sym (at-start (after-read-header (in-frame (at-loop (c .before)))) .pre .samples-lent)
 
 same-length-6 : tie.Need-same-length-6 Inv-loop μ-loop Inv-frame μ-frame
-same-length-6 c = c .before .before .before .loop .inv .1 .0 ∙ c .before .before .before .before .before .before .before .before .frame .inv .1 .1 .0
+same-length-6 c = c .before .before .before .loop .inv .1 .0 ∙ in-frame (at-loop (c .before)) .before .frame .inv .1 .1 .0
 
 returns-3 : tie.Need-returns-3 Inv-loop μ-loop Inv-frame μ-frame
 returns-3 c =
+    let l = in-frame (at-loop (c .before)) in
     let e = row-ends _ _ _ _ _ _ _ _ _ _ _ _ _ _ (c .before .before .before .loop .inv .1 .1) (c .before .before .loop-test .left) in
-    frame-is _ _ _ _ _ _ _ _ (c .before .before .before .before .before .before .before .before .before .before .before .before .read-header .ensures)
-    (frame-short _ _ _ _ _ _ _ _ _ _ _ _ (c .before .before .before .before .before .before .before .before .frame .inv .1 .1 .1 .1) (c .before .before .before .before .before .before .before .frame-test .taken) _ (whole-row _ _ _ _ _ _ _ _ (c .before .before .before .before .before .before .align .ensures) (c .before .before .before .before .before .fresh .ensures) (c .before .before .before .before .mode .ensures)) _ _ (e .1 .1) _ (e .0) (e .1 .0) (c .if1 .taken))
+    frame-is _ _ _ _ _ _ _ _ (after-read-header l .read-header .ensures)
+    (frame-short _ _ _ _ _ _ _ _ _ _ _ _ (l .before .frame .inv .1 .1 .1 .1) (l .frame-test .taken) _ (whole-row _ _ _ _ _ _ _ _ (at-loop (c .before) .before .before .before .align .ensures) (c .before .before .before .before .before .fresh .ensures) (c .before .before .before .before .mode .ensures)) _ _ (e .1 .1) _ (e .0) (e .1 .0) (c .if1 .taken))
 
 pub decode-frame-spec : {M : Type 1} → statement M
 decode-frame-spec =

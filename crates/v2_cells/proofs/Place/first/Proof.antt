@@ -1,3 +1,4 @@
+-- Row times width fits, since both are at most 16,384.
 use native.Mathlib.Omega.{arith}
 use borrow.Author.Needs.{needs}
 use Rattle.v2_cells.proofs.BaseLaws.{rows-room}

@@ -1,3 +1,4 @@
+-- At column 0 the rule gives the header's initial sample, else one of the two samples before the block.
 use native.Mathlib.Omega.{arith}
 use borrow.Author.Needs.{needs}
 use borrow.Author.Tests.{eq-eqb, ne-eqb}

@@ -1,3 +1,4 @@
+-- After i turns the first i values are the rule's, since each place on the two runs is inside.
 use mathlib.Core.Path.{_≡_, refl}
 use Prim.Native.Nat.{_-_, _≤_}
 use native.Mathlib.Omega.{arith}

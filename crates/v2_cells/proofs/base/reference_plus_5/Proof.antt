@@ -23,23 +23,27 @@ add-if1 c = search needs
 sub-result : tie.Need-sub-result
 sub-result c = search needs
 
+-- Places that the answers look back at.
+abbrev at-start : tie.After-struct-known2 → tie.Start
+at-start c = c .before .before .before
+
 mul-result : tie.Need-mul-result
-mul-result c = let a = c .before .before .before .before .before .before in omega (arith, rows-room (a .args .at .row) (a .args .at .width) (a .pre .0 .high) (a .pre .0 .wide))
+mul-result c = let a = at-start (c .before .before .before) in omega (arith, rows-room (a .args .at .row) (a .args .at .width) (a .pre .0 .high) (a .pre .0 .wide))
 
 add-result : tie.Need-add-result
-add-result c = let a = c .before .before .before .before .before .before in omega (arith, rows-room (a .args .at .row) (a .args .at .width) (a .pre .0 .high) (a .pre .0 .wide), c .before .before .before .before .offset-plus-4 .ensures, offset-most (a .args .motion))
+add-result c = let a = at-start (c .before .before .before) in omega (arith, rows-room (a .args .at .row) (a .args .at .width) (a .pre .0 .high) (a .pre .0 .wide), c .before .before .before .before .offset-plus-4 .ensures, offset-most (a .args .motion))
 
 add-result-2 : tie.Need-add-result-2
-add-result-2 c = let a = c .before .before .before .before .before .before in omega (arith, rows-room (a .args .at .row) (a .args .at .width) (a .pre .0 .high) (a .pre .0 .wide), c .before .before .before .before .offset-plus-4 .ensures, offset-most (a .args .motion))
+add-result-2 c = let a = at-start (c .before .before .before) in omega (arith, rows-room (a .args .at .row) (a .args .at .width) (a .pre .0 .high) (a .pre .0 .wide), c .before .before .before .before .offset-plus-4 .ensures, offset-most (a .args .motion))
 
 sub-result-2 : tie.Need-sub-result-2
 sub-result-2 c = search needs
 
 mul-result-2 : tie.Need-mul-result-2
-mul-result-2 c = let a = c .before .before .before .before .before .before in omega (arith, rows-room (a .args .at .row) (a .args .at .width) (a .pre .0 .high) (a .pre .0 .wide))
+mul-result-2 c = let a = at-start (c .before .before .before) in omega (arith, rows-room (a .args .at .row) (a .args .at .width) (a .pre .0 .high) (a .pre .0 .wide))
 
 add-result-3 : tie.Need-add-result-3
-add-result-3 c = let a = c .before .before .before .before .before .before in omega (arith, rows-room (a .args .at .row) (a .args .at .width) (a .pre .0 .high) (a .pre .0 .wide), c .before .before .before .before .offset-plus-4 .ensures, offset-most (a .args .motion))
+add-result-3 c = let a = at-start (c .before .before .before) in omega (arith, rows-room (a .args .at .row) (a .args .at .width) (a .pre .0 .high) (a .pre .0 .wide), c .before .before .before .before .offset-plus-4 .ensures, offset-most (a .args .motion))
 
 mul-result-3 : tie.Need-mul-result-3
 mul-result-3 c = search needs
@@ -48,7 +52,7 @@ sub-result-3 : tie.Need-sub-result-3
 sub-result-3 c = search needs
 
 add-result-4 : tie.Need-add-result-4
-add-result-4 c = let a = c .before .before .before .before .before .before in omega (arith, rows-room (a .args .at .row) (a .args .at .width) (a .pre .0 .high) (a .pre .0 .wide), c .before .before .before .before .offset-plus-4 .ensures, offset-most (a .args .motion))
+add-result-4 c = let a = at-start (c .before .before .before) in omega (arith, rows-room (a .args .at .row) (a .args .at .width) (a .pre .0 .high) (a .pre .0 .wide), c .before .before .before .before .offset-plus-4 .ensures, offset-most (a .args .motion))
 
 returns : tie.Need-returns
 unfolding reference-5

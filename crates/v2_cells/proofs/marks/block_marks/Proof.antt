@@ -35,14 +35,18 @@ sub-odd c = rw (c .reference-plus-52 .ensures) (free (c .before .before) .1 1 (o
 averages-requires : tie.Need-averages-requires
 averages-requires c κs = search needs
 
+-- Places that the answers look back at.
+abbrev else1 : tie.After-refer-marks-arg → tie.Else1
+else1 c = c .before .before .before .before
+
 refer-marks-requires : tie.Need-refer-marks-requires
-refer-marks-requires c κs = (runs _ _ _ _ _ (free (c .before .before .before .before) .1) _ _ (ap (λ (x : ℕ). x - 5) (c .before .before .before .reference-plus-5 .ensures)) (ap (λ (x : ℕ). x - 5) (c .before .before .reference-plus-52 .ensures)) _ (c .before .averages .ensures), c .before .before .before .before .before .before .pre .1 .1 .0)
+refer-marks-requires c κs = (runs _ _ _ _ _ (free (else1 c) .1) _ _ (ap (λ (x : ℕ). x - 5) (c .before .before .before .reference-plus-5 .ensures)) (ap (λ (x : ℕ). x - 5) (c .before .before .reference-plus-52 .ensures)) _ (c .before .averages .ensures), else1 c .before .before .pre .1 .1 .0)
 
 returns : tie.Need-returns
 returns c = λ h. bases-7 v2-marks _ _ _ _ _ _ _ (c .before .before .if1 .taken) (c .repeat-marks .ensures h)
 
 returns-2 : tie.Need-returns-2
-returns-2 c = λ h. bases-referred v2-marks _ _ _ _ _ _ _ (ne-eqb _ _ (c .before .before .before .before .before .if1 .left)) _ (free (c .before .before .before .before .before) .1) _ _ (ap (λ (x : ℕ). x - 5) (c .before .before .before .before .reference-plus-5 .ensures)) (ap (λ (x : ℕ). x - 5) (c .before .before .before .reference-plus-52 .ensures)) _ (c .before .before .averages .ensures) (c .refer-marks .ensures)
+returns-2 c = λ h. bases-referred v2-marks _ _ _ _ _ _ _ (ne-eqb _ _ (else1 (c .before) .if1 .left)) _ (free (else1 (c .before)) .1) _ _ (ap (λ (x : ℕ). x - 5) (c .before .before .before .before .reference-plus-5 .ensures)) (ap (λ (x : ℕ). x - 5) (c .before .before .before .reference-plus-52 .ensures)) _ (c .before .before .averages .ensures) (c .refer-marks .ensures)
 
 pub block-marks-spec : {M : Type 1} → statement M
 block-marks-spec =

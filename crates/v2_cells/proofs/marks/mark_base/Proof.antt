@@ -1,3 +1,4 @@
+-- No map is lent, or its sixteen marks of the block are made and then stored at the block's place.
 use mathlib.Core.Path.{refl}
 use native.Mathlib.Omega.{arith}
 use denote.Ref.{now}
@@ -17,16 +18,20 @@ block-marks-requires c κs = let a = c .before .before .before .before in let fi
 first-requires : tie.Need-first-requires
 first-requires c κs = search needs
 
+-- Places that the answers look back at.
+abbrev after-block-marks : tie.After-marks2 → tie.After-block-marks
+after-block-marks c = c .before .before .before
+
 store-marks-requires : tie.Need-store-marks-requires
 store-marks-requires c κs =
-    let a = c .before .before .before .before .before .before .before .before in
-    (omega (arith, c .before .first .ensures, a .pre .inside (c .before .before .before .before .before .before .if1 .left) .room), fill-length _ _ (c .before .before .before .block-marks .ensures (record { depth = 0; options = 0; initial = 0 })))
+    let a = after-block-marks c .before .before .before .before .before in
+    (omega (arith, c .before .first .ensures, a .pre .inside (after-block-marks c .before .before .before .if1 .left) .room), fill-length _ _ (after-block-marks c .block-marks .ensures (record { depth = 0; options = 0; initial = 0 })))
 
 same-length : tie.Need-same-length
 same-length c = search needs
 
 returns-2 : tie.Need-returns-2
-returns-2 c = λ h. sets-same _ _ _ _ _ _ (c .before .before .store-marks .ensures) (c .before .before .before .before .first .ensures) (c .before .before .before .before .before .before .block-marks .ensures h)
+returns-2 c = λ h. sets-same _ _ _ _ _ _ (c .before .before .store-marks .ensures) (c .before .before .before .before .first .ensures) (after-block-marks (c .before .before .before) .block-marks .ensures h)
 
 pub mark-base-spec : {M : Type 1} → statement M
 mark-base-spec =

@@ -20,9 +20,13 @@ returns c =
 first-requires : tie.Need-first-requires
 first-requires c κs = search needs
 
+-- Places that the answers look back at.
+abbrev after-mark-base : tie.After-fill-block-arg → tie.After-mark-base
+after-mark-base c = c .before .before .before .before .before
+
 fill-block-requires : tie.Need-fill-block-requires
 fill-block-requires c κs =
-    let a = c .before .before .before .before .before .before .before .before .before in
+    let a = after-mark-base (c .before) .before .before .before in
     omega (arith, c .first .ensures, a .pre .placed .column, a .pre .placed .wide, rows-room (a .args .at .row) (a .args .at .width) (a .pre .placed .high) (a .pre .placed .wide))
 
 same-length-2 : tie.Need-same-length-2
@@ -30,7 +34,7 @@ same-length-2 c = search needs
 
 returns-2 : tie.Need-returns-2
 returns-2 c =
-    let based = c .before .before .before .before .before .before .before .before .before in
+    let based = after-mark-base (c .before .before .before .before) in
     λ h. ended-filled (based .before .before .before .args .end) _ _ _ (based .mark-base .ensures h) (c .before .before .before .before .before .if1 .left) _ _ (c .before .before .before .first .ensures) (c .before .before .fill-block .ensures)
 
 pub mark-block-spec : {M : Type 1} → statement M

@@ -1,3 +1,4 @@
+-- The value fits i32, since difference and scale are small, and what holds it below top fits u16.
 use mathlib.Core.Path.{ap, _∙_}
 use native.Mathlib.Omega.{arith}
 use lib.IntN.{ℤ}

@@ -1,0 +1,2 @@
+-- What the methods' proofs share.
+pub mod Lent
