@@ -7,6 +7,7 @@ ghost use Rattle.rules.specs.V0 as V0;
 ghost use Rattle.rules.specs.Reader.{has-filler};
 ghost use Rattle.rules.specs.Frame.{cells, ended};
 ghost use Rattle.rules.specs.Map.{with-filler, v0-marks};
+ghost use Rattle.v0_stream.specs.Block.{whole-block};
 ghost use Rattle.v0_stream.specs.Lengths.{Within, furthest};
 ghost use Rattle.v0_cells.specs.Places.{Whole, InFrame, Inner};
 ghost use Rattle.v0_direct.specs.Lent.{InRow};
@@ -18,8 +19,17 @@ use rules::Size;
 use rules::V0Row;
 use v0_cells::inner::mark_block;
 use v0_cells::inner::put_inner;
-use v0_stream::block::read_block;
+use v0_stream::block::ReadBlock;
 use v0_stream::block::read_block_head;
+use v0_stream::block::residual_length;
+use v0_stream::by_window::BLOCK_BYTES;
+use v0_stream::by_window::four_at;
+use v0_stream::by_window::four_long_at;
+use v0_stream::by_window::join;
+use v0_stream::by_window::read_by_record;
+use v0_stream::by_window::window_head;
+use window::stands;
+use window::state_at;
 
 // Whether a block is an inner one.
 pub fn is_inner(size: Size, row: usize, col: usize) -> bool
@@ -33,6 +43,58 @@ pub fn is_inner(size: Size, row: usize, col: usize) -> bool
         return false;
     }
     col + V0Row::BLOCK <= size.width
+}
+
+// A block as `read_block` gives it whole, by windows where the record stands in the stream. Each decoder has its own: the compiler
+// keeps a block in registers only in a function that is called once.
+fn next_block(src: &[u8], row: V0Row) -> ReadBlock
+    requires { ⌜ Within furthest (row .lengths) ⌝ }
+    ensures { λ r. ⌜ r ≡ whole-block (now (src .entry)) row ⌝ }
+{
+    let bits = row.bits;
+    let lengths = row.lengths;
+    if stands(src, bits, BLOCK_BYTES) {
+        let base = bits.pos as usize - 4;
+        let head = window_head(src, base, 32 - bits.count as usize, lengths);
+        let after = head.lengths;
+        let n0 = residual_length(after[0]);
+        let n1 = residual_length(after[1]);
+        let n2 = residual_length(after[2]);
+        let n3 = residual_length(after[3]);
+        let q0 = head.q;
+        let q1 = q0 + 4 * n0 as usize;
+        let q2 = q1 + 4 * n1 as usize;
+        let q3 = q2 + 4 * n2 as usize;
+        let a = if n0 <= 16 {
+            four_at(src, base, q0, n0)
+        } else {
+            four_long_at(src, base, q0, n0)
+        };
+        let b = if n1 <= 16 {
+            four_at(src, base, q1, n1)
+        } else {
+            four_long_at(src, base, q1, n1)
+        };
+        let c = if n2 <= 16 {
+            four_at(src, base, q2, n2)
+        } else {
+            four_long_at(src, base, q2, n2)
+        };
+        let d = if n3 <= 16 {
+            four_at(src, base, q3, n3)
+        } else {
+            four_long_at(src, base, q3, n3)
+        };
+        return ReadBlock {
+            up: head.up,
+            row: V0Row {
+                lengths: after,
+                bits: state_at(src, base, q3 + 4 * n3 as usize, bits.filler),
+            },
+            residuals: join(a, b, c, d),
+        };
+    }
+    read_by_record(src, lengths, bits)
 }
 
 // An inner block: from row 2 on, after column 0 and inside its row nothing is skipped, so that all residuals are read in one go.
@@ -50,7 +112,7 @@ fn decode_inner(
     ensures { λ _. ⌜ now (out .exit) ≡ V0.apply V0.sample-kind (block-ops (now (src .entry)) size row col state .ops) (now (out .entry)) ⌝ }
     ensures { λ _. ⌜ now (map .exit) ≡ V0.apply v0-marks (block-ops (now (src .entry)) size row col state .ops) (now (map .entry)) ⌝ }
 {
-    let x = read_block(src, state, true);
+    let x = next_block(src, state);
     let residuals = x.residuals;
     let w = size.width;
     put_inner(out, w, row * w + col, x.up, residuals);

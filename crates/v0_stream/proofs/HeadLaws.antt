@@ -6,7 +6,7 @@ use Prim.Native.Nat.{ℕ, zero, suc, _+_, _-_, _/_, _%_, _^_, _≤_, _<_}
 use native.Mathlib.Nat.{div-one}
 use native.Mathlib.Omega.{arith}
 use lib.Dec.{eqb, ltb}
-use lib.IntN.{ℤ, pos, negsuc, _+ℤ_, _-ℤ_, +ℤ-idr}
+use lib.IntN.{ℤ, pos, negsuc, _+ℤ_, _-ℤ_, +ℤ-idr, +ℤ-negℤ-cancel}
 use lib.ListN.{length, getD, drop, replicate}
 use lib.Signed.{mag}
 use mir.Syntax.{w32}
@@ -28,29 +28,30 @@ use Rattle.v0_stream.specs.Lengths.{stepped, Below, Within, furthest}
 
 -- ── One length ──
 
-cond-mag : (t : Bool) (x y : ℤ) {k : ℕ} → mag x ≤ k → mag y ≤ k → mag (cond t x y) ≤ k
+pub cond-mag : (t : Bool) (x y : ℤ) {k : ℕ} → mag x ≤ k → mag y ≤ k → mag (cond t x y) ≤ k
 cond-mag true x y p q = p
 cond-mag false x y p q = q
 
 -- Adding or taking off d moves the magnitude by at most d.
-add-mag : (l : ℤ) (d : ℕ) {n : ℕ} → mag l ≤ n → mag (l +ℤ pos d) ≤ n + d
+pub add-mag : (l : ℤ) (d : ℕ) {n : ℕ} → mag l ≤ n → mag (l +ℤ pos d) ≤ n + d
 add-mag (pos a) d h = omega arith
 add-mag (negsuc a) d h = cond-mag (ltb d (suc a)) (negsuc (suc a - suc d)) (pos (d - suc a)) (omega arith) (omega arith)
 
-sub-mag : (l : ℤ) (d : ℕ) {n : ℕ} → mag l ≤ n → mag (l -ℤ pos d) ≤ n + d
+pub sub-mag : (l : ℤ) (d : ℕ) {n : ℕ} → mag l ≤ n → mag (l -ℤ pos d) ≤ n + d
 sub-mag l zero h = add-mag l 0 h
 sub-mag (pos a) (suc d) h = cond-mag (ltb a (suc d)) (negsuc (suc d - suc a)) (pos (a - suc d)) (omega arith) (omega arith)
 sub-mag (negsuc a) (suc d) h = omega arith
 
 -- The sum of the code is the rule's length.
-sum-is : (op : ℕ) (l : ℤ) → op < 3 → l +ℤ pos (op % 2) -ℤ pos (op / 2) ≡ stepped op l
+sum-is : (op : ℕ) (l : ℤ) → op < 4 → l +ℤ pos (op % 2) -ℤ pos (op / 2) ≡ stepped op l
 unfolding stepped
 sum-is zero l h = rw (+ℤ-idr (l +ℤ pos 0), +ℤ-idr l)
 sum-is (suc zero) l h = +ℤ-idr (l +ℤ pos 1)
 sum-is (suc (suc zero)) l h = rw (+ℤ-idr l)
-sum-is (suc (suc (suc op))) l h = absurd (omega arith)
+sum-is (suc (suc (suc zero))) l h = +ℤ-negℤ-cancel l (pos 1)
+sum-is (suc (suc (suc (suc op)))) l h = absurd (omega arith)
 
-module _ (op : ℕ) (l : ℤ) (few : op < 3) (near : mag l ≤ furthest) (fits : SFits w32 l) where
+module _ (op : ℕ) (l : ℤ) (few : op < 4) (near : mag l ≤ furthest) (fits : SFits w32 l) where
   sum-eq : toZ w32 (ofZ w32 l) +ℤ toZ w32 (op % 2) ≡ l +ℤ pos (op % 2)
   sum-eq = ap₂ _+ℤ_ (toZ-ofZ w32 l fits) (toZ-pos w32 {n = op % 2} (omega arith))
 
@@ -87,24 +88,23 @@ pub length-stepped : (s : List ℕ) (op : ℕ) (l : ℤ) (b : Bits) (v : ℤ) �
 unfolding operated stepped
 length-stepped s op l b v ne ev = rw (ne-eqb op 3 ne, ev)
 
+-- A step moves a length by 1 at most.
+pub stepped-near : (op : ℕ) (l : ℤ) {n : ℕ} → mag l ≤ n → mag (stepped op l) ≤ suc n
+unfolding stepped
+stepped-near op l near =
+    cond-mag (eqb op 2) (l +ℤ negsuc 0) (cond (eqb op 1) (l +ℤ pos 1) l) (omega (arith, sub-mag l 1 near))
+    (cond-mag (eqb op 1) (l +ℤ pos 1) l (omega (arith, add-mag l 1 near)) (omega arith))
+
 length-within : (s : List ℕ) (op : ℕ) (l : ℤ) (b : Bits) {n : ℕ} → 15 ≤ n → mag l ≤ n → mag (operated s op l b .length) ≤ suc n
-unfolding operated
+unfolding operated stepped
 length-within s op l b {n} h near = go (eqb op 3)
   where
     g : Got
     g = read s b 4
 
-    kept : ℤ
-    kept = cond (eqb op 2) (l +ℤ negsuc 0) (cond (eqb op 1) (l +ℤ pos 1) l)
-
-    near-kept : mag kept ≤ suc n
-    near-kept =
-        cond-mag (eqb op 2) (l +ℤ negsuc 0) (cond (eqb op 1) (l +ℤ pos 1) l) (omega (arith, sub-mag l 1 near))
-        (cond-mag (eqb op 1) (l +ℤ pos 1) l (omega (arith, add-mag l 1 near)) (omega arith))
-
-    go : (t : Bool) → mag (cond {A = V0Length} t (record { length = pos (g .value); bits = g .bits }) (record { length = kept; bits = b }) .length) ≤ suc n
+    go : (t : Bool) → mag (cond {A = V0Length} t (record { length = pos (g .value); bits = g .bits }) (record { length = stepped op l; bits = b }) .length) ≤ suc n
     go true = omega (arith, read-below s b 4)
-    go false = near-kept
+    go false = stepped-near op l near
 
 -- ── Four of them ──
 

@@ -20,7 +20,7 @@ pub struct ReadBlock {
 }
 
 // The bits of a residual of some length.
-fn residual_length(length: i32) -> u32
+pub fn residual_length(length: i32) -> u32
     ensures { λ r. ⌜ r ≡ length-bits length ⌝ }
 {
     if length <= 0 {

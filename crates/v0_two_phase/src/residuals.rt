@@ -8,11 +8,22 @@ ghost use lib.ListN.{length, set, drop};
 ghost use Rattle.rules.specs.V0.{order, blocks-in};
 ghost use Rattle.rules.specs.Answer.{scratch-bytes};
 ghost use Rattle.rules.specs.Phases.{store-samples, store-blocks, row-records, direction, phase-one, scratch};
+ghost use Rattle.v0_stream.specs.Block.{whole-block};
+ghost use Rattle.v0_stream.specs.Lengths.{Within, furthest};
 ghost use Rattle.v0_two_phase.specs.Lent.{RowLent, PhaseLent};
 use rules::Size;
 use rules::V0Row;
-use v0_stream::block::read_block;
+use v0_stream::block::ReadBlock;
+use v0_stream::block::residual_length;
+use v0_stream::by_window::BLOCK_BYTES;
+use v0_stream::by_window::four_at;
+use v0_stream::by_window::four_long_at;
+use v0_stream::by_window::join;
+use v0_stream::by_window::read_by_record;
+use v0_stream::by_window::window_head;
 use v0_stream::order::stream_column;
+use window::stands;
+use window::state_at;
 
 // A block's direction as a byte.
 fn direction_byte(up: bool) -> u8
@@ -69,6 +80,58 @@ fn store_residuals(out: &mut [u16], width: usize, col: usize, residuals: [u16; 1
     store_edge(out, width, col, residuals);
 }
 
+// A block as `read_block` gives it whole, by windows where the record stands in the stream. Each decoder has its own: the compiler
+// keeps a block in registers only in a function that is called once.
+fn next_block(src: &[u8], row: V0Row) -> ReadBlock
+    requires { ⌜ Within furthest (row .lengths) ⌝ }
+    ensures { λ r. ⌜ r ≡ whole-block (now (src .entry)) row ⌝ }
+{
+    let bits = row.bits;
+    let lengths = row.lengths;
+    if stands(src, bits, BLOCK_BYTES) {
+        let base = bits.pos as usize - 4;
+        let head = window_head(src, base, 32 - bits.count as usize, lengths);
+        let after = head.lengths;
+        let n0 = residual_length(after[0]);
+        let n1 = residual_length(after[1]);
+        let n2 = residual_length(after[2]);
+        let n3 = residual_length(after[3]);
+        let q0 = head.q;
+        let q1 = q0 + 4 * n0 as usize;
+        let q2 = q1 + 4 * n1 as usize;
+        let q3 = q2 + 4 * n2 as usize;
+        let a = if n0 <= 16 {
+            four_at(src, base, q0, n0)
+        } else {
+            four_long_at(src, base, q0, n0)
+        };
+        let b = if n1 <= 16 {
+            four_at(src, base, q1, n1)
+        } else {
+            four_long_at(src, base, q1, n1)
+        };
+        let c = if n2 <= 16 {
+            four_at(src, base, q2, n2)
+        } else {
+            four_long_at(src, base, q2, n2)
+        };
+        let d = if n3 <= 16 {
+            four_at(src, base, q3, n3)
+        } else {
+            four_long_at(src, base, q3, n3)
+        };
+        return ReadBlock {
+            up: head.up,
+            row: V0Row {
+                lengths: after,
+                bits: state_at(src, base, q3 + 4 * n3 as usize, bits.filler),
+            },
+            residuals: join(a, b, c, d),
+        };
+    }
+    read_by_record(src, lengths, bits)
+}
+
 // A row from row 2 on, whose first sample is the first of `out`, and its first block's direction the first of `dirs`.
 pub fn parse_v0_residuals(src: &[u8], offset: u32, width: usize, out: &mut [u16], dirs: &mut [u8])
     requires { ⌜ RowLent width (now out) (now dirs) ⌝ }
@@ -79,7 +142,7 @@ pub fn parse_v0_residuals(src: &[u8], offset: u32, width: usize, out: &mut [u16]
     let mut row = V0Row::fresh(2, offset);
     let mut k: usize = 0;
     while k < blocks {
-        let block = read_block(src, row, true);
+        let block = next_block(src, row);
         dirs[k] = direction_byte(block.up);
         let residuals = block.residuals;
         store_residuals(out, width, k * V0Row::BLOCK, residuals);

@@ -7,8 +7,8 @@ use Rattle.v0_direct.proofs.InnerLaws.{inner-state, inner-samples, inne
 use Rattle.v0_direct.proofs.row.decode_inner.Statement.{statement}
 use Rattle.v0_direct.proofs.row.decode_inner.Tie as tie
 
-read-block-requires : tie.Need-read-block-requires
-read-block-requires c κs = search needs
+next-block-requires : tie.Need-next-block-requires
+next-block-requires c κs = search needs
 
 mul-put-inner : tie.Need-mul-put-inner
 mul-put-inner c = let a = c .before .before .before .before .before .before in record { fits = omega (arith, inner-fits (a .args .size) (a .args .row) (a .args .col) (a .pre .0)) }
@@ -29,7 +29,7 @@ same-length-2 : tie.Need-same-length-2
 same-length-2 c = search needs
 
 returns : tie.Need-returns
-returns c = let a = c .before .before .before .before .before .before .before .before .before .before .before .before .before .before in let x = c .before .before .before .before .before .before .before .before .before .before .read-block in (
+returns c = let a = c .before .before .before .before .before .before .before .before .before .before .before .before .before .before in let x = c .before .before .before .before .before .before .before .before .before .before .next-block in (
   inner-state (now (a .args .src)) (a .args .size) (a .args .row) (a .args .col) (a .args .state) (a .pre .0) (x .result) (x .ensures),
   (
     inner-samples (now (a .args .src)) (a .args .size) (a .args .row) (a .args .col) (a .args .state) (a .pre .0) (x .result) (x .ensures) _ _ (c .before .before .before .before .before .before .before .put-inner .ensures),
@@ -41,7 +41,7 @@ pub decode-inner-spec : {M : Type 1} → statement M
 decode-inner-spec =
     tie.close
     (tie.spec
-    read-block-requires
+    next-block-requires
     mul-put-inner
     add-put-inner
     put-inner-requires

@@ -22,8 +22,8 @@ fresh-requires c κs = search needs
 loop-holds : tie.Need-loop-holds Inv-loop μ-loop
 loop-holds c = parsing-begun _ _ _ _ _ _ _ (c .fresh .ensures)
 
-read-block-requires : tie.Need-read-block-requires Inv-loop μ-loop
-read-block-requires c κs = near-enough _ (c .before .loop .k) (omega arith) (c .before .loop .inv .near)
+next-block-requires : tie.Need-next-block-requires Inv-loop μ-loop
+next-block-requires c κs = near-enough _ (c .before .loop .k) (omega arith) (c .before .loop .inv .near)
 
 direction-byte-requires : tie.Need-direction-byte-requires Inv-loop μ-loop
 direction-byte-requires c κs = search needs
@@ -44,7 +44,7 @@ loop-less : tie.Need-loop-less Inv-loop μ-loop
 loop-less c = search needs
 
 loop-again : tie.Need-loop-again Inv-loop μ-loop
-loop-again c = parsing-on _ _ _ _ _ _ _ _ _ _ _ _ _ (search needs) (omega (arith, c .before .before .before .before .before .before .before .before .before .loop .inv .same-dirs, c .before .before .before .before .before .before .before .before .before .before .before .before .before .before .pre .directions-lent)) (c .before .before .before .before .before .before .before .read-block .ensures) (c .before .before .before .before .before .before .direction-byte .ensures) (c .before .before .before .store-residuals .kept .0) (c .before .before .before .store-residuals .ensures) (c .before .before .before .before .before .before .before .before .before .loop .inv)
+loop-again c = parsing-on _ _ _ _ _ _ _ _ _ _ _ _ _ (search needs) (omega (arith, c .before .before .before .before .before .before .before .before .before .loop .inv .same-dirs, c .before .before .before .before .before .before .before .before .before .before .before .before .before .before .pre .directions-lent)) (c .before .before .before .before .before .before .before .next-block .ensures) (c .before .before .before .before .before .before .direction-byte .ensures) (c .before .before .before .store-residuals .kept .0) (c .before .before .before .store-residuals .ensures) (c .before .before .before .before .before .before .before .before .before .loop .inv)
 
 same-length : tie.Need-same-length Inv-loop μ-loop
 same-length c = search needs
@@ -64,7 +64,7 @@ parse-v0-residuals-spec =
     add-blocks
     fresh-requires
     loop-holds
-    read-block-requires
+    next-block-requires
     direction-byte-requires
     slice-write-dirs
     mul-store-residuals

@@ -1,0 +1,193 @@
+// A block by position, where the reader's record stands in the stream: its head out of one window, and four residuals of one length
+// out of one or two. Nothing here is read twice, and no branch asks whether a word is to be fetched.
+ghost use mathlib.Core.Bool.{cond};
+ghost use mathlib.Core.List.{_++_};
+ghost use mathlib.Core.Path.{_≡_};
+ghost use Prim.Native.Nat.{_+_, _*_, _/_, _%_, _^_, _≤_, _<_};
+ghost use lib.Dec.{eqb};
+ghost use lib.ListN.{length};
+ghost use lib.Signed.{mag};
+ghost use Rattle.v0_stream.specs.Block.{whole-block};
+ghost use Rattle.v0_stream.specs.ByWindow.{residual, Room, length-in, HeadAt, Group, joined};
+ghost use Rattle.v0_stream.specs.Lengths.{Within, furthest};
+use super::block::ReadBlock;
+use super::block::read_block;
+use super::block::residual_length;
+use super::head::step;
+use fields::field;
+use fields::power;
+use rules::Bits;
+use rules::V0Row;
+use window::window;
+
+// The bytes that have to be there from the word fetched last on: a block ends at most 569 bits after that word's start.
+pub const BLOCK_BYTES: usize = 76;
+
+// A length after its operation, and how many bits of a window are left after what the operation read.
+struct WindowLength {
+    length: i32,
+    left: u32,
+}
+
+// A block's head, the bits of each residual, and where the four groups of residuals and what follows them start.
+pub struct WindowHead {
+    pub up: bool,
+    pub lengths: [i32; 4],
+    pub q: usize,
+}
+
+// b if t is 1, a if it is 0: a product, since a test would often be guessed wrong.
+fn chosen(t: u32, a: i32, b: i32) -> i32
+    requires { ⌜ (t < 2) × ((mag a ≤ 1_100) × (mag b ≤ 1_100)) ⌝ }
+    ensures { λ r. ⌜ r ≡ cond (eqb t 1) b a ⌝ }
+{
+    a + t as i32 * (b - a)
+}
+
+// A length whose operation has its lowest bit above `at` others of a window v. If it is 3 the length is read, of which the lowest
+// bit is above `left` others less 4.
+fn window_length(v: u64, at: u32, left: u32, length: i32) -> WindowLength
+    requires { ⌜ (at < 64) × ((4 ≤ left) × ((left < 64) × (mag length ≤ furthest))) ⌝ }
+    ensures { λ r. ⌜ r ≡ length-in v at left length ⌝ }
+{
+    let op = field(v, at, 2);
+    let reads = (op + 1) / 4;
+    WindowLength {
+        length: chosen(reads, step(op, length), field(v, left - 4, 4) as i32),
+        left: left - 4 * reads,
+    }
+}
+
+// A block's head from bit q on.
+pub fn window_head(src: &[u8], base: usize, q: usize, lengths: [i32; 4]) -> WindowHead
+    requires { ⌜ Room (now src) base q × Within furthest lengths ⌝ }
+    ensures { λ r. ⌜ HeadAt (now (src .entry)) base q lengths r ⌝ }
+{
+    let v = window(src, base, q);
+    let a = window_length(v, 61, 55, lengths[0]);
+    let b = window_length(v, 59, a.left, lengths[1]);
+    let c = window_length(v, 57, b.left, lengths[2]);
+    let d = window_length(v, 55, c.left, lengths[3]);
+    WindowHead {
+        up: field(v, 63, 1) == 1,
+        lengths: [a.length, b.length, c.length, d.length],
+        q: q + (64 - d.left) as usize,
+    }
+}
+
+// The residual that the low n bits of x are. A sum, a remainder and a difference, with no test of the sign.
+fn low(x: u64, n: u32) -> u16
+    requires { ⌜ n ≤ 32 ⌝ }
+    ensures { λ r. ⌜ r ≡ residual n (x % 2 ^ n) ⌝ }
+{
+    let top = power(n);
+    let half = top / 2;
+    ((std::num::wrapping_add_u64(x, half) % top + 4_294_967_296 - half) % 65_536) as u16
+}
+
+// Four residuals of n bits from bit q on, out of one window.
+pub fn four_at(src: &[u8], base: usize, q: usize, n: u32) -> [u16; 4]
+    requires { ⌜ (n ≤ 16) × (base + q / 32 * 4 + 12 ≤ length (now src)) ⌝ }
+    ensures { λ r. ⌜ Group (now (src .entry)) base q n r ⌝ }
+{
+    let v = window(src, base, q);
+    let d = v / power((64 - 4 * n) % 64);
+    let c = d / power(n);
+    let b = c / power(n);
+    let a = b / power(n);
+    [low(a, n), low(b, n), low(c, n), low(d, n)]
+}
+
+// Four longer ones, two out of each of two windows.
+pub fn four_long_at(src: &[u8], base: usize, q: usize, n: u32) -> [u16; 4]
+    requires { ⌜ (16 < n) × ((n ≤ 32) × ((q < 2 ^ 32) × (base + (q + 2 * n) / 32 * 4 + 12 ≤ length (now src)))) ⌝ }
+    ensures { λ r. ⌜ Group (now (src .entry)) base q n r ⌝ }
+{
+    let b = window(src, base, q) / power(64 - 2 * n);
+    let d = window(src, base, q + 2 * n as usize) / power(64 - 2 * n);
+    [
+        low(b / power(n), n),
+        low(b, n),
+        low(d / power(n), n),
+        low(d, n),
+    ]
+}
+
+// The sixteen residuals of four groups.
+pub fn join(a: [u16; 4], b: [u16; 4], c: [u16; 4], d: [u16; 4]) -> [u16; 16]
+    ensures { λ r. ⌜ r ≡ joined a b c d ⌝ }
+{
+    [
+        a[0],
+        a[1],
+        a[2],
+        a[3],
+        b[0],
+        b[1],
+        b[2],
+        b[3],
+        c[0],
+        c[1],
+        c[2],
+        c[3],
+        d[0],
+        d[1],
+        d[2],
+        d[3],
+    ]
+}
+
+// A block read by the record. The argument is made anew and the result taken apart, so that a caller that reads by windows keeps
+// both in registers.
+pub fn read_by_record(src: &[u8], lengths: [i32; 4], bits: Bits) -> ReadBlock
+    requires { ⌜ Within furthest lengths ⌝ }
+    ensures { λ r. ⌜ r ≡ whole-block (now (src .entry)) (record { lengths = lengths; bits = bits }) ⌝ }
+{
+    let start = Bits {
+        pos: bits.pos,
+        word: bits.word,
+        count: bits.count,
+        filler: bits.filler,
+    };
+    let row = V0Row {
+        lengths,
+        bits: start,
+    };
+    let x = read_block(src, row, true);
+    let after = x.row;
+    let kept = after.lengths;
+    let last = after.bits;
+    let end = Bits {
+        pos: last.pos,
+        word: last.word,
+        count: last.count,
+        filler: last.filler,
+    };
+    let next = V0Row {
+        lengths: kept,
+        bits: end,
+    };
+    let r = x.residuals;
+    ReadBlock {
+        up: x.up,
+        row: next,
+        residuals: [
+            r[0],
+            r[1],
+            r[2],
+            r[3],
+            r[4],
+            r[5],
+            r[6],
+            r[7],
+            r[8],
+            r[9],
+            r[10],
+            r[11],
+            r[12],
+            r[13],
+            r[14],
+            r[15],
+        ],
+    }
+}

@@ -1,0 +1,76 @@
+// Reading by position. Bit q counts from the first bit of the word at byte `base`. What stands here reads words that are there,
+// and so no filler; a caller asks first whether the reader's record stands in the stream, and makes the record again after.
+ghost use mathlib.Core.Path.{_≡_};
+ghost use Prim.Native.Nat.{_+_, _*_, _/_, _≤_, _<_, _^_};
+ghost use lib.ListN.{length};
+ghost use Rattle.rules.specs.Reader.{word-at};
+ghost use Rattle.window.specs.Window.{state-at, Window, stands-in};
+use rules::Bits;
+
+// A byte as a wide number.
+fn wide(x: u8) -> u64
+    ensures { λ r. ⌜ (r ≡ x) × (r < 256) ⌝ }
+{
+    x as u64
+}
+
+// The word at `at`, which is there. The compiler makes one load of the four.
+fn word_there(src: &[u8], at: usize) -> u64
+    requires { ⌜ at + 4 ≤ length (now src) ⌝ }
+    ensures { λ r. ⌜ (r ≡ word-at (now (src .entry)) at) × (r < 2 ^ 32) ⌝ }
+{
+    wide(src[at])
+        + wide(src[at + 1]) * 256
+        + wide(src[at + 2]) * 65_536
+        + wide(src[at + 3]) * 16_777_216
+}
+
+// The 64 bits from bit q on: two words and the first bits of a third, moved up.
+pub fn window(src: &[u8], base: usize, q: usize) -> u64
+    requires { ⌜ base + q / 32 * 4 + 12 ≤ length (now src) ⌝ }
+    ensures { λ r. ⌜ Window (now (src .entry)) base q r ⌝ }
+{
+    let at = base + q / 32 * 4;
+    let left = (q % 32) as u32;
+    let two = word_there(src, at) * 4_294_967_296 + word_there(src, at + 4);
+    let third = word_there(src, at + 8);
+    (two << left) + (third << left) / 4_294_967_296
+}
+
+// Whether a state stands in the stream, with `more` bytes there from the word fetched last on. It compares that word with the
+// stream's: so it answers for any state that a caller hands in.
+pub fn stands(src: &[u8], bits: Bits, more: usize) -> bool
+    requires { ⌜ 4 ≤ more ⌝ }
+    ensures { λ r. ⌜ r ≡ stands-in (now (src .entry)) bits more ⌝ }
+{
+    let at = bits.pos as usize;
+    let n = src.len();
+    if 31 < bits.count {
+        return false;
+    }
+    if at < 4 {
+        return false;
+    }
+    if n < more {
+        return false;
+    }
+    if n - more < at - 4 {
+        return false;
+    }
+    word_there(src, at - 4) == bits.word as u64
+}
+
+// The state that stands before bit q.
+pub fn state_at(src: &[u8], base: usize, q: usize, filler: u64) -> Bits
+    requires { ⌜ (0 < q) × ((q < 2 ^ 32) × (base + (q + 31) / 32 * 4 ≤ length (now src))) ⌝ }
+    ensures { λ r. ⌜ r ≡ state-at (now (src .entry)) base q filler ⌝ }
+{
+    let words = (q + 31) / 32;
+    let at = base + words * 4;
+    Bits {
+        pos: at as u64,
+        word: word_there(src, at - 4) as u32,
+        count: (words * 32 - q) as u32,
+        filler,
+    }
+}
