@@ -33,7 +33,7 @@ fn unscaled(base: u16, d: i32) -> i32
     wide(base) + d
 }
 
-// A block has one scale, and most have 0: the compiler tests it once for all sixteen samples.
+// A block has one scale, often 0: the compiler tests it once for all sixteen samples.
 fn value_of(base: u16, d: i32, scale: i32) -> i32
     requires { ⌜ Fits base d scale ⌝ }
     ensures { λ r. ⌜ r ≡ value base d scale ⌝ }

@@ -1,5 +1,5 @@
 -- Differences by position are those that the reader's state reads: four out of a window, and the sixteen of a block out of four.
-use mathlib.Core.Path.{_≡_, refl, sym, ap, _∙_}
+use mathlib.Core.Path.{_≡_, refl, sym, _∙_}
 use mathlib.Core.Bool.{Bool, true, false, cond, _&&_}
 use mathlib.Core.List.{List, [], _∷_}
 use Prim.Native.Nat.{ℕ, zero, suc, _+_, _*_, _-_, _/_, _%_, _^_, _≤_, _<_, min}
@@ -10,13 +10,12 @@ use lib.IntN.{ℤ, pos}
 use lib.ListN.{length, getD, set}
 use lib.Pow.{pow-pos, shr-shr}
 use borrow.Author.Tests.{leb-true, le-leb}
-use Rattle.rules.specs.Reader.{read, signed, read-signed}
+use Rattle.rules.specs.Reader.{signed, read-signed}
 use Rattle.rules.specs.V2.{position, differences-from}
 use Rattle.rules.specs.declared.reader.Bits.{Bits}
-use Rattle.rules.specs.declared.reader.Signed.{Signed}
 use Rattle.rules.proofs.ReaderLaws.{read-signed-is}
 use Rattle.window.specs.Window.{bits-from, state-at, Three, Window, Stands}
-use Rattle.window.proofs.WindowLaws.{cut-at, read-at, three-at}
+use Rattle.window.proofs.WindowLaws.{in-window, read-at, three-at}
 use Rattle.v2_stream.specs.Four.{FourAt, Short, short}
 use Rattle.v2_stream.proofs.LengthLaws.{difference-more, difference-end}
 
@@ -47,25 +46,22 @@ short-last ls a b c = simp (le-leb _ _ a, le-leb _ _ b, le-leb _ _ c)
 
 -- ── Four out of a window ──
 
-module _ (s : List ℕ) (base q n : ℕ) where
-  -- The n bits above the lowest c of a window, a bits after its first.
-  at-top : (a c : ℕ) → a + (n + c) ≡ 64 → bits-from s base q 64 / 2 ^ c % 2 ^ n ≡ bits-from s base (q + a) n
-  at-top a c e = ap (λ (x : ℕ). bits-from s base q x / 2 ^ c % 2 ^ n) (sym e) ∙ cut-at s base q a n c
-
-  -- Four of n bits from the top of a window, each moved down from the one after it.
-  fields-top : (c : ℕ) → 4 * n + c ≡ 64
-      → (bits-from s base q 64 / 2 ^ c / 2 ^ n / 2 ^ n / 2 ^ n % 2 ^ n ≡ bits-from s base q n)
-      × ((bits-from s base q 64 / 2 ^ c / 2 ^ n / 2 ^ n % 2 ^ n ≡ bits-from s base (q + n) n)
-      × ((bits-from s base q 64 / 2 ^ c / 2 ^ n % 2 ^ n ≡ bits-from s base (q + 2 * n) n) × (bits-from s base q 64 / 2 ^ c % 2 ^ n ≡ bits-from s base (q + 3 * n) n)))
-  fields-top c e =
-      let v : ℕ = bits-from s base q 64 in
-      let two : v / 2 ^ c / 2 ^ n ≡ v / 2 ^ (c + n) = shr-shr v c n in
-      let one : v / 2 ^ (c + n) / 2 ^ n ≡ v / 2 ^ (c + n + n) = shr-shr v (c + n) n in
-      let none : v / 2 ^ (c + n + n) / 2 ^ n ≡ v / 2 ^ (c + n + n + n) = shr-shr v (c + n + n) n in
-      let z : q + 0 ≡ q = omega arith in (
-        rw (two, one, none) (at-top 0 (c + n + n + n) (omega arith) ∙ rw z),
-        (rw (two, one) (at-top n (c + n + n) (omega arith)), (rw two (at-top (2 * n) (c + n) (omega arith)), at-top (3 * n) c (omega arith))),
-      )
+-- Four of n bits from the top of a window, each moved down from the one after it.
+fields-top : (s : List ℕ) (base q v n c : ℕ) → Window s base q v → 4 * n + c ≡ 64
+    → (v / 2 ^ c / 2 ^ n / 2 ^ n / 2 ^ n % 2 ^ n ≡ bits-from s base q n)
+    × ((v / 2 ^ c / 2 ^ n / 2 ^ n % 2 ^ n ≡ bits-from s base (q + n) n)
+    × ((v / 2 ^ c / 2 ^ n % 2 ^ n ≡ bits-from s base (q + 2 * n) n) × (v / 2 ^ c % 2 ^ n ≡ bits-from s base (q + 3 * n) n)))
+fields-top s base q v n c w e =
+    let two : v / 2 ^ c / 2 ^ n ≡ v / 2 ^ (c + n) = shr-shr v c n in
+    let one : v / 2 ^ (c + n) / 2 ^ n ≡ v / 2 ^ (c + n + n) = shr-shr v (c + n) n in
+    let none : v / 2 ^ (c + n + n) / 2 ^ n ≡ v / 2 ^ (c + n + n + n) = shr-shr v (c + n + n) n in
+    let z : q + 0 ≡ q = omega arith in (
+      rw (two, one, none) (in-window s base q v 0 n (c + n + n + n) w (omega arith) ∙ rw z),
+      (
+        rw (two, one) (in-window s base q v n n (c + n + n) w (omega arith)),
+        (rw two (in-window s base q v (2 * n) n (c + n) w (omega arith)), in-window s base q v (3 * n) n c w (omega arith)),
+      ),
+    )
 
 -- What `four_at` makes of a window.
 pub four-made : (s : List ℕ) (base q n v p₀ p₁ p₂ p₃ : ℕ) (r₀ r₁ r₂ r₃ : ℤ) → n ≤ 16 → Window s base q v
@@ -78,8 +74,8 @@ four-made s base q zero v p₀ p₁ p₂ p₃ r₀ r₁ r₂ r₃ few w e₀ e�
     record { words = w .words; are = rw (f₀, f₁, f₂, f₃, z (v / p₀ / p₁ / p₂ / p₃), z (v / p₀ / p₁ / p₂), z (v / p₀ / p₁), z (v / p₀)) }
 four-made s base q (suc m) v p₀ p₁ p₂ p₃ r₀ r₁ r₂ r₃ few w e₀ e₁ e₂ e₃ f₀ f₁ f₂ f₃ =
     let c : (64 - 4 * suc m) % 64 ≡ 64 - 4 * suc m = omega arith in
-    let t = fields-top s base q (suc m) (64 - 4 * suc m) (omega arith) in
-    record { words = w .words; are = rw (f₀, f₁, f₂, f₃, e₀, e₁, e₂, e₃, c, w .is, t .0, t .1 .0, t .1 .1 .0, t .1 .1 .1) }
+    let t = fields-top s base q v (suc m) (64 - 4 * suc m) w (omega arith) in
+    record { words = w .words; are = rw (f₀, f₁, f₂, f₃, e₀, e₁, e₂, e₃, c, t .0, t .1 .0, t .1 .1 .0, t .1 .1 .1) }
 
 -- ── As the state reads them ──
 

@@ -285,6 +285,11 @@ module _ (s : List ℕ) (base q a b c : ℕ) (first : a ≡ word-at s (base + q 
   pub window-fits : (a * 2 ^ 32 + b) * 2 ^ (q % 32) % 2 ^ 64 + c * 2 ^ (q % 32) % 2 ^ 64 / 2 ^ 32 < 2 ^ 64
   window-fits = rw (window-of .is) (from-below s base q 64)
 
+-- k bits of a window, after a others.
+pub in-window : (s : List ℕ) (base q v a k c : ℕ) → Window s base q v → a + (k + c) ≡ 64 → v / 2 ^ c % 2 ^ k ≡ bits-from s base (q + a) k
+in-window s base q v a k c w e =
+    ap (λ (x : ℕ). x / 2 ^ c % 2 ^ k) (w .is) ∙ ap (λ (x : ℕ). bits-from s base q x / 2 ^ c % 2 ^ k) (sym e) ∙ cut-at s base q a k c
+
 -- ── States ──
 
 both : (t u : Bool) → (t && u) ≡ true → (t ≡ true) × (u ≡ true)

@@ -35,13 +35,13 @@ power-requires-3 : tie.Need-power-requires-3
 power-requires-3 c κs = search needs
 
 div-b : tie.Need-div-b
-div-b c = omega (arith, pow-pos (c .before .before .before .before .before .args .n))
+div-b c = let w = c .before .before in omega (arith, pow-pos (w .before .before .before .args .n))
 
 power-requires-4 : tie.Need-power-requires-4
 power-requires-4 c κs = search needs
 
 div-a : tie.Need-div-a
-div-a c = omega (arith, pow-pos (c .before .before .before .before .before .before .args .n))
+div-a c = let w = c .before .before .before in omega (arith, pow-pos (w .before .before .before .args .n))
 
 low-requires : tie.Need-low-requires
 low-requires c κs = search needs
