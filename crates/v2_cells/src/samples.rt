@@ -1,9 +1,11 @@
 // Step 6 of a block: its samples.
 ghost use mathlib.Core.Path.{_≡_};
 ghost use Prim.Native.Nat.{ℕ, _+_, _≤_, _<_};
-ghost use lib.IntN.{pos};
+ghost use lib.IntN.{pos, _+ℤ_};
 ghost use lib.ListN.{length, getD};
 ghost use lib.Seq.{sets};
+ghost use mir.Syntax.{w32};
+ghost use mir.Val.{SFits};
 ghost use Rattle.rules.specs.Frame.{tabulate};
 ghost use Rattle.rules.specs.V2.{value, hold, sample};
 ghost use Rattle.rules.specs.Ranges.{Between, Small, Fits};
@@ -16,11 +18,30 @@ fn wide(x: u16) -> i32
 }
 
 // Base + difference times (2 scale + 1) + scale.
-fn value_of(base: u16, d: i32, scale: i32) -> i32
+fn scaled(base: u16, d: i32, scale: i32) -> i32
     requires { ⌜ Fits base d scale ⌝ }
     ensures { λ r. ⌜ r ≡ value base d scale ⌝ }
 {
     wide(base) + d * (2 * scale + 1) + scale
+}
+
+// The same without its products, where the scale is 0.
+fn unscaled(base: u16, d: i32) -> i32
+    requires { ⌜ SFits w32 (pos base +ℤ d) ⌝ }
+    ensures { λ r. ⌜ r ≡ pos base +ℤ d ⌝ }
+{
+    wide(base) + d
+}
+
+// A block has one scale, often 0: the compiler tests it once for all sixteen samples.
+fn value_of(base: u16, d: i32, scale: i32) -> i32
+    requires { ⌜ Fits base d scale ⌝ }
+    ensures { λ r. ⌜ r ≡ value base d scale ⌝ }
+{
+    if scale == 0 {
+        return unscaled(base, d);
+    }
+    scaled(base, d, scale)
 }
 
 // A value held to 0..top.

@@ -1,4 +1,5 @@
 -- What the proofs of the stages share.
+pub mod FourLaws
 pub mod HeaderLaws
 pub mod LengthLaws
 pub mod PairLaws

@@ -1,13 +1,21 @@
 // Step 5 of a block: its differences.
 ghost use mathlib.Core.Path.{_≡_};
+ghost use Prim.Native.Nat.{_+_, _<_};
+ghost use lib.IntN.{pos};
+ghost use lib.ListN.{getD, set};
 ghost use Rattle.rules.specs.V2.{differences-from};
+ghost use Rattle.window.specs.Window.{Stands};
+ghost use Rattle.v2_stream.specs.Four.{Short, short};
 ghost use Rattle.v2_stream.specs.Pairs.{signed-pair};
 ghost use Rattle.v2_stream.specs.Positions.{row-positions, positions};
+use super::four::four_at;
 use bits::get_whole;
 use bits::read_signed;
 use fields::field;
 use fields::signed_of;
 use rules::Bits;
+use window::stands;
+use window::state_at;
 
 // Where the sixteen differences go in even rows, and in odd ones.
 const POSITIONS: [[u8; 16]; 2] = [
@@ -61,14 +69,8 @@ fn read_pair(src: &[u8], bits: Bits, n: u32) -> Pair
     }
 }
 
-// The sixteen differences, each at its position.
-pub fn block_differences(
-    src: &[u8],
-    row: usize,
-    lengths: [u32; 4],
-    bits: Bits,
-    values: &mut [i32; 16],
-) -> Bits
+// The sixteen differences two by two, whatever the state and the lengths.
+fn by_pairs(src: &[u8], row: usize, lengths: [u32; 4], bits: Bits, values: &mut [i32; 16]) -> Bits
     ensures { λ r. ⌜ record { values = now (values .exit); bits = r } ≡ differences-from (now (src .entry)) row lengths 16 0 (record { values = now (values .entry); bits = bits }) ⌝ }
 {
     // A copy, since a constant that is read in the loop is made anew at each read.
@@ -87,4 +89,71 @@ pub fn block_differences(
         k += 2;
     }
     at
+}
+
+// The bytes that the differences' windows reach over, from the word fetched last on: the last starts 224 bits on at most, and
+// takes three words.
+const REACH: usize = 40;
+
+// Four differences to position p and every other one after it.
+fn store_four(values: &mut [i32; 16], p: usize, four: [i32; 4])
+    requires { ⌜ p + 6 < 16 ⌝ }
+    ensures { λ _. ⌜ now (values .exit) ≡ set (set (set (set (now (values .entry)) p (getD four 0 (pos 0))) (p + 2) (getD four 1 (pos 0))) (p + 4) (getD four 2 (pos 0))) (p + 6) (getD four 3 (pos 0)) ⌝ }
+{
+    values[p] = four[0];
+    values[p + 2] = four[1];
+    values[p + 4] = four[2];
+    values[p + 6] = four[3];
+}
+
+// The sixteen differences out of four windows, where the state stands in the stream: no read asks whether a word is left, and the
+// state is made again at the end.
+fn by_windows(src: &[u8], row: usize, lengths: [u32; 4], bits: Bits, values: &mut [i32; 16]) -> Bits
+    requires { ⌜ Stands (now src) bits 40 × Short lengths ⌝ }
+    ensures { λ r. ⌜ record { values = now (values .exit); bits = r } ≡ differences-from (now (src .entry)) row lengths 16 0 (record { values = now (values .entry); bits = bits }) ⌝ }
+{
+    let positions = positions_of(row);
+    let base = bits.pos as usize - 4;
+    let mut q = 32 - bits.count as usize;
+    let mut j: usize = 0;
+    while j < 4 {
+        let n = lengths[j];
+        let four = four_at(src, base, q, n);
+        store_four(values, positions[4 * j] as usize, four);
+        q += 4 * n as usize;
+        j += 1;
+    }
+    state_at(src, base, q, bits.filler)
+}
+
+// Whether a window holds four differences of each length.
+fn are_short(lengths: [u32; 4]) -> bool
+    ensures { λ r. ⌜ r ≡ short lengths ⌝ }
+{
+    if 16 < lengths[0] {
+        return false;
+    }
+    if 16 < lengths[1] {
+        return false;
+    }
+    if 16 < lengths[2] {
+        return false;
+    }
+    lengths[3] <= 16
+}
+
+// The sixteen differences, each at its position.
+pub fn block_differences(
+    src: &[u8],
+    row: usize,
+    lengths: [u32; 4],
+    bits: Bits,
+    values: &mut [i32; 16],
+) -> Bits
+    ensures { λ r. ⌜ record { values = now (values .exit); bits = r } ≡ differences-from (now (src .entry)) row lengths 16 0 (record { values = now (values .entry); bits = bits }) ⌝ }
+{
+    if are_short(lengths) && stands(src, bits, REACH) {
+        return by_windows(src, row, lengths, bits, values);
+    }
+    by_pairs(src, row, lengths, bits, values)
 }

@@ -1,61 +1,35 @@
--- Each partial sum is within 32 signed bits, so that no step wraps.
-use mathlib.Core.Path.{refl}
-use native.Mathlib.Omega.{arith}
-use lib.IntN.{pos, _+ℤ_, _*ℤ_}
+-- Where the scale is 0, what is left of the value is the base and the difference.
+use mathlib.Core.Path.{_≡_, sym, ap, _∙_}
+use lib.IntN.{ℤ, pos}
 use mir.Syntax.{w32}
+use mir.Val.{SFits, toZ}
 use mir.ValLaws.{toZ-ofZ}
 use borrow.Author.Needs.{needs}
 use Rattle.rules.specs.V2.{value}
+use Rattle.v2_cells.proofs.SampleLaws.{value-unscaled}
 use Rattle.v2_cells.proofs.samples.value_of.Statement.{statement}
 use Rattle.v2_cells.proofs.samples.value_of.Tie as tie
 
-wide-requires : tie.Need-wide-requires
-wide-requires c κs = search needs
+none : (c : tie.Then1) → c .before .args .scale ≡ pos 0
+none c = sym (toZ-ofZ w32 (c .before .args .scale) (c .before .fits .scale)) ∙ ap (toZ w32) (c .if1 .taken)
 
-mul-result : tie.Need-mul-result
-mul-result c =
-    let a = c .before in
-    let f = a .pre in
-    simp (toZ-ofZ w32 (a .args .scale) (a .fits .scale)) (record { sfits = f .twice })
-
-add-result : tie.Need-add-result
-add-result c =
-    let a = c .before in
-    let f = a .pre in
-    let m = pos 2 *ℤ a .args .scale in
-    simp (toZ-ofZ w32 (a .args .scale) (a .fits .scale), toZ-ofZ w32 m (record { sfits = f .twice })) (record { sfits = f .factor })
-
-mul-result-2 : tie.Need-mul-result-2
-mul-result-2 c =
-    let a = c .before in
-    let f = a .pre in
-    let m = pos 2 *ℤ a .args .scale in
-    simp (toZ-ofZ w32 (a .args .d) (a .fits .d), toZ-ofZ w32 (a .args .scale) (a .fits .scale), toZ-ofZ w32 m (record { sfits = f .twice }), toZ-ofZ w32 (m +ℤ pos 1) (record { sfits = f .factor })) (record { sfits = f .product })
-
-add-result-2 : tie.Need-add-result-2
-add-result-2 c =
-    let a = c .before in
-    let f = a .pre in
-    let m = pos 2 *ℤ a .args .scale in
-    simp (c .wide .ensures, toZ-ofZ w32 (pos (a .args .base)) (record { sfits = omega arith }), toZ-ofZ w32 (a .args .d) (a .fits .d), toZ-ofZ w32 (a .args .scale) (a .fits .scale), toZ-ofZ w32 m (record { sfits = f .twice }), toZ-ofZ w32 (m +ℤ pos 1) (record { sfits = f .factor }), toZ-ofZ w32 (a .args .d *ℤ (m +ℤ pos 1)) (record { sfits = f .product })) (record { sfits = f .sum })
-
-add-result-3 : tie.Need-add-result-3
-unfolding value
-add-result-3 c =
-    let a = c .before in
-    let f = a .pre in
-    let m = pos 2 *ℤ a .args .scale in
-    simp (c .wide .ensures, toZ-ofZ w32 (pos (a .args .base)) (record { sfits = omega arith }), toZ-ofZ w32 (a .args .d) (a .fits .d), toZ-ofZ w32 (a .args .scale) (a .fits .scale), toZ-ofZ w32 m (record { sfits = f .twice }), toZ-ofZ w32 (m +ℤ pos 1) (record { sfits = f .factor }), toZ-ofZ w32 (a .args .d *ℤ (m +ℤ pos 1)) (record { sfits = f .product }), toZ-ofZ w32 (pos (a .args .base) +ℤ a .args .d *ℤ (m +ℤ pos 1)) (record { sfits = f .sum })) (record { sfits = f .whole })
+unscaled-requires : tie.Need-unscaled-requires
+unscaled-requires c κs =
+    let a = c .before .args in
+    rw (toZ-ofZ w32 (a .d) (c .before .fits .d)) (record { sfits = rw (none c, value-unscaled (a .base) (a .d)) at (c .before .pre .whole) })
 
 returns : tie.Need-returns
-unfolding value
 returns c =
-    let a = c .before in
-    let f = a .pre in
-    let m = pos 2 *ℤ a .args .scale in
-    simp (c .wide .ensures, toZ-ofZ w32 (pos (a .args .base)) (record { sfits = omega arith }), toZ-ofZ w32 (a .args .d) (a .fits .d), toZ-ofZ w32 (a .args .scale) (a .fits .scale), toZ-ofZ w32 m (record { sfits = f .twice }), toZ-ofZ w32 (m +ℤ pos 1) (record { sfits = f .factor }), toZ-ofZ w32 (a .args .d *ℤ (m +ℤ pos 1)) (record { sfits = f .product }), toZ-ofZ w32 (pos (a .args .base) +ℤ a .args .d *ℤ (m +ℤ pos 1)) (record { sfits = f .sum }), toZ-ofZ w32 (pos (a .args .base) +ℤ a .args .d *ℤ (m +ℤ pos 1) +ℤ a .args .scale) (record { sfits = f .whole })) refl
+    let a = c .before .before .args in
+    rw (toZ-ofZ w32 (c .unscaled .result) (record { sfits = c .unscaled .ok }), none (c .before), value-unscaled (a .base) (a .d)) (rw (toZ-ofZ w32 (a .d) (c .before .before .fits .d)) at (c .unscaled .ensures))
+
+scaled-requires : tie.Need-scaled-requires
+scaled-requires c κs = search needs
+
+returns-2 : tie.Need-returns-2
+returns-2 c =
+    let a = c .before .before in
+    rw (toZ-ofZ w32 (c .scaled .result) (record { sfits = c .scaled .ok })) (rw (toZ-ofZ w32 (a .args .d) (a .fits .d), toZ-ofZ w32 (a .args .scale) (a .fits .scale)) at (c .scaled .ensures))
 
 pub value-of-spec : {M : Type 1} → statement M
-value-of-spec =
-    tie.close
-    (tie.spec wide-requires mul-result add-result mul-result-2 add-result-2 add-result-3 returns)
+value-of-spec = tie.close (tie.spec unscaled-requires returns scaled-requires returns-2)

@@ -1,0 +1,181 @@
+-- Differences by position are those that the reader's state reads: four out of a window, and the sixteen of a block out of four.
+use mathlib.Core.Path.{_≡_, refl, sym, _∙_}
+use mathlib.Core.Bool.{Bool, true, false, cond, _&&_}
+use mathlib.Core.List.{List, [], _∷_}
+use Prim.Native.Nat.{ℕ, zero, suc, _+_, _*_, _-_, _/_, _%_, _^_, _≤_, _<_, min}
+use native.Mathlib.Nat.{mod-lt}
+use native.Mathlib.Omega.{arith}
+use lib.Dec.{leb, eqb}
+use lib.IntN.{ℤ, pos}
+use lib.ListN.{length, getD, set}
+use lib.Pow.{pow-pos, shr-shr}
+use borrow.Author.Tests.{leb-true, le-leb}
+use Rattle.rules.specs.Reader.{signed, read-signed}
+use Rattle.rules.specs.V2.{position, differences-from}
+use Rattle.rules.specs.declared.reader.Bits.{Bits}
+use Rattle.rules.proofs.ReaderLaws.{read-signed-is}
+use Rattle.window.specs.Window.{bits-from, state-at, Three, Window, Stands}
+use Rattle.window.proofs.WindowLaws.{in-window, read-at, three-at}
+use Rattle.v2_stream.specs.Four.{FourAt, Short, short}
+use Rattle.v2_stream.proofs.LengthLaws.{difference-more, difference-end}
+
+-- ── Short lengths ──
+
+both : (t u : Bool) → (t && u) ≡ true → (t ≡ true) × (u ≡ true)
+both true u e = (refl, e)
+both false u e = ((cc), (cc))
+
+pub short-is : (ls : List ℕ) → short ls ≡ true → Short ls
+unfolding short
+short-is ls e =
+    let a = both (leb (getD ls 0 0) 16) (leb (getD ls 1 0) 16 && (leb (getD ls 2 0) 16 && leb (getD ls 3 0) 16)) e in
+    let b = both (leb (getD ls 1 0) 16) (leb (getD ls 2 0) 16 && leb (getD ls 3 0) 16) (a .1) in
+    let c = both (leb (getD ls 2 0) 16) (leb (getD ls 3 0) 16) (b .1) in
+    record { most = go (leb-true _ _ (a .0)) (leb-true _ _ (b .0)) (leb-true _ _ (c .0)) (leb-true _ _ (c .1)) }
+  where
+    go : getD ls 0 0 ≤ 16 → getD ls 1 0 ≤ 16 → getD ls 2 0 ≤ 16 → getD ls 3 0 ≤ 16 → (j : ℕ) → j < 4 → getD ls j 0 ≤ 16
+    go a b c d zero h = a
+    go a b c d (suc zero) h = b
+    go a b c d (suc (suc zero)) h = c
+    go a b c d (suc (suc (suc zero))) h = d
+    go a b c d (suc (suc (suc (suc j)))) h = absurd (omega arith)
+
+pub short-last : (ls : List ℕ) → getD ls 0 0 ≤ 16 → getD ls 1 0 ≤ 16 → getD ls 2 0 ≤ 16 → leb (getD ls 3 0) 16 ≡ short ls
+unfolding short
+short-last ls a b c = simp (le-leb _ _ a, le-leb _ _ b, le-leb _ _ c)
+
+-- ── Four out of a window ──
+
+-- Four of n bits from the top of a window, each moved down from the one after it.
+fields-top : (s : List ℕ) (base q v n c : ℕ) → Window s base q v → 4 * n + c ≡ 64
+    → (v / 2 ^ c / 2 ^ n / 2 ^ n / 2 ^ n % 2 ^ n ≡ bits-from s base q n)
+    × ((v / 2 ^ c / 2 ^ n / 2 ^ n % 2 ^ n ≡ bits-from s base (q + n) n)
+    × ((v / 2 ^ c / 2 ^ n % 2 ^ n ≡ bits-from s base (q + 2 * n) n) × (v / 2 ^ c % 2 ^ n ≡ bits-from s base (q + 3 * n) n)))
+fields-top s base q v n c w e =
+    let two : v / 2 ^ c / 2 ^ n ≡ v / 2 ^ (c + n) = shr-shr v c n in
+    let one : v / 2 ^ (c + n) / 2 ^ n ≡ v / 2 ^ (c + n + n) = shr-shr v (c + n) n in
+    let none : v / 2 ^ (c + n + n) / 2 ^ n ≡ v / 2 ^ (c + n + n + n) = shr-shr v (c + n + n) n in
+    let z : q + 0 ≡ q = omega arith in (
+      rw (two, one, none) (in-window s base q v 0 n (c + n + n + n) w (omega arith) ∙ rw z),
+      (
+        rw (two, one) (in-window s base q v n n (c + n + n) w (omega arith)),
+        (rw two (in-window s base q v (2 * n) n (c + n) w (omega arith)), in-window s base q v (3 * n) n c w (omega arith)),
+      ),
+    )
+
+-- What `four_at` makes of a window.
+pub four-made : (s : List ℕ) (base q n v p₀ p₁ p₂ p₃ : ℕ) (r₀ r₁ r₂ r₃ : ℤ) → n ≤ 16 → Window s base q v
+    → p₀ ≡ 2 ^ ((64 - 4 * n) % 64) → p₁ ≡ 2 ^ n → p₂ ≡ 2 ^ n → p₃ ≡ 2 ^ n
+    → r₀ ≡ signed n (v / p₀ / p₁ / p₂ / p₃ % 2 ^ n) → r₁ ≡ signed n (v / p₀ / p₁ / p₂ % 2 ^ n)
+    → r₂ ≡ signed n (v / p₀ / p₁ % 2 ^ n) → r₃ ≡ signed n (v / p₀ % 2 ^ n) → FourAt s base q n (r₀ ∷ r₁ ∷ r₂ ∷ r₃ ∷ [])
+unfolding bits-from
+four-made s base q zero v p₀ p₁ p₂ p₃ r₀ r₁ r₂ r₃ few w e₀ e₁ e₂ e₃ f₀ f₁ f₂ f₃ =
+    let z : (x : ℕ) → x % 2 ^ 0 ≡ 0 = λ x. omega (arith, mod-lt x (pow-pos 0)) in
+    record { words = w .words; are = rw (f₀, f₁, f₂, f₃, z (v / p₀ / p₁ / p₂ / p₃), z (v / p₀ / p₁ / p₂), z (v / p₀ / p₁), z (v / p₀)) }
+four-made s base q (suc m) v p₀ p₁ p₂ p₃ r₀ r₁ r₂ r₃ few w e₀ e₁ e₂ e₃ f₀ f₁ f₂ f₃ =
+    let c : (64 - 4 * suc m) % 64 ≡ 64 - 4 * suc m = omega arith in
+    let t = fields-top s base q v (suc m) (64 - 4 * suc m) w (omega arith) in
+    record { words = w .words; are = rw (f₀, f₁, f₂, f₃, e₀, e₁, e₂, e₃, c, t .0, t .1 .0, t .1 .1 .0, t .1 .1 .1) }
+
+-- ── As the state reads them ──
+
+-- A difference of n bits that lies in a window's words.
+signed-at : (s : List ℕ) (base q f n k : ℕ) → n ≤ 16 → 0 < q → k ≤ q → q + n ≤ k + 64 → base + (q + n + 31) / 32 * 4 ≤ length s → base + (q + n + 31) / 32 * 4 + 4 < 2 ^ 64
+    → Three s (base + k / 32 * 4) → read-signed s (state-at s base q f) n ≡ record { value = signed n (bits-from s base q n); bits = state-at s base (q + n) f }
+signed-at s base q f n k few some after before there far t =
+    let m : min n 32 ≡ n = omega arith in
+    let r = read-at s base q n f some (omega arith) there far (λ h. three-at s base (k / 32) ((q + 31) / 32) t (omega arith) (omega arith)) in
+    rw (read-signed-is s (state-at s base q f) n, m, r)
+
+-- The differences from number 4 j on: the four of length number j, out of a window, and those after them.
+module _ (s : List ℕ) (row : ℕ) (ls : List ℕ) (base f : ℕ) (j : ℕ) (h : j < 4) where
+  group-more : (ds : List ℤ) (q n p₀ p₁ p₂ p₃ : ℕ) → n ≡ getD ls j 0 → n ≤ 16 → 0 < q
+      → base + (q + 4 * n + 31) / 32 * 4 ≤ length s → base + (q + 4 * n + 31) / 32 * 4 + 4 < 2 ^ 64 → Three s (base + q / 32 * 4)
+      → p₀ ≡ position row (4 * j) → p₁ ≡ position row (4 * j + 1) → p₂ ≡ position row (4 * j + 1 + 1) → p₃ ≡ position row (4 * j + 1 + 1 + 1)
+      → differences-from s row ls (16 - 4 * j) (4 * j) (record { values = ds; bits = state-at s base q f })
+      ≡ differences-from s row ls (16 - (4 * j + 1 + 1 + 1 + 1)) (4 * j + 1 + 1 + 1 + 1)
+      (record {
+        values = set (set (set (set ds p₀ (signed n (bits-from s base q n))) p₁ (signed n (bits-from s base (q + n) n))) p₂ (signed n (bits-from s base (q + n + n) n))) p₃ (signed n (bits-from s base (q + n + n + n) n));
+        bits = state-at s base (q + n + n + n + n) f;
+      })
+  group-more ds q n p₀ p₁ p₂ p₃ en few some there far t e₀ e₁ e₂ e₃ =
+      let k₀ : 4 * j / 4 ≡ j = omega arith in
+      let k₁ : (4 * j + 1) / 4 ≡ j = omega arith in
+      let k₂ : (4 * j + 1 + 1) / 4 ≡ j = omega arith in
+      let k₃ : (4 * j + 1 + 1 + 1) / 4 ≡ j = omega arith in
+      let g₀ = signed-at s base q f n q few some (omega arith) (omega arith) (omega arith) (omega arith) t in
+      let g₁ = signed-at s base (q + n) f n q few (omega arith) (omega arith) (omega arith) (omega arith) (omega arith) t in
+      let g₂ = signed-at s base (q + n + n) f n q few (omega arith) (omega arith) (omega arith) (omega arith) (omega arith) t in
+      let g₃ = signed-at s base (q + n + n + n) f n q few (omega arith) (omega arith) (omega arith) (omega arith) (omega arith) t in
+      difference-more s row ls (4 * j) ds (state-at s base q f) _ p₀ (omega arith) (rw (k₀, ← en) (sym g₀)) e₀
+      ∙ difference-more s row ls (4 * j + 1) _ (state-at s base (q + n) f) _ p₁ (omega arith) (rw (k₁, ← en) (sym g₁)) e₁
+      ∙ difference-more s row ls (4 * j + 1 + 1) _ (state-at s base (q + n + n) f) _ p₂ (omega arith) (rw (k₂, ← en) (sym g₂)) e₂
+      ∙ difference-more s row ls (4 * j + 1 + 1 + 1) _ (state-at s base (q + n + n + n) f) _ p₃ (omega arith) (rw (k₃, ← en) (sym g₃)) e₃
+
+-- The positions of four differences of one length: every other one from the first on.
+every-other : (row j i : ℕ) → j < 4 → i < 4 → position row (4 * j) + 2 * i ≡ position row (4 * j + i)
+unfolding position
+every-other row j i k l = go (eqb (row % 2) 0) (j / 2) (j % 2) (omega arith) (omega arith) (omega arith)
+  where
+    last : (t : Bool) (a b : ℕ) → a < 2 → cond t (2 * (4 * b) + a) (2 * (4 * b) + 1 - a) + 2 * i ≡ cond t (2 * (4 * b + i) + a) (2 * (4 * b + i) + 1 - a)
+    last true a b g = omega arith
+    last false a b g = omega arith
+
+    go : (t : Bool) (a b : ℕ) → j ≡ 2 * a + b → b < 2 → a < 2
+        → cond t (2 * (4 * j % 8) + 4 * j / 8) (2 * (4 * j % 8) + 1 - 4 * j / 8) + 2 * i ≡ cond t (2 * ((4 * j + i) % 8) + (4 * j + i) / 8) (2 * ((4 * j + i) % 8) + 1 - (4 * j + i) / 8)
+    go t a b e h g =
+        let x : 4 * j ≡ a * 8 + 4 * b = omega arith in
+        let y : 4 * j + i ≡ a * 8 + (4 * b + i) = omega arith in
+        let m : (a * 8 + 4 * b) % 8 ≡ 4 * b = omega arith in
+        let d : (a * 8 + 4 * b) / 8 ≡ a = omega arith in
+        let m′ : (a * 8 + (4 * b + i)) % 8 ≡ 4 * b + i = omega arith in
+        let d′ : (a * 8 + (4 * b + i)) / 8 ≡ a = omega arith in
+        rw (y, m′, d′, x, m, d) (last t a b g)
+
+pub first-below : (row j : ℕ) → j < 4 → position row (4 * j) + 6 < 16
+unfolding position
+first-below row j h = go (eqb (row % 2) 0)
+  where
+    go : (t : Bool) → cond t (2 * (4 * j % 8) + 4 * j / 8) (2 * (4 * j % 8) + 1 - 4 * j / 8) + 6 < 16
+    go true = omega arith
+    go false = omega arith
+
+-- The loop over four windows, before length number j: the differences from number 4 j on, by the state that stands before bit q,
+-- come to what all sixteen come to.
+pub record Reached (s : List ℕ) (row : ℕ) (ls : List ℕ) (base f q₀ : ℕ) (ds₀ : List ℤ) (j q : ℕ) (ds : List ℤ) : Type 0 where
+  pub within : j ≤ 4
+  pub some : 0 < q
+  pub soon : q ≤ 32 + 64 * j
+  pub is : differences-from s row ls 16 0 (record { values = ds₀; bits = state-at s base q₀ f })
+      ≡ differences-from s row ls (16 - 4 * j) (4 * j) (record { values = ds; bits = state-at s base q f })
+
+pub reached-start : (s : List ℕ) (row : ℕ) (ls : List ℕ) (base f count : ℕ) (ds : List ℤ) → count < 32
+    → Reached s row ls base f (32 - count) ds 0 (32 - count) ds
+reached-start s row ls base f count ds few = record { within = omega arith; some = omega arith; soon = omega arith; is = refl }
+
+module _ (s : List ℕ) (row : ℕ) (ls : List ℕ) (base f q₀ : ℕ) (ds₀ : List ℤ) where
+  pub reached-more : (j q n p : ℕ) (ds ds′ r : List ℤ) → j < 4 → n ≡ getD ls j 0 → n ≤ 16 → base + 40 ≤ length s → base + 40 < 2 ^ 64 → p ≡ position row (4 * j) → FourAt s base q n r
+      → ds′ ≡ set (set (set (set ds p (getD r 0 (pos 0))) (p + 2) (getD r 1 (pos 0))) (p + 4) (getD r 2 (pos 0))) (p + 6) (getD r 3 (pos 0))
+      → Reached s row ls base f q₀ ds₀ j q ds → Reached s row ls base f q₀ ds₀ (j + 1) (q + 4 * n) ds′
+  reached-more j q n p ds ds′ r h en few there far ep x ed l =
+      let some : 0 < q = l .some in
+      let soon : q ≤ 32 + 64 * j = l .soon in
+      let k : 4 * j + 1 + 1 + 1 + 1 ≡ 4 * (j + 1) = omega arith in
+      let k₂ : 4 * j + 1 + 1 ≡ 4 * j + 2 = omega arith in
+      let k₃ : 4 * j + 1 + 1 + 1 ≡ 4 * j + 3 = omega arith in
+      let q₂ : q + n + n ≡ q + 2 * n = omega arith in
+      let q₃ : q + 2 * n + n ≡ q + 3 * n = omega arith in
+      let q₄ : q + 3 * n + n ≡ q + 4 * n = omega arith in
+      let e₁ : p + 2 ≡ position row (4 * j + 1) = rw ep (every-other row j 1 h (omega arith)) in
+      let e₂ : p + 4 ≡ position row (4 * j + 1 + 1) = rw (k₂, ep) (every-other row j 2 h (omega arith)) in
+      let e₃ : p + 6 ≡ position row (4 * j + 1 + 1 + 1) = rw (k₃, ep) (every-other row j 3 h (omega arith)) in
+      let g = group-more s row ls base f j h ds q n p (p + 2) (p + 4) (p + 6) en few some (omega arith) (omega arith) (x .words) ep e₁ e₂ e₃ in
+      record { within = omega arith; some = omega arith; soon = omega arith; is = l .is ∙ rw (ed, x .are) (rw (k, q₂, q₃, q₄) at g) }
+
+-- After the four the state is made again.
+pub reached-end : (s : List ℕ) (row : ℕ) (ls : List ℕ) (b b′ : Bits) (j q : ℕ) (ds₀ ds : List ℤ) → Stands s b 40 → b′ ≡ state-at s (b .pos - 4) q (b .filler)
+    → Reached s row ls (b .pos - 4) (b .filler) (32 - b .count) ds₀ j q ds → 4 ≤ j
+    → record { values = ds; bits = b′ } ≡ differences-from s row ls 16 0 (record { values = ds₀; bits = b })
+reached-end s row ls b b′ j q ds₀ ds at e l h =
+    let d = difference-end s row ls (4 * j) (record { values = ds; bits = state-at s (b .pos - 4) q (b .filler) }) (omega arith) in
+    rw e (sym (rw (← at .is) at (l .is) ∙ d))
