@@ -1,7 +1,7 @@
 -- A proposal that is taken is decoded, by every V0 decoder and over any buffer, to the samples meant, with no word missing and a map
 -- that is all 0: its frame is clean, so nothing of it rests on what a buffer held.
 use Prim.Native.Nat.{ℕ, zero, suc, _%_, _<_, _≤_}
-use mathlib.Core.Bool.{Bool, true, false, cond}
+use mathlib.Core.Bool.{Bool, true, false}
 use mathlib.Core.Path.{_≡_, refl, sym, ap, _∙_}
 use mathlib.Core.List.{List, _++_}
 use lib.Dec.{eqb}
@@ -14,7 +14,7 @@ use Rattle.rules.specs.V0.{decoded}
 use Rattle.rules.specs.Map.{v0-map}
 use Rattle.rules.specs.Answer as Plain
 use Rattle.rules.specs.Answer.{Decoder, direct, two-phase, Ask, Lent, done-with, done, refusal, stream-answer, frame-samples, frame-marks, unless-refused, samples-after, map-after}
-use Rattle.rules.proofs.Cells.{All, all-take}
+use Rattle.rules.proofs.Cells.{all-take}
 use Rattle.rules.proofs.Isolation.{Samples, IsV0, is-direct, is-two-phase}
 use Rattle.rules.proofs.Origins.{unmarked-same}
 use Rattle.rules.proofs.Refusals.{samples-enough}

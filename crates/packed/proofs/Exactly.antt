@@ -1,7 +1,7 @@
 -- A proposal is taken exactly if its size is within the limits, all that it needs is lent, no sample meant is above 16,383, the frame is
 -- clean, the stream is no longer than the writer's, and the frame decoded is the one meant.
 use Prim.Native.Nat.{ℕ, _<_, _≤_}
-use mathlib.Core.Bool.{Bool, true, false, cond, _||_, _&&_}
+use mathlib.Core.Bool.{Bool, true, false, cond, _&&_}
 use mathlib.Core.Path.{_≡_, refl, sym, ap, ap₂, _∙_}
 use mathlib.Core.List.{List, [], _∷_, _++_}
 use mathlib.Core.Option.{none}
@@ -11,7 +11,6 @@ use lib.ListN.{length, take, drop}
 use lib.Seq.{length-take-le, take-at}
 use borrow.Author.Tests.{ltb-false, le-ltb, eqb-true, eqb-false, eq-eqb}
 use Rattle.rules.specs.declared.answer.Answer.{Answer}
-use Rattle.rules.specs.declared.answer.Size.{Size}
 use Rattle.rules.specs.Frame.{cells}
 use Rattle.rules.specs.V0.{decoded}
 use Rattle.rules.specs.Answer as Plain
@@ -24,7 +23,7 @@ use Rattle.profile.proofs.Verdicts.{Clean, accepted-clean, clean-accepted}
 use Rattle.writers.specs.Calls.{any-above, too-bright}
 use Rattle.writers.specs.Writer.{stream-for}
 use Rattle.writers.proofs.CallLaws.{not-bright}
-use Rattle.packed.specs.Proposal.{Proposal, frame-of, asked, found, early, longer, before, scratch-after, same, answer}
+use Rattle.packed.specs.Proposal.{Proposal, frame-of, asked, early, longer, before, scratch-after, same, answer}
 
 -- ── The statement ──
 

@@ -1,10 +1,10 @@
 -- Calls that have returned: one that checks a proposal is done exactly of those that are to be taken, and of what a call of the writer
 -- made; what it took is decoded back by every call of a V0 decoder. Among others on one sample buffer it leaves 16-bit samples.
-use Prim.Native.Nat.{ℕ, _≤_, _<_}
+use Prim.Native.Nat.{ℕ, _≤_}
 use mathlib.Core.Bool.{Bool, true, false, cond}
 use mathlib.Core.Path.{_≡_, refl, sym, ap, _∙_}
 use mathlib.Core.List.{List, _++_}
-use mathlib.Core.Option.{Option, none, some, Option·map}
+use mathlib.Core.Option.{none, some, Option·map}
 use native.Mathlib.Omega.{arith}
 use lib.Dec.{eqb}
 use lib.ListN.{length, take, drop, replicate, length-take}
@@ -14,7 +14,6 @@ use Rattle.rules.specs.Frame.{cells}
 use Rattle.rules.specs.V0.{sample-kind, exchange}
 use Rattle.rules.specs.Answer as Plain
 use Rattle.rules.specs.Answer.{Decoder, done}
-use Rattle.rules.proofs.Cells.{All}
 use Rattle.rules.proofs.Isolation.{Returned, Samples, Step, IsV0, left-below}
 use Rattle.profile.proofs.Lists as Clean-lists
 use Rattle.writers.specs.declared.Written.{Written}
@@ -66,6 +65,18 @@ pub record Back (p : Proposal) (r : Returned) : Type 0 where
   pub answered : r .answered ≡ done
   pub samples : r .left .samples ≡ frame-of p ++ drop (cells (p .size)) (r .found .samples)
   pub map : (m : List ℕ) → r .found .map ≡ some m → r .left .map ≡ some (replicate (cells (p .size)) 0 ++ drop (cells (p .size)) m)
+
+-- The claim: of calls that check proposals, of the writer's, of decoders' and of those for clean frames, each told by what it was.
+-- The decoders' may be of any V0 decoder that is done or lent enough: directly, in two phases, in bands, for clean frames.
+pub record Claim {C W D K : Type 0} (checked : C → Checked) (wrote : W → Wrote) (returned : D → Returned) (cleaned : K → Clean-lists.Checked) : Type 0 where
+  pub exactly : (c : C) → Exactly (checked c)
+  pub writer-taken : (w : W) (c : C) (others : List ℕ) → wrote w .answered .answer .number ≡ 0 → checked c .proposal ≡ made (wrote w) others
+      → cells (wrote w .call .size) ≤ length (checked c .scratch) → checked c .answered ≡ done
+  pub decoded-back : (c : C) → checked c .answered .number ≡ 0 → Samples (checked c .scratch) → (r : D) (d : Decoder) → IsV0 d
+      → returned r .ask ≡ asked-of d (checked c .proposal) → Plain.refusal (returned r .ask) (Plain.lengths (returned r .found)) ≡ 0
+      → Samples (returned r .found .samples) → Back (checked c .proposal) (returned r)
+  pub clean-takes : (c : C) → checked c .answered .number ≡ 0 → Samples (checked c .scratch) → (k : K) → cleaned k .ask ≡ asked (checked c .proposal)
+      → Plain.refusal (cleaned k .ask) (Plain.lengths (Plain.buffers (cleaned k .samples) (cleaned k .map) none)) ≡ 0 → cleaned k .answered ≡ done
 
 -- ── Exactly ──
 
@@ -134,6 +145,16 @@ module _ (c : Checked) (zero : c .answered .number ≡ 0) (low : Samples (c .scr
       let l = Plain.lengths (Plain.buffers (k .samples) (k .map) none) in
       let ok : Plain.refusal (asked (c .proposal)) l ≡ 0 = rw same at lends in
       k .yields .answered ∙ rw same (clean-done (c .proposal) (c .scratch) low accepted l ok)
+
+pub claim : {C W D K : Type 0} (checked : C → Checked) (wrote : W → Wrote) (returned : D → Returned) (cleaned : K → Clean-lists.Checked)
+    → Claim checked wrote returned cleaned
+claim checked wrote returned cleaned =
+    record {
+      exactly = λ c. exactly (checked c);
+      writer-taken = λ w c others zero same room. writer-accepted (wrote w) zero others (checked c) same room;
+      decoded-back = λ c zero low r d v0 same lends below. decoded-back (checked c) zero low (returned r) d v0 same lends below;
+      clean-takes = λ c zero low k same lends. clean-takes (checked c) zero low (cleaned k) same lends;
+    }
 
 -- ── Among other calls ──
 

@@ -1,7 +1,7 @@
 -- What the writer makes of the samples meant is taken, whatever follows its offsets.
 use Prim.Native.Nat.{ℕ, _<_, _≤_}
 use mathlib.Core.Bool.{false}
-use mathlib.Core.Path.{_≡_, refl, sym, ap, _∙_}
+use mathlib.Core.Path.{_≡_}
 use mathlib.Core.List.{List, [], _++_, append-nil}
 use native.Mathlib.Omega.{arith}
 use lib.IntN.{ℤ, pos, negsuc}
@@ -23,7 +23,7 @@ use Rattle.writers.proofs.Rows.{offsets-length}
 use Rattle.writers.proofs.V0Written.{UpTo16, WrittenBlock}
 use Rattle.writers.proofs.V0RoundTrip.{Holds, written-holds, stream-bytes}
 use Rattle.packed.specs.Proposal.{Proposal, answer}
-use Rattle.packed.proofs.Exactly.{Begun, Accepted, accepted-done}
+use Rattle.packed.proofs.Exactly.{Accepted, accepted-done}
 
 -- ── A stream that holds a frame is clean ──
 
