@@ -2,8 +2,8 @@
 
 use compare::call::{Difference, Entry, razvolk, razvolk_in_bands, razvolk_of, with_map};
 use compare::{
-    bands, blank, clean, convert, jobs, late, lists, missing, planes, reader, record, refusals, states, uploads, v0,
-    v2, write,
+    bands, blank, clean, convert, jobs, late, lists, missing, packed, planes, reader, record, refusals, states,
+    uploads, v0, v2, write,
 };
 use std::fmt::Display;
 use std::path::Path;
@@ -13,7 +13,7 @@ use streams::Version::{V0, V2};
 
 const USAGE: &str = "usage: compare quick [SEED]
        compare long [SEED]
-       compare reader|states|v0|bands|clean|v2|v2-full|missing|uploads|late|refusals|lists|planes|write|blank|convert COUNT [SEED]
+       compare reader|states|v0|bands|clean|v2|v2-full|missing|uploads|late|refusals|lists|planes|write|blank|convert|packed COUNT [SEED]
        compare record FILE           writes recorded calls of the Rust
        compare record-check FILE     finds them equal
        compare jobs FOLDER           writes the job program's cases
@@ -28,7 +28,7 @@ struct Comparison {
     run: fn(u64, u64) -> Result<String, Difference>,
 }
 
-const COMPARISONS: [Comparison; 16] = [
+const COMPARISONS: [Comparison; 17] = [
     Comparison {
         name: "reader",
         quick: 20_000_000,
@@ -130,6 +130,12 @@ const COMPARISONS: [Comparison; 16] = [
         quick: 2_000,
         long: 50_250,
         run: |seed, n| Ok(convert::compare(&convert::compare::razvolk, seed, n, 250)?.to_string()),
+    },
+    Comparison {
+        name: "packed",
+        quick: 20_000,
+        long: 200_000,
+        run: |seed, n| Ok(packed::compare(&packed::compare::razvolk, seed, n)?.to_string()),
     },
 ];
 
