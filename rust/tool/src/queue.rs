@@ -6,6 +6,7 @@ use crate::input::{self, Identity, Input};
 use crate::look::{Look, Wanted};
 use crate::options::{self, Bare, Options};
 use crate::output::{self, Place, Staged};
+use crate::packed::Meant;
 use crate::worker::Worker;
 use crate::{json, report, told};
 use razvolk::srw::{self, Coding, Frame};
@@ -30,6 +31,8 @@ struct Shared<'a> {
     over: Option<(String, Frame<'a>)>,
     /// The row offsets of a bare V0 stream.
     offsets: Option<Vec<u32>>,
+    /// The samples that frames are meant to hold, where they are only checked.
+    meant: Option<Meant>,
 }
 
 /// What came of a file: what is told of it, what went wrong with it, and its exit status.
@@ -50,7 +53,11 @@ pub fn look(options: &Options) -> Result<u8, String> {
         let numbers = options::numbers(&String::from_utf8_lossy(&table.bytes));
         numbers.map_err(|fault| table.fault(fault))
     });
-    run(&jobs, &Shared { options, over, offsets: offsets.transpose()? })
+    let meant = options.check_packed.as_deref().map(|path| {
+        let file = Input::read(path, None)?;
+        Meant::of(&file, &camera(&file)?)
+    });
+    run(&jobs, &Shared { options, over, offsets: offsets.transpose()?, meant: meant.transpose()? })
 }
 
 /// The frames that are to be decoded, with places for their outputs that harm no file.
@@ -90,7 +97,7 @@ fn run(jobs: &[Job], shared: &Shared) -> Result<u8, String> {
             });
         }
         drop(sender);
-        let done = tell(jobs, outcomes.iter(), shared.options.json);
+        let done = tell(jobs, outcomes.iter(), shared.options);
         // Where nobody listens any more, no further file is begun.
         next.store(jobs.len(), Ordering::Relaxed);
         done
@@ -98,7 +105,8 @@ fn run(jobs: &[Job], shared: &Shared) -> Result<u8, String> {
 }
 
 /// Tells what came of the files, in their order, and of several files how many came out how.
-fn tell(jobs: &[Job], outcomes: impl Iterator<Item = (usize, Outcome)>, json: bool) -> Result<u8, String> {
+fn tell(jobs: &[Job], outcomes: impl Iterator<Item = (usize, Outcome)>, options: &Options) -> Result<u8, String> {
+    let json = options.json;
     let show_progress = jobs.len() > 1 && io::stderr().is_terminal();
     let (mut early, mut turn, mut statuses) = (BTreeMap::new(), 0, [0; 4]);
     for (done, (i, outcome)) in (1..).zip(outcomes) {
@@ -122,10 +130,11 @@ fn tell(jobs: &[Job], outcomes: impl Iterator<Item = (usize, Outcome)>, json: bo
     }
     if jobs.len() > 1 && !json {
         let [clean, refused, unread, marked] = statuses;
-        let all = jobs.len();
-        told(&format!(
-            "{all} files: {clean} clean, {marked} with samples old or missing, {refused} refused, {unread} not read or written\n"
-        ))?;
+        let good = match options.check_packed {
+            None => format!("{clean} clean, {marked} with samples old or missing"),
+            Some(_) => format!("{clean} taken"),
+        };
+        told(&format!("{} files: {good}, {refused} refused, {unread} not read or written\n", jobs.len()))?;
     }
     Ok([2, 1, 3].into_iter().find(|&status| statuses[usize::from(status)] > 0).unwrap_or(0))
 }
@@ -140,7 +149,7 @@ fn one(worker: &mut Worker, job: &Job, shared: &Shared) -> Outcome {
 }
 
 fn decode(worker: &mut Worker, job: &Job, shared: &Shared, text: &mut String) -> Result<u8, String> {
-    let Shared { options, over, offsets } = shared;
+    let Shared { options, over, offsets, meant } = shared;
     let file = Input::read(&job.path, job.identity)?;
     let frame = match &options.bare {
         None => camera(&file)?,
@@ -149,6 +158,14 @@ fn decode(worker: &mut Worker, job: &Job, shared: &Shared, text: &mut String) ->
             Frame::new(coding, *width, *height, &file.bytes)
         }
     };
+    if let Some(meant) = meant {
+        let checked = meant.check(worker, &frame).map_err(|fault| file.fault(fault))?;
+        *text += &match options.json {
+            true => json::frame(&job.path, &frame, checked.answer, None, None),
+            false => checked.text(&file.name(), &frame),
+        };
+        return Ok(checked.status());
+    }
     // What is told does not depend on what the buffer holds; what is written does.
     if !job.outputs.is_empty() {
         worker.clear();
