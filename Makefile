@@ -67,6 +67,7 @@ compare-long: $(archive)
 	$(cargo_run) -p compare -- missing 400 $(SEED)
 	$(cargo_run) -p compare -- uploads 200 $(SEED)
 	$(cargo_run) -p compare -- late 20_000 $(SEED)
+	$(cargo_run) -p compare -- packed 200_000 $(SEED)
 
 # Razvolk and the Rust timed in turn on the same frames, three to four minutes.
 bench: $(archive)

@@ -44,11 +44,14 @@ extern "C" {
  *  17  for clean frames: a block of row 0 or 1 has direction 1                      every buffer as it was
  *  18  for clean frames: a length is outside 0 to 16 after its block's operations   every buffer as it was
  *  19  for clean frames: a word was missing by the end of a block                   every buffer as it was
+ *  20  packed by others: a sample of the decoded frame is not the one meant         the frame is decoded, in the scratch
+ *  21  packed by others: the stream is longer than what the writer makes            every buffer as it was
  *
  * 1 to 4 are tested in this order, then in bands 11 and 12, for clean frames 17 to 19; then the stream decides. 9 and 10 are a
  * writer's, which tests 1, 3, 9 and 10. Blanking tests 1, 3, 4, 14 and 13; the export goes on to 9 and 10, which leave the frame
- * blanked. V0 into V2 tests 1 to 4 and 15, and when the frame is decoded 16, 9 and 10. `row` is the row at fault of 5 to 8 and of
- * 17 to 19, else 0. Samples and map bytes from N on never change.
+ * blanked. V0 into V2 tests 1 to 4 and 15, and when the frame is decoded 16, 9 and 10. What others packed is tested by 1, 3, 9, 3,
+ * 17 to 19 and 21, and when the frame is decoded by 20. `row` is the row at fault of 5 to 8 and of 17 to 19, else 0. Samples and
+ * map bytes from N on never change.
  *
  * `filler` is how many words of 4 bytes were missing: fetched where fewer than 4 bytes of the stream remained, and read as ones.
  * The direct V0 decoder tells it when it is done, as the sum over its rows, and V2 with 5 to 8, up to the refusal and from the
@@ -80,6 +83,8 @@ typedef struct {
 #define RAZVOLK_EARLY_UPWARD    17u
 #define RAZVOLK_BAD_LENGTH      18u
 #define RAZVOLK_MISSING_WORD    19u
+#define RAZVOLK_OTHER_SAMPLE    20u
+#define RAZVOLK_LONG_STREAM     21u
 
 /* The limits that they speak of. */
 #define RAZVOLK_MOST_SIDE 16384u       /* 1 */
@@ -248,6 +253,18 @@ razvolk_exported razvolk_export_v0(uint16_t *samples, size_t samples_len, const 
 razvolk_written razvolk_v0_to_v2(const uint8_t *src, size_t src_len, const uint32_t *offsets, size_t offsets_len, size_t width,
                                  size_t height, uint16_t *samples, size_t samples_len, uint8_t *map, size_t map_len,
                                  uint8_t *stream, size_t stream_len);
+
+/* Packed by an outside optimiser: whether a V0 stream and its offsets, found by whatever means, hold the samples meant, and are
+ * taken. They are, exactly if the frame is clean, as razvolk_decode_v0_clean has it, decodes to the first N samples of meant, none
+ * of which is above 16,383, and the stream has no more bytes than razvolk_write_v0 makes of them: src_len is the stream's length.
+ * What razvolk_write_v0 makes is taken, and so every V0 decoder gives the samples of what is taken back, over any buffer.
+ * 0                       taken; the first N samples of scratch are the frame
+ * 1, 3, 9, 3, 17..19, 21  nothing is written. 3 if meant has fewer than N samples; after 9, if scratch has, or if there are fewer
+ *                         offsets than rows
+ * 20                      a sample differs; the first N samples of scratch are the frame that was decoded */
+razvolk_answer razvolk_check_packed(const uint8_t *src, size_t src_len, const uint32_t *offsets, size_t offsets_len, size_t width,
+                                    size_t height, const uint16_t *meant, size_t meant_len, uint16_t *scratch,
+                                    size_t scratch_len);
 
 /* A bit reader's state. The stream is words of 4 bytes, lowest byte first, and a word's highest bit is read first. A reader
  * that starts at a byte position is { position, 0, 0, 0 }. */

@@ -306,6 +306,29 @@ static void v0_to_v2(void) {
     expect(RAZVOLK_V2_MOST(16, 1) == 64 && RAZVOLK_V2_MOST(16384, 16384) == 555745296, "RAZVOLK_V2_MOST");
 }
 
+/* What another program packed: row 2 looks up, and takes 4 bytes where the writer's takes 8. */
+static void check_packed(void) {
+    static const uint8_t upward[20] = {36, 0, 192, 127, 0, 0, 0, 0, 43, 0, 200, 127, 0, 0, 0, 0, 0, 0, 128, 255};
+    static const uint8_t longer[5] = {0x00, 0x00, 0x80, 0x7f, 0};
+    static const uint32_t rows[3] = {0, 8, 16}, early[3] = {0, 16, 16};
+    uint16_t meant[3] = {200, 300, 300}, other[3] = {200, 300, 301}, bright[3] = {200, 300, 16384}, grey[1] = {128};
+    uint16_t left[4] = {7, 7, 7, 7};
+    razvolk_answer answer = razvolk_check_packed(upward, 20, early, 3, 1, 3, bright, 3, left, 2);
+    expect(answer.number == RAZVOLK_TOO_BRIGHT && answer.row == 0, "9 comes before 3 of the scratch and 17");
+    answer = razvolk_check_packed(upward, 20, early, 3, 1, 3, meant, 3, left, 2);
+    expect(answer.number == RAZVOLK_SHORT_SAMPLES && answer.row == 0, "2 scratch samples are refused by 3");
+    answer = razvolk_check_packed(upward, 20, early, 3, 1, 3, meant, 3, left, 4);
+    expect(answer.number == RAZVOLK_EARLY_UPWARD && answer.row == 1 && answer.filler == 0, "row 1 looks up");
+    answer = razvolk_check_packed(longer, 5, rows, 3, 1, 1, grey, 1, left, 4);
+    expect(answer.number == RAZVOLK_LONG_STREAM && left[0] == 7, "a byte more than the writer's is refused by 21");
+    answer = razvolk_check_packed(upward, 20, rows, 3, 1, 3, meant, 3, left, 4);
+    expect(answer.number == RAZVOLK_DONE && answer.row == 0 && answer.filler == 0, "check_packed");
+    expect(memcmp(left, meant, sizeof meant) == 0 && left[3] == 7, "the scratch holds the frame, and what lies past it");
+    left[2] = 7;
+    answer = razvolk_check_packed(upward, 20, rows, 3, 1, 3, other, 3, left, 4);
+    expect(answer.number == RAZVOLK_OTHER_SAMPLE && left[2] == 300, "another sample is refused by 20, and the scratch holds it");
+}
+
 /* NULL with length 0, wherever a slice may have no elements. */
 static void null(void) {
     static const uint32_t one[1] = {0};
@@ -341,6 +364,8 @@ static void null(void) {
     expect(exported.answer.number == RAZVOLK_DONE && exported.length == 0, "export_v0 of NULL");
     written = razvolk_v0_to_v2(NULL, 0, NULL, 0, 16, 1, NULL, 0, NULL, 0, NULL, 0);
     expect(written.answer.number == RAZVOLK_TOO_SMALL && written.length == 0, "v0_to_v2 of NULL");
+    answer = razvolk_check_packed(NULL, 0, NULL, 0, 5, 0, NULL, 0, NULL, 0);
+    expect(answer.number == RAZVOLK_DONE, "check_packed of NULL");
     razvolk_got got = razvolk_get(NULL, 0, state, 8);
     expect(got.value == 255 && got.bits.filler == 1, "get of NULL");
 }
@@ -373,6 +398,7 @@ int main(void) {
     write_v0();
     blank();
     v0_to_v2();
+    check_packed();
     null();
     named();
     puts(failed ? "header: FAILED" : "header: ok");

@@ -4,7 +4,8 @@
  * stream with map byte 0 is final, and that a frame taken as clean has a map of zeros and misses no word. Calls the writer with
  * any samples, sizes and buffers, and holds it to its refusal, to the length that is worked out apart, and to the decoders, which
  * must give the samples back. Blanks frames by any map, and holds what is set, listed and exported to a plain loop. Calls V0 into
- * V2 likewise, and holds it to the V0 decoder, whose samples and map it must leave, and to the V2 decoder.
+ * V2 likewise, and holds it to the V0 decoder, whose samples and map it must leave, and to the V2 decoder. Has streams checked as
+ * if others had packed them, and holds the verdict to the decoder for clean frames and to the length that is worked out apart.
  *
  *     hostile [pages|heap [COUNT[s] [SEED]]]      COUNT rounds, or COUNT seconds; by itself: pages, 300 rounds
  *
@@ -23,7 +24,7 @@
 #include <unistd.h>
 
 /* The highest number that is answered. */
-#define MOST_NUMBER 19
+#define MOST_NUMBER 21
 
 static bool heap = false;
 static unsigned long rounds = 0, calls = 0, numbers[MOST_NUMBER + 1];
@@ -1031,8 +1032,89 @@ static void play_converter(void) {
     give_back(a.src), give_back(a.offsets), give_back(a.steps);
 }
 
+/* ---- Packed by others. */
+
+/* A stream with its offsets, as if others had packed it: what the writer makes, one byte longer, cut, with a bit turned, with a
+ * first block that looks up, or with rows told elsewhere; of a frame that can't be written any bytes. */
+static void pack(to_write *w, bool writable) {
+    size_t bytes = writable ? stream_bytes(w) : below(60), rows = writable ? w->height : below(20);
+    slice made = lend(bytes + 1), offsets = lend(4 * (rows + below(3)));
+    scatter(made.data, made.bytes);
+    scatter(offsets.data, offsets.bytes);
+    if (writable)
+        razvolk_write_v0(READ_SAMPLES(w->samples), w->width, w->height, BYTES(made), WRITTEN_OFFSETS(offsets));
+    switch (below(10)) {
+    case 0:
+        bytes++;
+        break;
+    case 1:
+        bytes -= below(bytes + 1);
+        break;
+    case 2:
+        made.data[below(made.bytes)] ^= (uint8_t)(1 << below(8));
+        break;
+    case 3:
+        if (bytes > 3)
+            made.data[3] |= 0x80;
+        break;
+    case 4:
+        for (size_t i = 0; i < offsets.bytes / 4; i++) {
+            uint32_t offset = (uint32_t)(4 * below(bytes / 4 + 2));
+            memcpy(offsets.data + 4 * i, &offset, 4);
+        }
+        break;
+    case 5:
+        offsets.bytes -= rows > 0 ? offsets.bytes - 4 * (rows - 1) : 0;
+        break;
+    }
+    w->stream = copy(made.data, bytes), w->offsets = copy(offsets.data, offsets.bytes);
+    close_for_writing(w->stream), close_for_writing(w->offsets);
+    give_back(made), give_back(offsets);
+}
+
+/* What must be answered, over scratch samples as they are, which it decodes into: by the writer's refusals, by the decoder for
+ * clean frames, by the stream's length, and by the samples. */
+static razvolk_answer verdict(const to_write *w, slice scratch) {
+    razvolk_answer answer = {unwritable(w), 0, 0};
+    size_t n = w->width * w->height;
+    if (answer.number > 0)
+        return answer;
+    slice old = copy(scratch.data, scratch.bytes);
+    answer = razvolk_decode_v0_clean(BYTES(w->stream), WORDS(w->offsets), w->width, w->height, SAMPLES(scratch));
+    if (answer.number == 0 && w->stream.bytes > stream_bytes(w)) {
+        answer.number = 21;
+        if (scratch.bytes > 0)
+            memcpy(scratch.data, old.data, scratch.bytes);
+    } else if (answer.number == 0 && !same(scratch.data, w->samples.data, 2 * n))
+        answer.number = 20;
+    give_back(old);
+    return answer;
+}
+
+static void play_packed(void) {
+    to_write w = any_frame();
+    uint32_t refused = unwritable(&w);
+    pack(&w, refused == 0);
+    size_t n = refused == 1 ? 0 : w.width * w.height;
+    slice scratch = lend(2 * (below(8) == 0 ? below(n + 1) : n + below(3)));
+    scatter(scratch.data, scratch.bytes);
+    slice left = copy(scratch.data, scratch.bytes);
+    razvolk_answer answer = razvolk_check_packed(BYTES(w.stream), WORDS(w.offsets), w.width, w.height, READ_SAMPLES(w.samples),
+                                                 SAMPLES(scratch));
+    calls++;
+    razvolk_answer expected = verdict(&w, left);
+    numbers[expected.number]++;
+    expect(answer.number == expected.number && answer.row == expected.row && answer.filler == 0, "the verdict on what is packed");
+    expect(same(scratch.data, left.data, left.bytes), "the scratch after the verdict");
+    if (answer.number == 0)
+        decodes_back(&w);
+    give_back(w.samples), give_back(w.stream), give_back(w.offsets);
+    give_back(scratch), give_back(left);
+}
+
 /* What is played in each round. Functions of a new kind are a row here. */
-static void (*const plays[])(void) = {play_decoders, play_reader, play_planes, play_writer, play_blanking, play_converter};
+static void (*const plays[])(void) = {play_decoders, play_reader,    play_planes, play_writer,
+                                      play_blanking, play_converter, play_packed};
 
 int main(int argc, char **argv) {
     const char *count = argc > 2 ? argv[2] : "300";

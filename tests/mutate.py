@@ -24,9 +24,9 @@ from pathlib import Path
 
 ROOT = Path(__file__).resolve().parent.parent
 # Files of specs/ that hold no rule: roots, worked examples, and the ranges that V2's theorems state.
-NO_RULES = {"Lib", "Examples", "Ranges"}
+NO_RULES = {"Lib", "Examples", "Cases", "Ranges"}
 # Files of proofs/ that hold worked examples.
-EXAMPLES = re.compile(r"/proofs/(Examples|Pins)\b")
+EXAMPLES = re.compile(r"/proofs/(Examples|Pins|Cases)\b")
 SECONDS = 600
 
 # ---- Tokens

@@ -202,10 +202,13 @@ refusals! {
     /// | 17 | for clean frames: a block of row 0 or 1 has direction 1 | every buffer as it was |
     /// | 18 | for clean frames: a length is outside 0 to 16 after its block's operations | every buffer as it was |
     /// | 19 | for clean frames: a word was missing by the end of a block | every buffer as it was |
+    /// | 20 | packed by others: a sample of the decoded frame is not the one meant | the frame is decoded, in the scratch |
+    /// | 21 | packed by others: the stream is longer than what the writer makes | every buffer as it was |
     ///
     /// A decoder tests 1 to 4 in this order, in bands then 11 and 12, for clean frames then 17 to 19 block by block, a writer 1,
     /// 3, 9 and 10, blanking 1, 3, 4, 14 and 13; the export goes on to 9 and 10, which leave the frame blanked and write nothing.
-    /// V0 into V2 tests 1 to 4 and 15, and when the frame is decoded 16, 9 and 10. After 5 to 8 the map describes the samples as
+    /// V0 into V2 tests 1 to 4 and 15, and when the frame is decoded 16, 9 and 10. What others packed is tested by 1, 3, 9, 3, 17
+    /// to 19 and 21, and when the frame is decoded by 20. After 5 to 8 the map describes the samples as
     /// they are left; the row in which the stream ended has ones in place of the missing bits. 5 to 8 carry how many words were
     /// missing up to there, from the header on: [`Refusal::filler_words`].
     ///
@@ -236,6 +239,8 @@ refusals! {
     17 EarlyUpward { row } "row {row} isn't clean: a block looks up to rows that do not exist";
     18 BadLength { row } "row {row} isn't clean: a length is outside 0 to 16";
     19 MissingWord { row } "row {row} isn't clean: the stream ends in it";
+    20 OtherSample "a sample isn't the one that is meant";
+    21 LongStream "the stream is longer than what the writer makes";
 }
 
 impl Refusal {

@@ -76,6 +76,8 @@ exports! {
     fn razvolk_v0_to_v2(
         src: &[u8], offsets: &[u32], width: usize, height: usize, samples: &mut [u16], map: &mut [u8],
         stream: &mut [u8]) -> Written;
+    fn razvolk_check_packed(
+        src: &[u8], offsets: &[u32], width: usize, height: usize, meant: &[u16], scratch: &mut [u16]) -> Answer;
     fn razvolk_get(src: &[u8], state: Bits, n: u32) -> Got;
     fn razvolk_reset_at(state: Bits, pos: u64) -> Bits;
 }

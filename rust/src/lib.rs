@@ -23,7 +23,7 @@
 //! All give the same samples. [`decode_v0_clean`] takes only frames with nothing inherited. [`write_v0`] writes samples as V0,
 //! for storage; [`write_v0_to_vecs`] asks for the memory, too. [`blank`] sets the samples that rest on an earlier frame to what
 //! lies to their left, [`blank_with`] to a flat value, and [`export_v0`] sets them to 0 and writes the frame. [`v0_to_v2`] turns a
-//! V0 frame into V2. [`srw`] reads and writes a camera's file, and [`Ph1Bits`] is the bit reader. Who comes from `samsung.rs`
+//! V0 frame into V2. [`check_packed`] takes a stream that another program packed, if it is no worse. [`srw`] reads and writes a camera's file, and [`Ph1Bits`] is the bit reader. Who comes from `samsung.rs`
 //! finds each call in `docs/MIGRATION.md`.
 #![warn(missing_docs)]
 #![deny(unsafe_code)]
@@ -38,6 +38,7 @@ mod decoder;
 #[allow(unsafe_code)]
 mod ffi;
 mod marks;
+mod packed;
 mod ph1bits;
 mod planes;
 pub mod srw;
@@ -52,6 +53,7 @@ pub use clean::{decode_v0_clean, decode_v0_clean_map};
 pub use convert::{most_v2_bytes, v0_to_v2};
 pub use decoder::{Decoder, MAX_SIDE};
 pub use marks::{Marks, Run};
+pub use packed::check_packed;
 pub use ph1bits::Ph1Bits;
 pub use planes::{from_planes, to_planes};
 pub use v0::{decode_v0, decode_v0_reference, decode_v0_reference_map, scratch_len};

@@ -7,3 +7,5 @@ pub mod ExportedFrames
 pub mod ConvertLaws
 pub mod Converted
 pub mod ConvertExamples
+pub mod ProposalLaws
+pub mod Proposed

@@ -3,6 +3,7 @@ pub mod blanks;
 pub mod colour;
 pub mod convert;
 pub mod export;
+pub mod proposal;
 pub mod writer;
 
 pub use blanks::blank;
@@ -12,4 +13,5 @@ pub use colour::to_planes;
 pub use convert::v0_to_v2;
 pub use export::Exported;
 pub use export::export_v0;
+pub use proposal::check_packed;
 pub use writer::write_v0;

@@ -21,7 +21,9 @@ use Rattle.blanking.proofs.Isolation as Blanked
 use Rattle.frames.specs.Export.{export}
 use Rattle.frames.proofs.ExportedFrames.{Exports, exported-isolation}
 use Rattle.frames.proofs.ExportedFrames as Exported
+use Rattle.packed.proofs.Returned.{step as packed-step}
 use Rattle.razvolk.proofs.Isolation.{Any, step, Final, final}
+use Rattle.razvolk.proofs.Proposed.{Checks, checks}
 use Rattle.razvolk.proofs.blanks.razvolk_blank_with.Kinds as with-kinds
 use Rattle.razvolk.proofs.blanks.razvolk_blank_with.Reads as with-reads
 use Rattle.razvolk.proofs.blanks.razvolk_blank_with.Statement as with-stated
@@ -93,18 +95,20 @@ pub export-fill : (c : Exporting) → exports c .export .blank .fill ≡ stated 
 unfolding exports
 export-fill c = refl
 
--- ── Lists of calls, those that blank and export among them ──
+-- ── Lists of calls, those that blank, export and check what was packed among them ──
 
 pub data Many : Type 0 where
   decoding : Any → Many
   blanking : Blanking → Many
   exporting : Exporting → Many
+  checking : Checks → Many
 
 unfoldable pub steps : Many → Step
 steps (decoding c) = step c
 steps (blanking b) = blank-step (blanks b .call) (blanks b .samples) (blanks b .yields .samples-left) (fits b)
 steps (exporting c) =
     blank-step (exports c .export .blank) (exports c .samples) (exports c .yields .samples-left) (rw (export-fill c) (stated-fits 0 (lit< tt)))
+steps (checking c) = packed-step (checks c)
 
 -- Demand 3 holds of such lists, too.
 abbrev pub Isolation : Type 0

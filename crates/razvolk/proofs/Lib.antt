@@ -2,5 +2,6 @@
 pub mod AtWork
 pub mod Isolation
 pub mod RoundTrip
+pub mod Proposed
 pub mod BlankedFrames
 pub mod Converted

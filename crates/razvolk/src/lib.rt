@@ -6,6 +6,7 @@ pub mod colour;
 pub mod convert;
 pub mod direct;
 pub mod in_bands;
+pub mod proposal;
 pub mod reader;
 pub mod two_phase;
 pub mod v2;

@@ -68,6 +68,12 @@ impl Answer {
     // For clean frames: a word was missing by the end of a block.
     pub const MISSING_WORD: u32 = 19;
 
+    // Packed by others: a sample of the decoded frame isn't the one meant.
+    pub const OTHER_SAMPLE: u32 = 20;
+
+    // Packed by others: the stream is longer than what the writer makes.
+    pub const LONG_STREAM: u32 = 21;
+
     // Done, and so many words were missing.
     pub fn done_with(filler: u64) -> Answer
         ensures { λ r. ⌜ r ≡ done-with filler ⌝ }

@@ -15,6 +15,7 @@ pub mod jobs;
 pub mod late;
 pub mod lists;
 pub mod missing;
+pub mod packed;
 pub mod planes;
 pub mod reader;
 pub mod record;

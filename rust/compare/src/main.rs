@@ -2,8 +2,8 @@
 
 use compare::call::{Difference, Entry, razvolk, razvolk_in_bands, razvolk_of, with_map};
 use compare::{
-    bands, blank, clean, convert, jobs, late, lists, missing, planes, reader, record, refusals, states, uploads, v0,
-    v2, write,
+    bands, blank, clean, convert, jobs, late, lists, missing, packed, planes, reader, record, refusals, states,
+    uploads, v0, v2, write,
 };
 use std::fmt::Display;
 use std::path::Path;
@@ -13,7 +13,7 @@ use streams::Version::{V0, V2};
 
 const USAGE: &str = "usage: compare quick [SEED]
        compare long [SEED]
-       compare reader|states|v0|bands|clean|v2|v2-crops|v2-full|missing|uploads|late|refusals|lists|planes|write|blank|convert|convert-full COUNT [SEED]
+       compare reader|states|v0|bands|clean|v2|v2-crops|v2-full|missing|uploads|late|refusals|lists|planes|write|blank|convert|convert-full|packed COUNT [SEED]
        compare record FILE           writes recorded calls of the Rust
        compare record-check FILE     finds them equal
        compare jobs FOLDER           writes the job program's cases
@@ -142,6 +142,12 @@ const COMPARISONS: &[Comparison] = &[
         quick: 0,
         long: 200,
         run: |seed, n| Ok(convert::compare::compare_full(&convert::compare::razvolk, seed, n)?.to_string()),
+    },
+    Comparison {
+        name: "packed",
+        quick: 20_000,
+        long: 200_000,
+        run: |seed, n| Ok(packed::compare(&packed::compare::razvolk, seed, n)?.to_string()),
     },
 ];
 

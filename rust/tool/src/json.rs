@@ -3,27 +3,15 @@
 use crate::input::steers;
 use crate::look::Look;
 use crate::report::{Rows, alike};
-use razvolk::Marks;
 use razvolk::srw::{Frame, V2Header};
+use razvolk::{Marks, Refusal};
 use std::fmt::{Display, Write};
 use std::path::Path;
 
 /// A frame that was decoded, or refused.
 pub fn frame(path: &Path, frame: &Frame, look: &Look) -> String {
-    let Frame { coding, width, height, stream, missing, bits, .. } = frame;
     let marks = look.decoded.map(|decoded| decoded.marks);
-    let refusal = look.answer.err();
-    let mut line = Line::of(path);
-    line.field("version", string(&coding.to_string())).field("width", width).field("height", height);
-    line.field("bits", number(*bits));
-    if let Some(V2Header { width, height, depth }) = frame.v2_header() {
-        line.field("header", format!("{{\"width\":{width},\"height\":{height},\"bits\":{depth}}}"));
-    }
-    line.field("stream_bytes", stream.len()).field("missing_bytes", missing);
-    line.field("missing_words", marks.map_or(0, Marks::filler_words));
-    line.field("answer", refusal.map_or(0, |refusal| refusal.number()));
-    line.field("row", refusal.map_or(0, |refusal| refusal.row()));
-    line.field("text", string(&refusal.map_or("done".into(), |refusal| refusal.to_string())));
+    let mut line = answered(path, frame, look.answer, marks.map_or(0, Marks::filler_words));
     if let Some(over) = look.over {
         line.field("over", over.map_or_else(|refusal| refusal.number(), |()| 0));
     }
@@ -38,6 +26,28 @@ pub fn frame(path: &Path, frame: &Frame, look: &Look) -> String {
         line.field("blanked", number(fill));
     }
     line.0 + "}\n"
+}
+
+/// A frame that another program packed, taken or refused: no word of it that was read is missing.
+pub fn checked(path: &Path, frame: &Frame, answer: Result<(), Refusal>) -> String {
+    answered(path, frame, answer, 0).0 + "}\n"
+}
+
+/// What the file says of a frame, and the answer to it.
+fn answered(path: &Path, frame: &Frame, answer: Result<(), Refusal>, missing_words: u64) -> Line {
+    let Frame { coding, width, height, stream, missing, bits, .. } = frame;
+    let refusal = answer.err();
+    let mut line = Line::of(path);
+    line.field("version", string(&coding.to_string())).field("width", width).field("height", height);
+    line.field("bits", number(*bits));
+    if let Some(V2Header { width, height, depth }) = frame.v2_header() {
+        line.field("header", format!("{{\"width\":{width},\"height\":{height},\"bits\":{depth}}}"));
+    }
+    line.field("stream_bytes", stream.len()).field("missing_bytes", missing).field("missing_words", missing_words);
+    line.field("answer", refusal.map_or(0, |refusal| refusal.number()));
+    line.field("row", refusal.map_or(0, |refusal| refusal.row()));
+    line.field("text", string(&refusal.map_or("done".into(), |refusal| refusal.to_string())));
+    line
 }
 
 /// What is told of a file that has no frame, or can't be read or written: one object, with what was told of it before.

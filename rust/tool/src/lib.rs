@@ -1,7 +1,7 @@
 //! The tool `razvolk` as a library, so that its tests and the fuzzer run what its user runs. [`main`] reads the command line
 //! ([`options`]) and does what it asks for ([`queue`]): reads the files ([`input`]), finds the frames ([`razvolk::srw`]),
-//! decodes them and tells what they rest on ([`look`], [`worker`], [`report`], [`json`]), and writes what is asked for
-//! ([`form`]: [`pgm`], [`png`], [`v0`], [`v2`]) without harm to a file ([`output`]).
+//! decodes them and tells what they rest on ([`look`], [`worker`], [`report`], [`json`]), or checks what others packed
+//! ([`packed`]), and writes what is asked for ([`form`]: [`pgm`], [`png`], [`v0`], [`v2`]) without harm to a file ([`output`]).
 #![forbid(unsafe_code)]
 
 mod deflate;
@@ -11,6 +11,7 @@ pub mod json;
 pub mod look;
 pub mod options;
 pub mod output;
+pub mod packed;
 pub mod pgm;
 pub mod planes;
 pub mod png;

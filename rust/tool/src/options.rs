@@ -25,6 +25,9 @@ usage: razvolk [OPTIONS] FILE.srw|FOLDER|- ...
                    their runs, and write the frame so
   --clean          decode a V0 frame only if it is clean: no block of rows 0 and 1 looks up, no length is outside 0 to 16, and
                    no word is missing; else the first fault is told, and nothing is written
+  --check-packed MEANT.srw
+                   decode MEANT.srw, and check V0 frames that another program packed of it: each must be clean, hold the same
+                   samples, and have no more bytes of stream than --write-v0 would make; nothing is written
   --jobs N         decode with N workers, one buffer each; else one for each processor
   --json           tell in JSON, one object a frame (below)
 
@@ -53,8 +56,8 @@ words), old_rows and filler_rows (first, last, and samples of each row), runs of
 blanked: FILL, or null
 
 exit status, of several frames the first that there is of 2, 1, 3, 0:
-  0  all frames are done, and clean
-  1  a frame is refused by the decoder
+  0  all frames are done, and clean; with --check-packed, taken
+  1  a frame is refused
   2  bad options, or a file that can't be read or written, or that has no frame
   3  a frame is done, and samples of it rest on old values or missing words, or bytes of it are missing
 ";
@@ -74,6 +77,8 @@ pub struct Options {
     pub files: Vec<PathBuf>,
     pub bare: Option<Bare>,
     pub over: Option<PathBuf>,
+    /// The file with the samples that frames are meant to hold, where they are only checked.
+    pub check_packed: Option<PathBuf>,
     /// Whether frames are to be blanked, and the fill if one is stated.
     pub blank: Option<Option<u16>>,
     pub pgm: Option<PathBuf>,
@@ -147,6 +152,7 @@ pub fn read(words: impl IntoIterator<Item = OsString>) -> Result<Asked, String> 
             "--v2" => once(&name, &mut v2, size(&value()?)?)?,
             "--offsets" => once(&name, &mut offsets, value()?.into())?,
             "--over" => once(&name, &mut options.over, value()?.into())?,
+            "--check-packed" => once(&name, &mut options.check_packed, value()?.into())?,
             "--pgm" => once(&name, &mut options.pgm, output(value()?)?)?,
             "--png" => once(&name, &mut options.png, output(value()?)?)?,
             "--planes" => once(&name, &mut options.planes, output(value()?)?)?,
@@ -174,9 +180,14 @@ pub fn read(words: impl IntoIterator<Item = OsString>) -> Result<Asked, String> 
         }
     }
     options.bare = bare(v0, v2, offsets)?;
-    let read = options.files.iter().map(PathBuf::as_path).chain(options.over.as_deref()).chain(options.offsets());
+    let read = options.files.iter().map(PathBuf::as_path).chain(options.over.as_deref());
+    let read = read.chain(options.check_packed.as_deref()).chain(options.offsets());
     let stdin = read.filter(|file| is_stdin(file)).count();
+    let others = options.over.is_some() || options.blank.is_some() || options.clean || !options.outputs().is_empty();
     match options.files.len() {
+        _ if options.check_packed.is_some() && others => {
+            Err("--check-packed writes nothing, and goes without --over, --blank and --clean".into())
+        }
         0 => Err("no file is named".into()),
         2.. if options.bare.is_some() => Err("one bare stream at a time".into()),
         _ if stdin > 1 => Err("standard input is read once".into()),
@@ -243,6 +254,7 @@ mod tests {
             files: vec!["a.srw".into(), "b=.srw".into(), "-".into()],
             bare: None,
             over: Some("c.srw".into()),
+            check_packed: None,
             blank: Some(Some(512)),
             pgm: Some("d".into()),
             png: Some("e=f".into()),
@@ -272,6 +284,14 @@ mod tests {
     }
 
     #[test]
+    fn what_others_packed() {
+        let options =
+            |json| Options { files: vec!["a".into()], check_packed: Some("m".into()), json, ..Options::default() };
+        assert_eq!(asked("--check-packed m a"), Ok(Asked::Look(options(false).into())));
+        assert_eq!(asked("a --json --check-packed=m"), Ok(Asked::Look(options(true).into())));
+    }
+
+    #[test]
     fn bare_streams() {
         let bare = |offsets| Some(Bare { width: 646, height: 436, offsets });
         let look = |bare| Ok(Asked::Look(Options { files: vec!["s".into()], bare, ..Options::default() }.into()));
@@ -292,6 +312,15 @@ mod tests {
             ("--blank=x s", "x is no number up to 65535"),
             ("--blank --blank 5 s", "--blank is told twice"),
             ("--blank 5", "no file is named"),
+            ("--check-packed m", "no file is named"),
+            (
+                "--check-packed m a --clean",
+                "--check-packed writes nothing, and goes without --over, --blank and --clean",
+            ),
+            (
+                "--check-packed m a --pgm p",
+                "--check-packed writes nothing, and goes without --over, --blank and --clean",
+            ),
             ("--gif a", "there is no option --gif"),
             ("-x a", "there is no option -x"),
             ("--force=a b", "--force takes no value"),

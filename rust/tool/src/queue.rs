@@ -6,6 +6,7 @@ use crate::input::{self, Identity, Input};
 use crate::look::{Look, Wanted};
 use crate::options::{self, Bare, Options};
 use crate::output::{self, Place, Staged};
+use crate::packed::Meant;
 use crate::worker::Worker;
 use crate::{POINTER, complaint, json, report};
 use razvolk::srw::{self, Coding, Frame};
@@ -30,6 +31,8 @@ struct Shared<'a> {
     over: Option<(String, Frame<'a>)>,
     /// The row offsets of a bare V0 stream.
     offsets: Option<Vec<u32>>,
+    /// The samples that frames are meant to hold, where they are only checked.
+    meant: Option<Meant>,
 }
 
 /// What came of a file: what is told of it, what went wrong with it, and its exit status.
@@ -50,7 +53,11 @@ pub fn look(options: &Options) -> Result<u8, String> {
         let numbers = options::numbers(&String::from_utf8_lossy(&table.bytes));
         numbers.map_err(|fault| table.fault(fault))
     });
-    run(&jobs, &Shared { options, over, offsets: offsets.transpose()? })
+    let meant = options.check_packed.as_deref().map(|path| {
+        let file = Input::read(path, None)?;
+        Meant::of(&file, &camera(&file)?)
+    });
+    run(&jobs, &Shared { options, over, offsets: offsets.transpose()?, meant: meant.transpose()? })
 }
 
 /// The frames that are to be decoded, with places for their outputs that harm no file.
@@ -91,7 +98,9 @@ fn run(jobs: &[Job], shared: &Shared) -> Result<u8, String> {
         }
         drop(sender);
         let progress = jobs.len() > 1 && io::stderr().is_terminal();
-        let to = Told { out: &mut io::stdout(), err: &mut io::stderr(), progress, json: shared.options.json };
+        let Options { json, ref check_packed, .. } = *shared.options;
+        let packed = check_packed.is_some();
+        let to = Told { out: &mut io::stdout(), err: &mut io::stderr(), progress, json, packed };
         let done = tell(jobs, outcomes.iter(), to).map_err(|e| format!("standard output: {e}"));
         // Where nobody listens any more, no further file is begun.
         next.store(jobs.len(), Ordering::Relaxed);
@@ -106,11 +115,13 @@ struct Told<'a> {
     /// A line on `err` that tells how far it is, and goes again.
     progress: bool,
     json: bool,
+    /// Frames are checked that another program packed.
+    packed: bool,
 }
 
 /// Tells what came of the files, in their order, and of several files how many came out how.
 fn tell(jobs: &[Job], outcomes: impl Iterator<Item = (usize, Outcome)>, to: Told) -> io::Result<u8> {
-    let Told { out, err, progress, json } = to;
+    let Told { out, err, progress, json, packed } = to;
     let (mut early, mut turn, mut statuses) = (BTreeMap::new(), 0, [0; 4]);
     for (done, (i, outcome)) in (1..).zip(outcomes) {
         early.insert(i, outcome);
@@ -134,20 +145,22 @@ fn tell(jobs: &[Job], outcomes: impl Iterator<Item = (usize, Outcome)>, to: Told
         }
     }
     if !json {
-        out.write_all(summary(statuses).as_bytes())?;
+        out.write_all(summary(statuses, packed).as_bytes())?;
         let _ = err.write_all(if statuses[2] > 0 { POINTER } else { "" }.as_bytes());
     }
     Ok([2, 1, 3].into_iter().find(|&status| statuses[usize::from(status)] > 0).unwrap_or(0))
 }
 
 /// Of several files, how many came out how, by their statuses.
-fn summary(statuses: [usize; 4]) -> String {
+fn summary(statuses: [usize; 4], packed: bool) -> String {
     let [clean, refused, unread, marked] = statuses;
+    let good = match packed {
+        false => format!("{clean} clean, {marked} with samples old or missing"),
+        true => format!("{clean} taken"),
+    };
     match statuses.iter().sum::<usize>() {
         0 | 1 => String::new(),
-        all => format!(
-            "{all} files: {clean} clean, {marked} with samples old or missing, {refused} refused, {unread} not read or written\n"
-        ),
+        all => format!("{all} files: {good}, {refused} refused, {unread} not read or written\n"),
     }
 }
 
@@ -161,7 +174,7 @@ fn one(worker: &mut Worker, job: &Job, shared: &Shared) -> Outcome {
 }
 
 fn decode(worker: &mut Worker, job: &Job, shared: &Shared, text: &mut String) -> Result<u8, String> {
-    let Shared { options, over, offsets } = shared;
+    let Shared { options, over, offsets, meant } = shared;
     let file = Input::read(&job.path, job.identity)?;
     let frame = match &options.bare {
         None => camera(&file)?,
@@ -170,6 +183,14 @@ fn decode(worker: &mut Worker, job: &Job, shared: &Shared, text: &mut String) ->
             Frame::new(coding, *width, *height, &file.bytes)
         }
     };
+    if let Some(meant) = meant {
+        let checked = meant.check(worker, &frame).map_err(|fault| file.fault(fault))?;
+        *text += &match options.json {
+            true => json::checked(&job.path, &frame, checked.answer),
+            false => checked.text(&file.name(), &frame),
+        };
+        return Ok(checked.status());
+    }
     // What is told does not depend on what the buffer holds; what is written does.
     if !job.outputs.is_empty() {
         worker.clear();
@@ -228,7 +249,8 @@ mod tests {
         let bad = |text| outcome(text, Some("b\u{1b}: bad"), 2);
         let outcomes = [(1, bad("B")), (0, outcome("A", None, 0)), (2, outcome("C", None, 3))];
         let (mut out, mut err) = (Vec::new(), Vec::new());
-        let status = tell(&jobs, outcomes.into_iter(), Told { out: &mut out, err: &mut err, progress, json });
+        let status =
+            tell(&jobs, outcomes.into_iter(), Told { out: &mut out, err: &mut err, progress, json, packed: false });
         let text = |bytes| String::from_utf8(bytes).expect("text");
         (status.expect("there is room"), text(out), text(err))
     }
@@ -253,6 +275,7 @@ mod tests {
 
     #[test]
     fn one_file_has_no_summary() {
-        assert_eq!((summary([0, 0, 1, 0]), summary([1, 0, 1, 1])), (String::new(), SUMMARY.into()));
+        assert_eq!((summary([0, 0, 1, 0], false), summary([1, 0, 1, 1], false)), (String::new(), SUMMARY.into()));
+        assert_eq!(summary([2, 1, 0, 0], true), "3 files: 2 taken, 1 refused, 0 not read or written\n");
     }
 }

@@ -38,6 +38,11 @@ impl Worker {
         self.samples.fill(0);
     }
 
+    /// The buffer.
+    pub fn samples(&mut self) -> &mut [u16] {
+        &mut self.samples
+    }
+
     /// Decodes a frame over what the buffer holds; a V0 frame, where only clean ones are wanted, if it is clean.
     pub fn decode(&mut self, frame: &Frame, clean: bool) -> Result<(), Refusal> {
         let Worker { samples, decoder } = self;

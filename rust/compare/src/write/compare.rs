@@ -144,17 +144,19 @@ fn refused(write: Write, ask: &Ask, lens: (usize, usize), random: &mut Random, s
     Ok(())
 }
 
-/// Decodes what was written by Razvolk's entries, over old samples and maps that are random, and by the Rust.
-fn back(entries: &[Entry], frame: &Frame, samples: &[u16], random: &mut Random, seen: &mut Seen) -> Result<(), String> {
+/// Decodes what was written by Razvolk's entries, over old samples and maps that are random, and by the Rust. Gives how many
+/// times.
+pub fn back(entries: &[Entry], frame: &Frame, samples: &[u16], random: &mut Random) -> Result<u64, String> {
     let (&Frame { width, height, ref stream, ref offsets, .. }, n) = (frame, samples.len());
     let more = random.index(9);
+    let mut decoded = 0;
     for entry in entries {
         let cut = Cut::fitting(entry.decoder, random, width, height);
         let ask = call::Ask { src: stream, offsets, width, height, cut: &cut };
         let (mut out, mut map) = (random.samples(n + more), random.bytes(n));
         let (rest, mut scratch) = (out[n..].to_vec(), random.bytes(razvolk::scratch_len(width, height)));
         let answer = entry.call(&ask, &mut Lent { samples: &mut out, map: &mut map, scratch: &mut scratch });
-        seen.decoded += 1;
+        decoded += 1;
         let found = first_difference(&out, &[samples, &rest].concat());
         let found = found.or_else(|| first_difference(&map, &vec![0; n]).filter(|_| entry.map));
         if let Some(what) = found.or((answer != Answer::DONE).then(|| format!("answer {answer}"))) {
@@ -167,13 +169,13 @@ fn back(entries: &[Entry], frame: &Frame, samples: &[u16], random: &mut Random, 
     ] {
         let mut out = random.samples(n);
         let result: reference::Result<()> = decode(stream, offsets, width, height, &mut out);
-        seen.decoded += 1;
+        decoded += 1;
         let found = first_difference(&out, samples).or(result.err().map(|e| format!("{e:?}")));
         if let Some(what) = found {
             return Err(format!("decoded back by the Rust's {name}: {what}"));
         }
     }
-    Ok(())
+    Ok(decoded)
 }
 
 /// One frame: what is refused, what is written, and what becomes of it.
@@ -189,7 +191,7 @@ fn one(write: Write, entries: &[Entry], ask: &Ask, random: &mut Random, seen: &m
     let lens = (lens.0 + 1 + random.index(40), lens.1 + 1 + random.index(4));
     let (bytes, rows) = called(write, &Ask { samples: &longer, ..*ask }, lens, expected, random, seen)?;
     let frame = Frame { version: Version::V0, width, height, stream: bytes, offsets: rows };
-    back(entries, &frame, samples, random, seen)?;
+    seen.decoded += back(entries, &frame, samples, random)?;
     note(&frame.cut(stream.len()), seen)?;
     seen.frames += 1;
     seen.samples += samples.len() as u64;

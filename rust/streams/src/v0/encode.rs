@@ -5,10 +5,10 @@ use crate::bits::{self, Writer};
 use crate::{Frame, Version};
 
 /// A block's direction and sixteen residuals, and the length that each of the four groups needs.
-struct Block {
-    upward: bool,
-    residuals: [i32; 16],
-    needs: [u32; 4],
+pub(super) struct Block {
+    pub upward: bool,
+    pub residuals: [i32; 16],
+    pub needs: [u32; 4],
 }
 
 /// An upward block that adds nothing to the rows above.
@@ -34,17 +34,23 @@ pub fn with_band(image: &[u16], width: usize, height: usize, band: usize) -> Fra
 
 /// The same with a band that starts at a column, which 16 divides.
 pub fn with_corner(image: &[u16], width: usize, height: usize, band: usize, first: usize) -> Frame {
+    let stored = exchanged(image, width, height);
+    let mut frame = Frame::new(Version::V0, width, height);
+    for row in 0..height {
+        frame.push_row(&encode_row(&stored, width, row, (band, first)));
+    }
+    frame
+}
+
+/// The samples as they are stored, after the exchange of places.
+pub(super) fn exchanged(image: &[u16], width: usize, height: usize) -> Vec<u16> {
     let mut stored = image.to_vec();
     for row in (0..height).step_by(2).filter(|row| row + 1 < height) {
         for col in (0..width).step_by(2).filter(|col| col + 1 < width) {
             stored.swap(row * width + col + 1, (row + 1) * width + col);
         }
     }
-    let mut frame = Frame::new(Version::V0, width, height);
-    for row in 0..height {
-        frame.push_row(&encode_row(&stored, width, row, (band, first)));
-    }
-    frame
+    stored
 }
 
 fn encode_row(stored: &[u16], width: usize, row: usize, band: (usize, usize)) -> Vec<u8> {
@@ -80,7 +86,7 @@ fn chosen(stored: &[u16], width: usize, row: usize, col: usize, band: (usize, us
     up.filter(|up| cost(up) < cost(&left)).unwrap_or(left)
 }
 
-fn block(stored: &[u16], width: usize, row: usize, col: usize, upward: bool) -> Block {
+pub(super) fn block(stored: &[u16], width: usize, row: usize, col: usize, upward: bool) -> Block {
     let mut block = Block { upward, ..CARRIES_DOWN };
     let first = row * width + col;
     for (c, j) in order().filter(|&(c, _)| col + c < width) {

@@ -3,9 +3,11 @@
 pub mod any;
 pub mod encode;
 pub mod hostile;
+pub mod pack;
 
 pub use any::any;
 pub use encode::encode;
+pub use pack::pack;
 
 /// Each of a row's four lengths before its first block.
 pub fn fresh_length(row: usize) -> i32 {

@@ -57,6 +57,61 @@ fn the_readme_shows_what_the_tool_does() {
 }
 
 #[test]
+fn what_others_packed() {
+    let folder = Folder::new("packed");
+    let image = photo(40, 6, 3.0, 1);
+    let found = v0::pack(&image, 40, 6);
+    let (written, offsets) = razvolk::write_v0_to_vecs(&image, 40, 6).expect("up to 14 bits");
+    let [short, long] = [found.stream.len(), written.len()];
+    folder.put("meant.srw", srw(&v0::encode(&image, 40, 6)));
+    folder.put("found.srw", srw(&found));
+    let heading = |name, bytes| format!("{name}.srw: V0, 40 by 6, {bytes} bytes of stream\n");
+    let taken = heading("found", short) + &format!("taken: {short} bytes, where the writer makes {long}\n");
+    assert!(short < long);
+    assert_eq!(folder.run("--check-packed meant.srw found.srw"), done(&taken));
+
+    // A sample differs; a byte more than the writer's; row 0 looks up.
+    let mut other = image.clone();
+    other[2 * 40 + 7] += 1;
+    folder.put("other.srw", srw(&v0::pack(&other, 40, 6)));
+    let (is, meant) = (other[87], image[87]);
+    let what =
+        format!("refused 20: a sample isn't the one that is meant\nrow 2, column 7: {is}, where {meant} is meant\n");
+    let other = heading("other", v0::pack(&other, 40, 6).stream.len()) + &what;
+    assert_eq!(folder.run("--check-packed meant.srw other.srw"), refused(&other));
+    let longer = [&written[..], &[0]].concat();
+    folder.put("longer.srw", srw(&Frame { version: Version::V0, width: 40, height: 6, stream: longer, offsets }));
+    let what = format!(
+        "refused 21: the stream is longer than what the writer makes\n{} bytes, where the writer makes {long}\n",
+        long + 1
+    );
+    let longer = heading("longer", long + 1) + &what;
+    assert_eq!(folder.run("--check-packed meant.srw longer.srw"), refused(&longer));
+    let mut upward = found.clone();
+    upward.stream[3] |= 0x80;
+    folder.put("upward.srw", srw(&upward));
+    let what = "refused 17: row 0 isn't clean: a block looks up to rows that do not exist\n";
+    let upward = heading("upward", short) + what;
+    assert_eq!(folder.run("--check-packed=meant.srw upward.srw"), refused(&upward));
+
+    // All at once, and in JSON.
+    let all = format!("{taken}{longer}{other}{upward}4 files: 1 taken, 3 refused, 0 not read or written\n");
+    assert_eq!(folder.run("--check-packed meant.srw found.srw longer.srw other.srw upward.srw"), refused(&all));
+    let (status, text, _) = folder.run("--json --check-packed meant.srw upward.srw");
+    assert!(status == 1 && text.contains("\"answer\":17,\"row\":0"), "{text}");
+
+    // What can't be checked.
+    folder.put("small.srw", srw(&v0::encode(&image[..80], 40, 2)));
+    let text = "small.srw: 40 by 2, where meant.srw is 40 by 6";
+    assert_eq!(folder.run("--check-packed meant.srw small.srw"), bad(text));
+    folder.put("marked.srw", srw(&with_band(&image, 40, 6, 2)));
+    let text = "marked.srw: samples of it rest on old values or missing words, so that they say nothing";
+    assert_eq!(folder.run("--check-packed marked.srw found.srw"), bad(text));
+    folder.put("v2.srw", srw(&v2::encode(&photo(646, 436, 3.0, 1), 646, 436)));
+    assert_eq!(folder.run("--check-packed meant.srw v2.srw"), bad("v2.srw: V2, where V0 is checked"));
+}
+
+#[test]
 fn bare_streams() {
     let folder = Folder::new("bare");
     folder.put("v0", [0, 0, 0, 0x80, 0x18, 0x20, 0xa0, 0x7f, 0, 0, 0x70, 0]);

@@ -1,0 +1,57 @@
+-- The claim on what an outside optimiser packed, of the entries: a call of `check_packed` that has returned is done exactly of the
+-- proposals that are to be taken, and of what a call of `write_v0` made; what it took is decoded back by every V0 decoder's call.
+use denote.Ref.{now}
+use Rattle.samsung.proofs.Isolation.{Made, ended, checked}
+use Rattle.writers.specs.Calls.{call}
+use Rattle.packed.specs.Proposal.{proposal}
+use Rattle.packed.proofs.Returned.{Checked, Wrote, Claim, claim}
+use Rattle.frames.proofs.proposal.check_packed.Kinds as check-kinds
+use Rattle.frames.proofs.proposal.check_packed.Reads as check-reads
+use Rattle.frames.proofs.proposal.check_packed.Statement as check-stated
+use Rattle.frames.proofs.proposal.check_packed.Met as check-thm
+use Rattle.frames.proofs.writer.write_v0.Kinds as write-kinds
+use Rattle.frames.proofs.writer.write_v0.Reads as write-reads
+use Rattle.frames.proofs.writer.write_v0.Statement as write-stated
+use Rattle.frames.proofs.writer.write_v0.Met as write-thm
+
+-- A call of the check, and one of the writer, each by its arguments, its result and what it left.
+abbrev pub Checks : Type 0
+Checks = Made check-kinds.ps check-kinds.r check-reads.Learnt
+
+unfoldable pub checks : Checks → Checked
+checks c =
+    record {
+      proposal = proposal (now (c .args .0)) (now (c .args .1 .0)) (c .args .1 .1 .0) (c .args .1 .1 .1 .0) (now (c .args .1 .1 .1 .1 .0));
+      scratch = now (c .args .1 .1 .1 .1 .1 .0);
+      answered = c .result;
+      left = now (c .exit .1 .1 .1 .1 .1 .0);
+      yields = c .learnt;
+    }
+
+abbrev pub Writes : Type 0
+Writes = Made write-kinds.ps write-kinds.r write-reads.Learnt
+
+unfoldable pub writes : Writes → Wrote
+writes w =
+    record {
+      call = call (now (w .args .0)) (w .args .1 .0) (w .args .1 .1 .0) (now (w .args .1 .1 .1 .0)) (now (w .args .1 .1 .1 .1 .0));
+      answered = w .result;
+      stream = now (w .exit .1 .1 .1 .0);
+      offsets = now (w .exit .1 .1 .1 .1 .0);
+      yields = w .learnt;
+    }
+
+abbrev pub Packed : Type 0
+Packed = Claim checks writes ended checked
+
+pub packed : Packed
+packed = claim checks writes ended checked
+
+-- The claim, beside both entries' theorems that their code meets the contracts that it speaks of.
+pub record OfTheCode (M : Type 1) : Type 2 where
+  pub check-packed : check-stated.statement M
+  pub write-v0 : write-stated.statement M
+  pub packed : Packed
+
+pub of-the-code : {M : Type 1} → OfTheCode M
+of-the-code = record { check-packed = check-thm.met; write-v0 = write-thm.met; packed = packed }
