@@ -4,3 +4,4 @@ pub mod BlockLaws
 pub mod ChosenLaws
 pub mod GroupLaws
 pub mod WindowHeadLaws
+pub mod PastLaws

@@ -1,3 +1,4 @@
 pub mod Lengths
 pub mod Block
 pub mod ByWindow
+pub mod PastEnd

@@ -1,13 +1,17 @@
 // A block's head and, where nothing is skipped, all sixteen residuals by value, read in one go. Both V0 decoders read their blocks
 // by it.
-ghost use mathlib.Core.Bool.{cond};
+ghost use mathlib.Core.Bool.{true, cond};
 ghost use mathlib.Core.Path.{_≡_};
+ghost use Prim.Native.Nat.{_+_, _<_, _^_, min};
+ghost use Rattle.rules.specs.Reader.{most-filler};
 ghost use Rattle.rules.specs.V0.{length-bits, residual-bits, head};
 ghost use Rattle.v0_stream.specs.Lengths.{Within, furthest};
 ghost use Rattle.v0_stream.specs.Block.{with-residuals, whole-block, head-block};
+ghost use Rattle.v0_stream.specs.PastEnd.{PastEnd, block-of-ones};
 use super::head::read_head;
 use bits::four::read_four;
 use fields::residual_of;
+use rules::Bits;
 use rules::Predictor;
 use rules::V0Head;
 use rules::V0Row;
@@ -72,14 +76,68 @@ fn read_residuals(src: &[u8], head: V0Head) -> ReadBlock
     }
 }
 
+// Whether a state is past the end of the stream, with ones alone left in it.
+fn is_past(src: &[u8], bits: Bits) -> bool
+    ensures { λ r. ⌜ (r ≡ true → PastEnd (now (src .entry)) bits) ⌝ }
+{
+    if bits.word != Bits::FILLER {
+        return false;
+    }
+    if 31 < bits.count {
+        return false;
+    }
+    if bits.pos < src.len() as u64 {
+        return false;
+    }
+    bits.pos < 1_000_000_000_000_000_000
+}
+
+// Two counts of missing words together, held as a reader's is.
+pub fn held_sum(a: u64, b: u64) -> u64
+    ensures { λ r. ⌜ r ≡ min (a + b) most-filler ⌝ }
+{
+    if b < Bits::MOST_FILLER - a {
+        a + b
+    } else {
+        Bits::MOST_FILLER
+    }
+}
+
+// The block that every state past the end reads: 265 ones.
+fn ones_block(bits: Bits) -> ReadBlock
+    requires { ⌜ (bits .count < 32) × (bits .pos + 36 < 2 ^ 64) ⌝ }
+    ensures { λ r. ⌜ r ≡ block-of-ones bits ⌝ }
+{
+    let words = (296 - bits.count) / Bits::WORD_BITS;
+    let end = Bits {
+        pos: bits.pos + Bits::WORD_BYTES * words as u64,
+        word: Bits::FILLER,
+        count: bits.count + Bits::WORD_BITS * words - 265,
+        filler: held_sum(bits.filler, words as u64),
+    };
+    let next = V0Row {
+        lengths: [15; 4],
+        bits: end,
+    };
+    ReadBlock {
+        up: true,
+        row: next,
+        residuals: [65_535; V0Row::BLOCK],
+    }
+}
+
 // A block: its head, and its residuals if the block is read whole. The head of every block is read here, since the compiler
-// then makes one piece of code of it.
+// then makes one piece of code of it; a block past the end is known only after that, which takes the least from the others.
 pub fn read_block(src: &[u8], row: V0Row, whole: bool) -> ReadBlock
     requires { ⌜ Within furthest (row .lengths) ⌝ }
     ensures { λ r. ⌜ r ≡ cond whole (whole-block (now (src .entry)) row) (head-block (now (src .entry)) row) ⌝ }
 {
     let head = read_head(src, row);
     if whole {
+        let bits = row.bits;
+        if is_past(src, bits) {
+            return ones_block(bits);
+        }
         return read_residuals(src, head);
     }
     let next = head.row;

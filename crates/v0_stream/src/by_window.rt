@@ -29,7 +29,7 @@ struct WindowLength {
     left: u32,
 }
 
-// A block's head, the bits of each residual, and where the four groups of residuals and what follows them start.
+// A block's head, and the bit after it, where its residuals begin.
 pub struct WindowHead {
     pub up: bool,
     pub lengths: [i32; 4],
@@ -44,8 +44,8 @@ fn chosen(t: u32, a: i32, b: i32) -> i32
     a + t as i32 * (b - a)
 }
 
-// A length whose operation has its lowest bit above `at` others of a window v. If it is 3 the length is read, of which the lowest
-// bit is above `left` others less 4.
+// A length after the operation that stands above `at` bits of a window v, where `left` bits of it are left: operation 3 takes the
+// length from the first four of these.
 fn window_length(v: u64, at: u32, left: u32, length: i32) -> WindowLength
     requires { ⌜ (at < 64) × ((4 ≤ left) × ((left < 64) × (mag length ≤ furthest))) ⌝ }
     ensures { λ r. ⌜ r ≡ length-in v at left length ⌝ }

@@ -3,8 +3,6 @@ use Rattle.v0_stream.proofs.ChosenLaws.{difference-fits, product-fits, 
 use borrow.Author.Needs.{needs}
 use Rattle.v0_stream.proofs.by_window.chosen.Statement.{statement}
 use Rattle.v0_stream.proofs.by_window.chosen.Tie as tie
-use Rattle.v0_stream.proofs.by_window.chosen.Reads as reads
-use Rattle.v0_stream.proofs.by_window.chosen.Lts as lts
 
 cast-result : tie.Need-cast-result
 cast-result c = search needs

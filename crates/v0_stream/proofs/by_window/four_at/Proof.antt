@@ -5,11 +5,6 @@ use Rattle.v0_stream.proofs.GroupLaws.{four-made}
 use borrow.Author.Needs.{needs}
 use Rattle.v0_stream.proofs.by_window.four_at.Statement.{statement}
 use Rattle.v0_stream.proofs.by_window.four_at.Tie as tie
-use Rattle.v0_stream.proofs.by_window.four_at.Reads as reads
-use Rattle.v0_stream.proofs.by_window.four_at.Lts as lts
-use Rattle.fields.proofs.power.Reads as power-reads
-use Rattle.v0_stream.proofs.by_window.low.Reads as low-reads
-use Rattle.window.proofs.window.Reads as window-reads
 
 window-requires : tie.Need-window-requires
 window-requires c κs = search needs

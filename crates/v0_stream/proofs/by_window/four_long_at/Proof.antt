@@ -5,11 +5,6 @@ use Rattle.v0_stream.proofs.GroupLaws.{long-made}
 use borrow.Author.Needs.{needs}
 use Rattle.v0_stream.proofs.by_window.four_long_at.Statement.{statement}
 use Rattle.v0_stream.proofs.by_window.four_long_at.Tie as tie
-use Rattle.v0_stream.proofs.by_window.four_long_at.Reads as reads
-use Rattle.v0_stream.proofs.by_window.four_long_at.Lts as lts
-use Rattle.fields.proofs.power.Reads as power-reads
-use Rattle.v0_stream.proofs.by_window.low.Reads as low-reads
-use Rattle.window.proofs.window.Reads as window-reads
 
 window-requires : tie.Need-window-requires
 window-requires c κs = search needs
@@ -72,10 +67,11 @@ low-requires-4 : tie.Need-low-requires-4
 low-requires-4 c κs = search needs
 
 returns : tie.Need-returns
-returns c = let a = c .before .before .before .before .before .before .before .before .before .before .before in
-    long-made (now (a .args .src)) (a .args .base) (a .args .q) (a .args .n) _ _ _ _ _ _ _ _ _ _ (a .pre .0) (a .pre .1 .0) (c .before .before .before .before .before .before .before .before .before .window .ensures) (c .before .before .before .before .before .before .before .window2 .ensures)
-    (c .before .before .before .before .before .before .before .before .power .ensures) (c .before .before .before .before .before .before .power2 .ensures) (c .before .before .before .before .before .power3 .ensures) (c .before .before .power4 .ensures)
-    (c .before .before .before .before .low .ensures) (c .before .before .before .low2 .ensures) (c .before .low3 .ensures) (c .low4 .ensures)
+returns c =
+    let pair = c .before .before .before in let shift = pair .before .before .before in let begin = shift .before .before .before in let a = begin .before .before in
+    long-made (now (a .args .src)) (a .args .base) (a .args .q) (a .args .n) _ _ _ _ _ _ _ _ _ _ (a .pre .0) (a .pre .1 .0) (begin .window .ensures) (shift .before .window2 .ensures)
+    (shift .before .before .power .ensures) (shift .power2 .ensures) (pair .before .before .power3 .ensures) (c .before .before .power4 .ensures)
+    (pair .before .low .ensures) (pair .low2 .ensures) (c .before .low3 .ensures) (c .low4 .ensures)
 
 pub four-long-at-spec : {M : Type 1} → statement M
 four-long-at-spec =

@@ -3,10 +3,6 @@ use Rattle.v0_stream.proofs.GroupLaws.{Low, low-made}
 use borrow.Author.Needs.{needs}
 use Rattle.v0_stream.proofs.by_window.low.Statement.{statement}
 use Rattle.v0_stream.proofs.by_window.low.Tie as tie
-use Rattle.v0_stream.proofs.by_window.low.Reads as reads
-use Rattle.v0_stream.proofs.by_window.low.Lts as lts
-use Rattle.fields.proofs.power.Reads as power-reads
-use Rattle.std.proofs.num.wrapping_add_u64.Reads as wrapping-add-u64-reads
 
 low : (c : tie.After-wrapping-add-u64) → Low (c .before .before .args .x) (c .before .before .args .n) (c .before .power .result) (c .wrapping-add-u64 .result)
 low c = low-made _ _ _ _ (c .before .before .pre) (c .before .power .ensures) (c .wrapping-add-u64 .ensures)

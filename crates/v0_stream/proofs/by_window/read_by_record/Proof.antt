@@ -4,9 +4,6 @@ use Rattle.v0_stream.proofs.BlockLaws.{made-anew}
 use borrow.Author.Needs.{needs}
 use Rattle.v0_stream.proofs.by_window.read_by_record.Statement.{statement}
 use Rattle.v0_stream.proofs.by_window.read_by_record.Tie as tie
-use Rattle.v0_stream.proofs.by_window.read_by_record.Reads as reads
-use Rattle.v0_stream.proofs.by_window.read_by_record.Lts as lts
-use Rattle.v0_stream.proofs.block.read_block.Reads as read-block-reads
 
 read-block-requires : tie.Need-read-block-requires
 read-block-requires c κs = search needs

@@ -1,10 +1,10 @@
 -- Each length is what the record that stands there reads, and leaves it so many bits on.
-use mathlib.Core.Path.{ap}
+use mathlib.Core.Path.{_≡_, ap}
 use Prim.Native.Nat.{_≤_}
 use native.Mathlib.Omega.{arith}
 use lib.Dec.{eqb}
 use lib.IntN.{pos}
-use lib.ListN.{getD}
+use lib.ListN.{length, getD}
 use mir.Syntax.{w32}
 use mir.ValLaws.{toZ-ofZ}
 use denote.Ref.{now}
@@ -12,11 +12,12 @@ use Rattle.v0_stream.proofs.WindowHeadLaws.{left-of, head-made}
 use borrow.Author.Needs.{needs}
 use Rattle.v0_stream.proofs.by_window.window_head.Statement.{statement}
 use Rattle.v0_stream.proofs.by_window.window_head.Tie as tie
-use Rattle.v0_stream.proofs.by_window.window_head.Reads as reads
-use Rattle.v0_stream.proofs.by_window.window_head.Lts as lts
-use Rattle.fields.proofs.field.Reads as field-reads
-use Rattle.v0_stream.proofs.by_window.window_length.Reads as window-length-reads
-use Rattle.window.proofs.window.Reads as window-reads
+
+abbrev start : tie.After-window-length → tie.Start
+start c = c .before .before .before .before
+
+four-lengths : (c : tie.Start) → length (c .args .t4) ≡ 4
+four-lengths c = search needs
 
 -- Each length leaves at least 4 bits less than the one before.
 after-first : (c : tie.After-window-length) → (51 ≤ c .window-length .result .left) × (c .window-length .result .left ≤ 55)
@@ -44,40 +45,44 @@ array-copy-out-window-length-2 : tie.Need-array-copy-out-window-length-2
 array-copy-out-window-length-2 c = search needs
 
 window-length-requires-2 : tie.Need-window-length-requires-2
-window-length-requires-2 c κs = let a = c .before .before .before .before .before in let left = after-first (c .before) in
+window-length-requires-2 c κs =
+    let a = start (c .before) in let left = after-first (c .before) in
     (omega arith, (omega arith, (omega arith, rw (toZ-ofZ w32 (getD (a .args .t4) 1 (pos 0)) (record { sfits = c .window-length-arg2 .given })) (a .pre .1 .each 1))))
 
 array-copy-out-window-length-3 : tie.Need-array-copy-out-window-length-3
 array-copy-out-window-length-3 c = search needs
 
 window-length-requires-3 : tie.Need-window-length-requires-3
-window-length-requires-3 c κs = let a = c .before .before .before .before .before .before .before in let left = after-second (c .before) in
+window-length-requires-3 c κs =
+    let a = start (c .before .before .before) in let left = after-second (c .before) in
     (omega arith, (omega arith, (omega arith, rw (toZ-ofZ w32 (getD (a .args .t4) 2 (pos 0)) (record { sfits = c .window-length-arg3 .given })) (a .pre .1 .each 2))))
 
 array-copy-out-window-length-4 : tie.Need-array-copy-out-window-length-4
 array-copy-out-window-length-4 c = search needs
 
 window-length-requires-4 : tie.Need-window-length-requires-4
-window-length-requires-4 c κs = let a = c .before .before .before .before .before .before .before .before .before in let left = after-third (c .before) in
+window-length-requires-4 c κs =
+    let a = start (c .before .before .before .before .before) in let left = after-third (c .before) in
     (omega arith, (omega arith, (omega arith, rw (toZ-ofZ w32 (getD (a .args .t4) 3 (pos 0)) (record { sfits = c .window-length-arg4 .given })) (a .pre .1 .each 3))))
 
 field-requires : tie.Need-field-requires
 field-requires c κs = search needs
 
 sub-t23 : tie.Need-sub-t23
-sub-t23 c = let left = after-fourth (c .before .before .before .before .before .before) in omega arith
+sub-t23 c = let field = c .before .before .before .before .before in let left = after-fourth (field .before) in omega arith
 
 cast-t24 : tie.Need-cast-t24
 cast-t24 c = search needs
 
 add-t25 : tie.Need-add-t25
-add-t25 c = let left = after-fourth (c .before .before .before .before .before .before) in let soon = c .before .before .before .before .before .before .before .before .before .before .before .before .before .before .before .before .pre .0 .soon in omega arith
+add-t25 c = let field = c .before .before .before .before .before in let fourth = field .before in let second = fourth .before .before .before .before in let left = after-fourth fourth in let soon = start (second .before .before) .pre .0 .soon in omega arith
 
 returns : tie.Need-returns
-returns c = let a = c .before .before .before .before .before .before .before .before .before .before .before .before .before .before .before .before in
-    head-made (now (a .args .src)) (a .args .base) (a .args .q) _ (a .pre .0) (c .before .before .before .before .before .before .before .before .before .before .before .before .before .before .window .ensures) (a .args .t4) _
-    (c .before .before .before .before .before .before .before .before .before .before .before .before .window-length .result) (c .before .before .before .before .before .before .before .before .before .before .window-length2 .result) (c .before .before .before .before .before .before .before .before .window-length3 .result) (c .before .before .before .before .before .before .window-length4 .result) (search needs) (a .pre .1) (ap (λ x. eqb x 1) (c .before .before .before .before .before .field .ensures))
-    (c .before .before .before .before .before .before .before .before .before .before .before .before .window-length .ensures) (c .before .before .before .before .before .before .before .before .before .before .window-length2 .ensures) (c .before .before .before .before .before .before .before .before .window-length3 .ensures) (c .before .before .before .before .before .before .window-length4 .ensures)
+returns c =
+    let field = c .before .before .before .before .before in let fourth = field .before in let third = fourth .before .before in let second = third .before .before in let first = second .before .before in let a = start first in
+    head-made (now (a .args .src)) (a .args .base) (a .args .q) _ (a .pre .0) (first .before .before .window .ensures) (a .args .t4) _
+    (first .window-length .result) (second .window-length2 .result) (third .window-length3 .result) (fourth .window-length4 .result) (four-lengths a) (a .pre .1) (ap (λ x. eqb x 1) (field .field .ensures))
+    (first .window-length .ensures) (second .window-length2 .ensures) (third .window-length3 .ensures) (fourth .window-length4 .ensures)
 
 pub window-head-spec : {M : Type 1} → statement M
 window-head-spec =

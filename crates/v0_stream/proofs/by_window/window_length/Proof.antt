@@ -1,3 +1,4 @@
+-- Operation 3 alone makes the flag 1, which picks the four bits read.
 use mathlib.Core.Path.{ap, _∙_}
 use native.Mathlib.Omega.{arith}
 use lib.Signed.{mag}
@@ -7,15 +8,9 @@ use mir.Facts.{toZ-pos}
 use Rattle.v0_stream.specs.Lengths.{stepped, furthest}
 use Rattle.v0_stream.proofs.HeadLaws.{stepped-near}
 use Rattle.v0_stream.proofs.WindowHeadLaws.{length-made}
--- Operation 3 alone makes the flag 1, which picks the four bits read.
 use borrow.Author.Needs.{needs}
 use Rattle.v0_stream.proofs.by_window.window_length.Statement.{statement}
 use Rattle.v0_stream.proofs.by_window.window_length.Tie as tie
-use Rattle.v0_stream.proofs.by_window.window_length.Reads as reads
-use Rattle.v0_stream.proofs.by_window.window_length.Lts as lts
-use Rattle.fields.proofs.field.Reads as field-reads
-use Rattle.v0_stream.proofs.by_window.chosen.Reads as chosen-reads
-use Rattle.v0_stream.proofs.head.step.Reads as step-reads
 
 field-requires : tie.Need-field-requires
 field-requires c κs = search needs
