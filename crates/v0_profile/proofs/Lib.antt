@@ -1,3 +1,4 @@
+pub mod PassLaws
 pub mod BlockLaws
 pub mod RowLaws
 pub mod FrameLaws

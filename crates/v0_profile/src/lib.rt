@@ -1,9 +1,11 @@
 // The profile's check of a whole V0 stream, before a sample is written. Blocks are read as the direct decoder reads them, by the same
-// functions; nothing is written, since the frame that they would write to has no cells.
+// functions, but that an inner block's residuals are passed over where they are there; nothing is written, since the frame that the
+// others would write to has no cells.
 ghost use mathlib.Core.Path.{_≡_};
 ghost use mathlib.Core.Bool.{_&&_};
 ghost use lib.Dec.{ltb};
 ghost use Rattle.v0_cells.specs.Places.{InFrame};
+ghost use Rattle.v0_stream.specs.Block.{whole-block};
 ghost use Rattle.v0_stream.specs.Lengths.{Within, furthest};
 ghost use Rattle.profile.specs.Profile.{fits, all-fit, block-fault, row-fault, verdict};
 ghost use Rattle.v0_profile.specs.Lent.{Lends, InRow};
@@ -14,8 +16,46 @@ use rules::V0Head;
 use rules::V0Row;
 use v0_direct::row::is_inner;
 use v0_direct::sample::decode_samples;
-use v0_stream::block::read_block;
 use v0_stream::block::read_block_head;
+use v0_stream::block::residual_length;
+use v0_stream::by_window::BLOCK_BYTES;
+use v0_stream::by_window::read_by_record;
+use v0_stream::by_window::window_head;
+use window::stands;
+use window::state_at;
+
+// A block of which nothing is skipped. Where the record stands in the stream, its residuals are passed over: the head tells how many
+// bits they have.
+fn pass_block(src: &[u8], state: V0Row) -> V0Head
+    requires { ⌜ Within furthest (state .lengths) ⌝ }
+    ensures { λ r. ⌜ r ≡ record { up = whole-block (now (src .entry)) state .up; row = whole-block (now (src .entry)) state .row } ⌝ }
+{
+    let bits = state.bits;
+    let lengths = state.lengths;
+    if stands(src, bits, BLOCK_BYTES) {
+        let base = bits.pos as usize - 4;
+        let head = window_head(src, base, 32 - bits.count as usize, lengths);
+        let after = head.lengths;
+        let n0 = residual_length(after[0]);
+        let n1 = residual_length(after[1]);
+        let n2 = residual_length(after[2]);
+        let n3 = residual_length(after[3]);
+        let end = head.q + 4 * (n0 + n1 + n2 + n3) as usize;
+        return V0Head {
+            up: head.up,
+            row: V0Row {
+                lengths: after,
+                bits: state_at(src, base, end, bits.filler),
+            },
+        };
+    }
+    let block = read_by_record(src, lengths, bits);
+    let next = block.row;
+    V0Head {
+        up: block.up,
+        row: next,
+    }
+}
 
 // A block read to its end: its direction, and the row's state there.
 fn see_block(src: &[u8], size: Size, row: usize, col: usize, state: V0Row) -> V0Head
@@ -23,12 +63,7 @@ fn see_block(src: &[u8], size: Size, row: usize, col: usize, state: V0Row) -> V0
     ensures { λ r. ⌜ r ≡ seen (now (src .entry)) size row col state ⌝ }
 {
     if is_inner(size, row, col) {
-        let block = read_block(src, state, true);
-        let after = block.row;
-        return V0Head {
-            up: block.up,
-            row: after,
-        };
+        return pass_block(src, state);
     }
     let head = read_block_head(src, state);
     let mut no_samples = [0u16; 0];

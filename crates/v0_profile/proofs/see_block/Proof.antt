@@ -1,4 +1,5 @@
--- Either way the block is read to its end: in one go where nothing is skipped, else sample by sample, over a frame of no cells.
+-- Either way the block is read to its end: passed over where nothing is skipped, else sample by sample, over a frame of no cells.
+use mathlib.Core.Path.{refl, _∙_}
 use denote.Ref.{now}
 use borrow.Author.Needs.{needs}
 use Rattle.v0_profile.proofs.BlockLaws.{seen-whole, seen-samples}
@@ -8,11 +9,11 @@ use Rattle.v0_profile.proofs.see_block.Tie as tie
 is-inner-requires : tie.Need-is-inner-requires
 is-inner-requires c κs = search needs
 
-read-block-requires : tie.Need-read-block-requires
-read-block-requires c κs = search needs
+pass-block-requires : tie.Need-pass-block-requires
+pass-block-requires c κs = search needs
 
 returns : tie.Need-returns
-returns c = let a = c .before .before .before .before .before .args in seen-whole (now (a .src)) (a .size) (a .row) (a .col) (a .state) (c .before .before .before .is-inner .ensures (c .before .before .if1 .taken)) (c .before .read-block .result) (c .before .read-block .ensures)
+returns c = let i = c .before .before in let a = i .before .before .args in c .pass-block .ensures ∙ seen-whole (now (a .src)) (a .size) (a .row) (a .col) (a .state) (i .is-inner .ensures (c .before .if1 .taken)) _ refl
 
 read-block-head-requires : tie.Need-read-block-head-requires
 read-block-head-requires c κs = search needs
@@ -34,7 +35,7 @@ see-block-spec =
     tie.close
     (tie.spec
     is-inner-requires
-    read-block-requires
+    pass-block-requires
     returns
     read-block-head-requires
     slice-aggregate-decode-samples

@@ -1,0 +1,98 @@
+-- Residuals that are passed over: where the reader stands after them is told by their bits alone, whatever they are. So nothing is
+-- asked of their words but that they are there.
+use mathlib.Core.Path.{_≡_, refl, sym, ap, _∙_}
+use mathlib.Core.Bool.{Bool, true, false}
+use mathlib.Core.List.{List, [], _∷_}
+use Prim.Native.Nat.{ℕ, _+_, _*_, _-_, _/_, _%_, _^_, _≤_, _<_, min}
+use native.Mathlib.Omega.{arith}
+use lib.Dec.{leb}
+use lib.IntN.{ℤ, pos}
+use lib.ListN.{length, getD}
+use borrow.Author.Tests.{leb-true, leb-false}
+use Rattle.rules.specs.Reader.{word-at, fetched, held, read, read-residual}
+use Rattle.rules.specs.Phases.{residuals}
+use Rattle.rules.specs.V0.{head, order, length-of, length-bits}
+use Rattle.rules.specs.declared.reader.Bits.{Bits}
+use Rattle.rules.specs.declared.v0.V0Row.{V0Row}
+use Rattle.rules.specs.declared.v0.V0Head.{V0Head}
+use Rattle.rules.proofs.ReaderLaws.{fetched-there, counted-there, held-is, read-held, read-next}
+use Rattle.window.specs.Window.{state-at}
+use Rattle.v0_stream.specs.Block.{with-residuals, whole-block}
+use Rattle.v0_stream.specs.declared.by_window.WindowHead.{WindowHead}
+use Rattle.v0_stream.proofs.BlockLaws.{bits-few-enough}
+use Rattle.v0_stream.proofs.GroupLaws.{Planned, near}
+
+-- ── A read ──
+
+-- The record after n bits stands n bits on.
+leaves : (s : List ℕ) (base q n f : ℕ) → 0 < q → n ≤ 32 → base + (q + n + 31) / 32 * 4 ≤ length s → base + (q + n + 31) / 32 * 4 + 4 < 2 ^ 64
+    → read s (state-at s base q f) n .bits ≡ state-at s base (q + n) f
+leaves s base q n f some fit there far = go (leb n (held b)) refl
+  where
+    b : Bits
+    b = state-at s base q f
+
+    cap : min n 32 ≡ n
+    cap = omega arith
+
+    holds : held b ≡ (q + 31) / 32 * 32 - q
+    holds = held-is b (omega arith)
+
+    go : (t : Bool) → leb n (held b) ≡ t → read s b n .bits ≡ state-at s base (q + n) f
+    go true t =
+        let h : n ≤ held b = leb-true n (held b) t in
+        let words : (q + n + 31) / 32 ≡ (q + 31) / 32 = omega (arith, holds) in
+        let count : (q + 31) / 32 * 32 - q - n ≡ (q + 31) / 32 * 32 - (q + n) = omega arith in
+        rw (read-held s b n (omega arith), cap, holds, words, count)
+    go false t =
+        let h : held b < n = leb-false n (held b) t in
+        let words : (q + n + 31) / 32 ≡ (q + 31) / 32 + 1 = omega (arith, holds) in
+        let count : (q + 31) / 32 * 32 - q + 32 - n ≡ ((q + 31) / 32 + 1) * 32 - (q + n) = omega arith in
+        let on : (base + (q + 31) / 32 * 4 + 4) % 2 ^ 64 ≡ base + ((q + 31) / 32 + 1) * 4 = omega arith in
+        let at : base + ((q + 31) / 32 + 1) * 4 - 4 ≡ base + (q + 31) / 32 * 4 = omega arith in
+        rw (read-next s b n (omega arith), cap, holds, fetched-there s (base + (q + 31) / 32 * 4) (omega arith), words, on, at, counted-there f, count)
+
+-- ── Residuals ──
+
+-- The bits of the residuals of some samples together.
+unfoldable bits-of : List ℤ → List ℕ → ℕ
+bits-of ls [] = 0
+bits-of ls (c ∷ cs) = length-bits (length-of ls c) + bits-of ls cs
+
+residuals-leave : (s : List ℕ) (ls : List ℤ) (cs : List ℕ) (base q f : ℕ) → 0 < q → base + (q + bits-of ls cs + 31) / 32 * 4 ≤ length s
+    → base + (q + bits-of ls cs + 31) / 32 * 4 + 4 < 2 ^ 64 → residuals s ls cs (state-at s base q f) .bits ≡ state-at s base (q + bits-of ls cs) f
+unfolding bits-of residuals read-residual
+residuals-leave s ls [] base q f some there far = let e : q + 0 ≡ q = omega arith in rw e
+residuals-leave s ls (c ∷ cs) base q f some there far =
+    let n : ℕ = length-bits (length-of ls c) in
+    let fit : n ≤ 32 = bits-few-enough (length-of ls c) in
+    let e : q + (n + bits-of ls cs) ≡ q + n + bits-of ls cs = omega arith in
+    ap (λ b. residuals s ls cs b .bits) (leaves s base q n f some fit (omega arith) (omega arith))
+    ∙ residuals-leave s ls cs base (q + n) f (omega arith) (omega arith) (omega arith)
+    ∙ ap (λ (x : ℕ). state-at s base x f) (sym e)
+
+-- Each length is that of four samples.
+four-each : (ls : List ℤ) → bits-of ls order
+    ≡ 4 * (length-bits (getD ls 0 (pos 0)) + length-bits (getD ls 1 (pos 0)) + length-bits (getD ls 2 (pos 0)) + length-bits (getD ls 3 (pos 0)))
+unfolding bits-of length-of
+four-each ls = omega arith
+
+-- ── The block ──
+
+-- A head by position, and the record as many bits after it as the residuals have: what the record that reads the block leaves.
+pub passed : (s : List ℕ) (st : V0Row) (h : WindowHead) (n₀ n₁ n₂ n₃ : ℕ) (after : Bits) → Planned s st h n₀ n₁ n₂ n₃
+    → after ≡ state-at s (st .bits .pos - 4) (h .q + 4 * (n₀ + n₁ + n₂ + n₃)) (st .bits .filler)
+    → _≡_ {A = V0Head} (record { up = h .up; row = record { lengths = h .lengths; bits = after } }) (record { up = whole-block s st .up; row = whole-block s st .row })
+unfolding whole-block with-residuals
+passed s st h n₀ n₁ n₂ n₃ after x ea =
+    let base : ℕ = st .bits .pos - 4 in
+    let f : ℕ = st .bits .filler in
+    let n = near x in
+    let there : base + 76 ≤ length s = x .stands .there in
+    let far : base + 76 < 2 ^ 64 = x .far in
+    let y : V0Head = record { up = h .up; row = record { lengths = h .lengths; bits = state-at s base (h .q) f } } in
+    let stood : record { lengths = st .lengths; bits = state-at s base (32 - st .bits .count) f } ≡ st
+    = ap (λ (z : Bits). record { lengths = st .lengths; bits = z }) (sym (x .stands .is)) in
+    let read : y ≡ head s st = sym (x .head-at .reads f) ∙ ap (head s) stood in
+    let bits : bits-of (h .lengths) order ≡ 4 * (n₀ + n₁ + n₂ + n₃) = four-each (h .lengths) ∙ rw (x .is₀, x .is₁, x .is₂, x .is₃) in
+    rw (ea, ← read, residuals-leave s (h .lengths) order base (h .q) f (n .0) (omega (arith, bits)) (omega (arith, bits)), bits)

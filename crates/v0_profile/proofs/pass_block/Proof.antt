@@ -1,0 +1,151 @@
+-- Where the record stands the head tells how many bits the residuals have, and so where the record that reads them would stand after
+-- them; else the record reads them.
+use mathlib.Core.Path.{sym, ap, _∙_}
+use Prim.Native.Nat.{_+_, _-_, _<_, _^_}
+use native.Mathlib.Omega.{arith}
+use denote.Ref.{now}
+use lib.IntN.{pos}
+use lib.ListN.{getD}
+use mir.Syntax.{w32}
+use mir.ValLaws.{toZ-ofZ}
+use borrow.Author.Needs.{needs}
+use Rattle.window.specs.Window.{Stands}
+use Rattle.window.proofs.WindowLaws.{stands-is}
+use Rattle.v0_stream.proofs.GroupLaws.{Planned, near, end-room}
+use Rattle.v0_profile.proofs.PassLaws.{passed}
+use Rattle.v0_profile.proofs.pass_block.Statement.{statement}
+use Rattle.v0_profile.proofs.pass_block.Tie as tie
+
+-- Points on the way: the entry, where the record is known to stand, and the head.
+abbrev start : tie.Then1 → tie.Start
+start c = c .before .before .before .before .before
+
+abbrev standing : tie.After-window-head → tie.Then1
+standing c = c .before .before
+
+abbrev headed : tie.After-residual-length4 → tie.After-window-head
+headed c = c .before .before .before .before .before .before .before .before .before
+
+-- The record stands in the stream.
+stood : (c : tie.Then1) → Stands (now (start c .args .src)) (start c .args .state .bits) 76 × (start c .args .state .bits .pos - 4 + 76 < 2 ^ 64)
+stood c =
+    let a = start c .args in
+    let x = stands-is (now (a .src)) (a .state .bits) 76 (sym (c .before .stands .ensures) ∙ c .if1 .taken) in
+    let there = x .there in
+    (x, omega arith)
+
+-- Its head is read, and the bits of each residual are known.
+planned : (c : tie.After-residual-length4) → (let a = start (standing (headed c)) .args in
+    Planned (now (a .src)) (a .state) (headed c .window-head .result) (c .before .before .before .before .before .before .residual-length .result) (c .before .before .before .before .residual-length2 .result) (c .before .before .residual-length3 .result) (c .residual-length4 .result))
+planned c =
+    let x = stood (standing (headed c)) in
+    let ls = headed c .window-head .result .lengths in
+    let third = c .before .before in
+    let second = third .before .before in
+    let first = second .before .before in
+    record {
+      stands = x .0;
+      far = x .1;
+      head-at = headed c .window-head .ensures;
+      is₀ = rw (toZ-ofZ w32 (getD ls 0 (pos 0)) (record { sfits = first .before .residual-length-arg .given })) at (first .residual-length .ensures);
+      is₁ = rw (toZ-ofZ w32 (getD ls 1 (pos 0)) (record { sfits = second .before .residual-length-arg2 .given })) at (second .residual-length2 .ensures);
+      is₂ = rw (toZ-ofZ w32 (getD ls 2 (pos 0)) (record { sfits = third .before .residual-length-arg3 .given })) at (third .residual-length3 .ensures);
+      is₃ = rw (toZ-ofZ w32 (getD ls 3 (pos 0)) (record { sfits = c .before .residual-length-arg4 .given })) at (c .residual-length4 .ensures);
+    }
+
+stands-requires : tie.Need-stands-requires
+stands-requires c κs = search needs
+
+sub-base : tie.Need-sub-base
+sub-base c = stood c .0 .fetched
+
+cast-window-head : tie.Need-cast-window-head
+cast-window-head c = search needs
+
+sub-window-head : tie.Need-sub-window-head
+sub-window-head c = let few = stood (c .before) .0 .few in omega arith
+
+window-head-requires : tie.Need-window-head-requires
+window-head-requires c κs = let x = stood (c .before) in let few = x .0 .few in (record { some = omega arith; soon = omega arith; there = x .0 .there; far = x .1 }, start (c .before) .pre)
+
+array-copy-out-residual-length : tie.Need-array-copy-out-residual-length
+array-copy-out-residual-length c = search needs
+
+residual-length-requires : tie.Need-residual-length-requires
+residual-length-requires c κs = search needs
+
+array-copy-out-residual-length-2 : tie.Need-array-copy-out-residual-length-2
+array-copy-out-residual-length-2 c = search needs
+
+residual-length-requires-2 : tie.Need-residual-length-requires-2
+residual-length-requires-2 c κs = search needs
+
+array-copy-out-residual-length-3 : tie.Need-array-copy-out-residual-length-3
+array-copy-out-residual-length-3 c = search needs
+
+residual-length-requires-3 : tie.Need-residual-length-requires-3
+residual-length-requires-3 c κs = search needs
+
+array-copy-out-residual-length-4 : tie.Need-array-copy-out-residual-length-4
+array-copy-out-residual-length-4 c = search needs
+
+residual-length-requires-4 : tie.Need-residual-length-requires-4
+residual-length-requires-4 c κs = search needs
+
+add-end : tie.Need-add-end
+add-end c = let n = near (planned c) in omega arith
+
+add-end-2 : tie.Need-add-end-2
+add-end-2 c = let n = near (planned c) in omega arith
+
+add-end-3 : tie.Need-add-end-3
+add-end-3 c = let n = near (planned c) in omega arith
+
+cast-end : tie.Need-cast-end
+cast-end c = search needs
+
+mul-end : tie.Need-mul-end
+mul-end c = search needs
+
+add-end-4 : tie.Need-add-end-4
+add-end-4 c = search needs
+
+state-at-requires : tie.Need-state-at-requires
+state-at-requires c κs = let x = planned (c .before) in let n = near x in (omega arith, (omega arith, end-room x _ (omega arith)))
+
+returns : tie.Need-returns
+returns c = let n = c .before .before in let a = start (standing (headed n)) .args in passed (now (a .src)) (a .state) _ _ _ _ _ _ (planned n) (c .state-at .ensures)
+
+read-by-record-requires : tie.Need-read-by-record-requires
+read-by-record-requires c κs = search needs
+
+returns-2 : tie.Need-returns-2
+returns-2 c = ap (λ x. record { up = x .up; row = x .row }) (c .before .read-by-record .ensures)
+
+pub pass-block-spec : {M : Type 1} → statement M
+pass-block-spec =
+    tie.close
+    (tie.spec
+    stands-requires
+    sub-base
+    cast-window-head
+    sub-window-head
+    window-head-requires
+    array-copy-out-residual-length
+    residual-length-requires
+    array-copy-out-residual-length-2
+    residual-length-requires-2
+    array-copy-out-residual-length-3
+    residual-length-requires-3
+    array-copy-out-residual-length-4
+    residual-length-requires-4
+    add-end
+    add-end-2
+    add-end-3
+    cast-end
+    mul-end
+    add-end-4
+    state-at-requires
+    returns
+    read-by-record-requires
+    returns-2)
