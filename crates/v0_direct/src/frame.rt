@@ -1,27 +1,15 @@
 // A whole frame: its rows, then the exchange. Samples and marks go through the same code; a map that is not lent is a frame of no
 // cells.
 ghost use mathlib.Core.Path.{_≡_};
-ghost use Prim.Native.Nat.{_+_, _≤_, min};
-ghost use Rattle.rules.specs.Reader.{most-filler};
+ghost use Prim.Native.Nat.{_≤_};
 ghost use Rattle.rules.specs.V0 as V0;
 ghost use Rattle.rules.specs.Map.{v0-marks};
 ghost use Rattle.v0_direct.specs.Lent.{Lends};
 use super::row::decode_row;
-use rules::Bits;
 use rules::Size;
 use v0_cells::exchange::exchange;
 use v0_cells::exchange::exchange_marks;
-
-// Two counts of missing words together, held as a reader's is.
-fn held_sum(a: u64, b: u64) -> u64
-    ensures { λ r. ⌜ r ≡ min (a + b) most-filler ⌝ }
-{
-    if b < Bits::MOST_FILLER - a {
-        a + b
-    } else {
-        Bits::MOST_FILLER
-    }
-}
+use v0_stream::block::held_sum;
 
 // The first `count` rows: how many words were missing in them.
 pub fn decode_rows(
