@@ -1,13 +1,14 @@
 #!/usr/bin/env python3
 """Changes a crate's definitions one place at a time, checks the crate, and prints every change that still proves.
 
-    tests/mutate.py [--crate rules] [--file V2] [--count 100] [--seed 1] [--workers 2]
+    tests/mutate.py [--crate rules] [--file V2] [--since COMMIT] [--count 100] [--seed 1] [--workers 2]
 
-The definitions are those of crates/CRATE/specs, but for lists of examples and for what is a theorem's statement. Each change
-is made in a copy of the crate below target/mutate and checked there by `rt dev`, which checks again only what the change
-reaches; what passes is checked once more from nothing by `rt check`. A change that is no definition (its file no longer
-parses or has no type) is counted apart. The last line has the figures; target/mutate/CRATE.txt has every change with its
-outcome.
+The definitions are those of crates/CRATE/specs, but for lists of examples and for what is a theorem's statement; with --since
+those of lines that are new since a commit. Each change is made in a copy of the crate below target/mutate that has the worked
+examples and no theorem, and is checked there by `rt dev`, which checks again only what the change reaches; what passes is
+checked with the theorems, too, and what passes that once more from nothing by `rt check`. A change that is no definition (its
+file no longer parses or has no type) is counted apart. The last line has the figures; target/mutate/CRATE.txt has every
+change with its outcome.
 """
 
 import argparse
@@ -419,25 +420,37 @@ def needed(crate):
     return {name: uses[name] for name in found}
 
 
-class Worker:
-    """A copy of the crate with all that it rests on, proved once; each change is made in it and taken back."""
+class Copy:
+    """The crate with all that it rests on, in a folder of its own, proved as it is; each change is made in it and taken back.
+    Of `examples` it has the worked examples and no theorem: `proved` tells whether its functions need none."""
 
-    def __init__(self, crate, number):
-        self.crate, self.home = crate, ROOT / "target" / "mutate" / str(number)
-        shutil.rmtree(self.home, ignore_errors=True)
+    def __init__(self, crate, home, examples):
+        self.crate, self.home = crate, home
+        shutil.rmtree(home, ignore_errors=True)
         for name in (crates := needed(crate)):
             kept = shutil.ignore_patterns("must-fail")
-            shutil.copytree(ROOT / "crates" / name, self.home / "crates" / name, ignore=kept)
-        (self.home / "crates.txt").write_text("".join(f"{name}: {' '.join(uses)}\n" for name, uses in crates.items()))
+            shutil.copytree(ROOT / "crates" / name, home / "crates" / name, ignore=kept)
+        (home / "crates.txt").write_text("".join(f"{name}: {' '.join(uses)}\n" for name, uses in crates.items()))
         for part in ("rlib", "stamp"):
             if (ROOT / "target" / part).is_dir():
-                shutil.copytree(ROOT / "target" / part, self.home / "target" / part, symlinks=True)
-        for verb in ("check", "dev"):
-            status, said = self.rt(verb)
-            if status != 0:
-                sys.exit(f"the crate as it is is not proved:\n{said}")
-        self.saved, self.base = self.home / "target" / "inc" / crate, self.home / "base"
-        shutil.copytree(self.saved, self.base)
+                shutil.copytree(ROOT / "target" / part, home / "target" / part, symlinks=True)
+        if examples:
+            self.leave_examples(home / "crates" / crate / "proofs")
+        said = [self.rt(verb) for verb in ("check", "dev")]
+        self.proved = all(status == 0 for status, _ in said)
+        if self.proved:
+            self.saved, self.base = home / "target" / "inc" / crate, home / "base"
+            shutil.copytree(self.saved, self.base)
+        elif not examples:
+            sys.exit(f"the crate as it is is not proved:\n{said}")
+
+    @staticmethod
+    def leave_examples(proofs):
+        """Functions' proofs stand in folders of their functions' names; laws stand beside them."""
+        roots = [path for path in sorted(proofs.glob("*.antt")) if EXAMPLES.search(f"/proofs/{path.stem}")]
+        for path in set(proofs.glob("*.antt")) - set(roots):
+            path.unlink()
+        (proofs / "Lib.antt").write_text("".join(f"pub mod {path.stem}\n" for path in roots))
 
     def rt(self, verb):
         run = subprocess.Popen(
@@ -456,15 +469,34 @@ class Worker:
             return 3, f"no answer in {SECONDS} seconds"
         return run.returncode, said
 
-    def outcome(self, change):
+    def said_of(self, change, verbs):
+        """What the first of some verbs that doesn't pass says of a change, or the last."""
         path = self.home / change.file.path.relative_to(ROOT)
         path.write_text(change.applied())
-        status, said = self.rt("dev")
-        if status == 0:
-            status, said = self.rt("check")
+        for verb in verbs:
+            status, said = self.rt(verb)
+            if status != 0:
+                break
         path.write_text(change.file.text)
         shutil.rmtree(self.saved)
         shutil.copytree(self.base, self.saved)
+        return status, said
+
+
+class Worker:
+    """Tells of a change whether the examples refuse it, and if they don't whether the theorems do."""
+
+    def __init__(self, crate, number):
+        home = ROOT / "target" / "mutate" / str(number)
+        self.whole = Copy(crate, home / "whole", False)
+        self.examples = Copy(crate, home / "examples", True)
+
+    def outcome(self, change):
+        status = 0
+        if self.examples.proved:
+            status, said = self.examples.said_of(change, ["dev"])
+        if status == 0:
+            status, said = self.whole.said_of(change, ["dev", "check"])
         if status == 0:
             return "STILL PROVES", ""
         errors = [line for line in said.splitlines() if ": error: " in line]
@@ -474,13 +506,21 @@ class Worker:
             return "no answer", said[-300:]
         where = [line for line in errors if EXAMPLES.search(line)]
         first = (where or errors or [said[-300:]])[0]
-        return ("refused by an example" if where else "refused by a law"), first.replace(str(self.home), "")
+        return ("refused by an example" if where else "refused by a law"), first.replace(f"{ROOT}/target/mutate/", "")
+
+
+def new_lines(commit, path):
+    """The lines of a file that are new since a commit."""
+    said = subprocess.run(["git", "diff", "-U0", commit, "--", path], cwd=ROOT, capture_output=True, text=True, check=True).stdout
+    parts = re.findall(r"^@@ -\S+ \+(\d+)(?:,(\d+))? @@", said, flags=re.M)
+    return {int(first) + k for first, count in parts for k in range(int(count or 1))}
 
 
 def main():
     parse = argparse.ArgumentParser()
     parse.add_argument("--crate", default="rules")
     parse.add_argument("--file", default="")
+    parse.add_argument("--since", default="", help="only what is new since a commit")
     parse.add_argument("--count", type=int, default=0)
     parse.add_argument("--seed", type=int, default=1)
     parse.add_argument("--workers", type=int, default=2)
@@ -491,6 +531,9 @@ def main():
     changes = Changes(files, given.crate).found
     if given.file:
         changes = [c for c in changes if c.file.path.stem == given.file.removesuffix(".antt")]
+    if given.since:
+        new = {file.path: new_lines(given.since, file.path) for file in files.values()}
+        changes = [c for c in changes if c.line in new[c.file.path]]
     if given.count:
         changes = random.Random(given.seed).sample(changes, min(given.count, len(changes)))
     if given.list:
