@@ -43,13 +43,15 @@ refuse:
 	for crate in edits/*/; do to=target/refuse/crates/$${crate#edits/}must-fail; mkdir -p $$to; cp $$crate*.edit $$to/; done
 	cd target/refuse && rt must-fail
 
-# The definitions of CRATE (of its specs/FILE.antt alone, or COUNT changes that SEED picks), changed one place at a time: prints
-# every change that still proves (docs/TESTING.md). Whole, at a low priority beside other work, it takes an hour or two.
+# The definitions of CRATE (of its specs/FILE.antt alone, of lines new since the commit SINCE, or COUNT changes that SEED picks),
+# changed one place at a time: prints every change that still proves (docs/TESTING.md). Whole, at a low priority beside other
+# work, it takes an hour or two.
 CRATE = rules
 FILE =
+SINCE =
 COUNT = 0
 mutate:
-	RT_JOBS=1 nice -n 19 python3 tests/mutate.py --crate $(CRATE) --file '$(FILE)' --count $(COUNT) --seed $(SEED)
+	RT_JOBS=1 nice -n 19 python3 tests/mutate.py --crate $(CRATE) --file '$(FILE)' --since '$(SINCE)' --count $(COUNT) --seed $(SEED)
 
 # The long comparison with the Rust, ten to twenty minutes.
 compare: $(archive)
