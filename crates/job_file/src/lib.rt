@@ -1,12 +1,12 @@
-// The job on open files, as `samrows` does it with its standard input and `samrows_cases` with each of its files: the input is
-// read, its text made and written. No contract can say which bytes C's `read` and `write` move; what happens between them is
-// `put_text`'s.
+// The job on an open file, as `samrows` does it with its standard input and `samrows_cases` with each of its files: the input is
+// read and its text made, which the program then writes. No contract can say which bytes C's `read` and `write` move; that what
+// lies between them is the job's text of some input is `read_job`'s.
 ghost use mathlib.Core.Path.{_≡_};
 ghost use mathlib.Core.Bool.{true};
 ghost use Prim.Native.Nat.{_≤_};
 ghost use Rattle.rules.specs.Job.{most-input};
 ghost use Rattle.job.specs.Written.{Holds};
-ghost use Rattle.job_file.specs.Read.{text-of};
+ghost use Rattle.job_file.specs.Read.{text-of, OfSomeInput};
 
 // Whether the input goes on after the n bytes read: where they fill the array, one more byte is asked for.
 fn goes_on(from: i32, n: usize) -> bool
@@ -29,11 +29,12 @@ fn put_text(read: &[u8], more: bool, text: &mut [u8; job::TEXT]) -> usize
     job::run(read, text)
 }
 
-// Reads a job from the file `from`, and writes its text to the file `to`.
-pub fn run(from: i32, to: i32) {
+// Reads a job from the file `from`, and makes its text in the array lent; how long it is. Which input it was is left open, as
+// `read` leaves it; whichever it was, the text is that input's, whole.
+pub fn read_job(from: i32, text: &mut [u8; job::TEXT]) -> usize
+    ensures { λ r. ⌜ OfSomeInput (now (text .entry)) (now (text .exit)) r ⌝ }
+{
     let mut input = [0u8; job::INPUT];
     let n = io::read_full(from, &mut input);
-    let mut text = [0u8; job::TEXT];
-    let count = put_text(&input[..n], goes_on(from, n), &mut text);
-    io::write_all(to, &text[..count]);
+    put_text(&input[..n], goes_on(from, n), text)
 }
