@@ -171,7 +171,7 @@ low-part g v j h =
     ∙ mul-add-mod-self-right (g * 2 ^ (32 - j)) (2 ^ j) v
 
 -- What stands above a word does not matter to a read of its own bits.
-above : (g v c k : ℕ) → k + c ≤ 32 → (g * 2 ^ 32 + v) / 2 ^ c % 2 ^ k ≡ v / 2 ^ c % 2 ^ k
+pub above : (g v c k : ℕ) → k + c ≤ 32 → (g * 2 ^ 32 + v) / 2 ^ c % 2 ^ k ≡ v / 2 ^ c % 2 ^ k
 above g v c k h =
     sym (field (g * 2 ^ 32 + v) k c) ∙ ap (λ (x : ℕ). x / 2 ^ c) (low-part g v (k + c) h) ∙ field v k c
 

@@ -18,7 +18,7 @@ use Rattle.rules.specs.V2.{motion-offsets, reference, refers-before, bas
 use Rattle.rules.specs.References.{outside, strays, any-strays, tested-refusal}
 use Rattle.rules.specs.Ranges.{offset-4, reference-5}
 use Rattle.rules.proofs.Cells.{All, nil, more, all-get}
-use Rattle.rules.proofs.Tests.{clash, by-test}
+use Rattle.rules.proofs.Tests.{clash, both, by-test}
 use Rattle.rules.proofs.V2Places.{block-inside, further, reference-is, reference-row}
 
 -- ── The highest reference ──
@@ -117,18 +117,14 @@ module _ (n w row col motion : ℕ) where
       or-true true = refl
       or-true false = refl
 
-both-hold : (t u : Bool) → t && u ≡ true → (t ≡ true) × (u ≡ true)
-both-hold true u e = (refl, e)
-both-hold false u e = absurd (clash e refl)
-
 module _ (n w row col motion : ℕ) (two : 2 ≤ row) (fits : col + 16 ≤ w) (column : col % 16 ≡ 0) (room : row * w + col + 16 ≤ n) where
   -- A reference is outside exactly at row 2, column 0, motion 0, 1 or 2.
   pub strays-exactly : any-strays n w row col motion 16 0 ≡ refers-before row col motion
   unfolding refers-before
   strays-exactly =
       by-test (refers-before row col motion)
-      (λ e. rw e (let p = both-hold (eqb row 2) (eqb col 0 && ltb motion 3) e in
-      let q = both-hold (eqb col 0) (ltb motion 3) (p .1) in
+      (λ e. rw e (let p = both (eqb row 2) (eqb col 0 && ltb motion 3) e in
+      let q = both (eqb col 0) (ltb motion 3) (p .1) in
       one-strays n w row col motion (eqb-true row 2 (p .0)) (eqb-true col 0 (q .0)) (ltb-true motion 3 (q .1))))
       (λ e. rw e (none-strays n w row col motion 16 0
       (λ j l. inside-stays n w row col motion j (reference-inside w row col motion two (omega arith) column e n j l fits room))))

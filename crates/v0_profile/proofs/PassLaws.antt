@@ -1,56 +1,23 @@
 -- Residuals that are passed over: where the reader stands after them is told by their bits alone, whatever they are. So nothing is
 -- asked of their words but that they are there.
 use mathlib.Core.Path.{_≡_, refl, sym, ap, _∙_}
-use mathlib.Core.Bool.{Bool, true, false}
 use mathlib.Core.List.{List, [], _∷_}
-use Prim.Native.Nat.{ℕ, _+_, _*_, _-_, _/_, _%_, _^_, _≤_, _<_, min}
+use Prim.Native.Nat.{ℕ, _+_, _*_, _-_, _/_, _^_, _≤_, _<_}
 use native.Mathlib.Omega.{arith}
-use lib.Dec.{leb}
 use lib.IntN.{ℤ, pos}
 use lib.ListN.{length, getD}
-use borrow.Author.Tests.{leb-true, leb-false}
-use Rattle.rules.specs.Reader.{word-at, fetched, held, read, read-residual}
+use Rattle.rules.specs.Reader.{read-residual}
 use Rattle.rules.specs.Phases.{residuals}
 use Rattle.rules.specs.V0.{head, order, length-of, length-bits}
 use Rattle.rules.specs.declared.reader.Bits.{Bits}
 use Rattle.rules.specs.declared.v0.V0Row.{V0Row}
 use Rattle.rules.specs.declared.v0.V0Head.{V0Head}
-use Rattle.rules.proofs.ReaderLaws.{fetched-there, counted-there, held-is, read-held, read-next}
 use Rattle.window.specs.Window.{state-at}
+use Rattle.window.proofs.WindowLaws.{leaves}
 use Rattle.v0_stream.specs.Block.{with-residuals, whole-block}
 use Rattle.v0_stream.specs.declared.by_window.WindowHead.{WindowHead}
 use Rattle.v0_stream.proofs.BlockLaws.{bits-few-enough}
 use Rattle.v0_stream.proofs.GroupLaws.{Planned, near}
-
--- ── A read ──
-
--- The record after n bits stands n bits on.
-leaves : (s : List ℕ) (base q n f : ℕ) → 0 < q → n ≤ 32 → base + (q + n + 31) / 32 * 4 ≤ length s → base + (q + n + 31) / 32 * 4 + 4 < 2 ^ 64
-    → read s (state-at s base q f) n .bits ≡ state-at s base (q + n) f
-leaves s base q n f some fit there far = go (leb n (held b)) refl
-  where
-    b : Bits
-    b = state-at s base q f
-
-    cap : min n 32 ≡ n
-    cap = omega arith
-
-    holds : held b ≡ (q + 31) / 32 * 32 - q
-    holds = held-is b (omega arith)
-
-    go : (t : Bool) → leb n (held b) ≡ t → read s b n .bits ≡ state-at s base (q + n) f
-    go true t =
-        let h : n ≤ held b = leb-true n (held b) t in
-        let words : (q + n + 31) / 32 ≡ (q + 31) / 32 = omega (arith, holds) in
-        let count : (q + 31) / 32 * 32 - q - n ≡ (q + 31) / 32 * 32 - (q + n) = omega arith in
-        rw (read-held s b n (omega arith), cap, holds, words, count)
-    go false t =
-        let h : held b < n = leb-false n (held b) t in
-        let words : (q + n + 31) / 32 ≡ (q + 31) / 32 + 1 = omega (arith, holds) in
-        let count : (q + 31) / 32 * 32 - q + 32 - n ≡ ((q + 31) / 32 + 1) * 32 - (q + n) = omega arith in
-        let on : (base + (q + 31) / 32 * 4 + 4) % 2 ^ 64 ≡ base + ((q + 31) / 32 + 1) * 4 = omega arith in
-        let at : base + ((q + 31) / 32 + 1) * 4 - 4 ≡ base + (q + 31) / 32 * 4 = omega arith in
-        rw (read-next s b n (omega arith), cap, holds, fetched-there s (base + (q + 31) / 32 * 4) (omega arith), words, on, at, counted-there f, count)
 
 -- ── Residuals ──
 

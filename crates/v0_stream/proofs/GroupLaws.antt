@@ -9,7 +9,7 @@ use native.Mathlib.Numerals.{add-one}
 use lib.Dec.{ltb, leb}
 use lib.IntN.{ℤ, pos}
 use lib.ListN.{length, getD, set, replicate}
-use lib.Pow.{pow-pos, pow-mono, pow-add, shr-shr, mod-mod-pow}
+use lib.Pow.{pow-pos, pow-mono, pow-add, mod-mod-pow}
 use borrow.Author.Tests.{ltb-true, ltb-false, leb-true, leb-false}
 use Rattle.rules.specs.Reader.{word-at, signed, modulo, four}
 use Rattle.rules.specs.V0.{length-bits, head}
@@ -18,7 +18,7 @@ use Rattle.rules.specs.declared.v0.V0Row.{V0Row}
 use Rattle.rules.specs.declared.v0.V0Head.{V0Head}
 use Rattle.rules.proofs.ReaderLaws.{signed-low, signed-high}
 use Rattle.window.specs.Window.{bits-from, state-at, values-at, span, none, also, Window, Stands}
-use Rattle.window.proofs.WindowLaws.{in-window, fields-at, three-at}
+use Rattle.window.proofs.WindowLaws.{fields-at, fields-top, pair-top, three-at}
 use Rattle.v0_stream.specs.Block.{with-residuals, whole-block}
 use Rattle.v0_stream.specs.ByWindow.{residual, Room, HeadAt, Group, joined}
 use Rattle.v0_stream.specs.declared.by_window.WindowHead.{WindowHead}
@@ -81,34 +81,9 @@ low-made x n p w few ep ew =
 
 -- ── Four of one length ──
 
--- Field number 3 - i of four of n bits each, from the top of a window: each is cut after those behind it are moved out.
-module _ (s : List ℕ) (base q v : ℕ) (w : Window s base q v) where
-  fields-top : (n c : ℕ) → 4 * n + c ≡ 64
-      → (v / 2 ^ c / 2 ^ n / 2 ^ n / 2 ^ n % 2 ^ n ≡ bits-from s base q n)
-      × ((v / 2 ^ c / 2 ^ n / 2 ^ n % 2 ^ n ≡ bits-from s base (q + n) n)
-      × ((v / 2 ^ c / 2 ^ n % 2 ^ n ≡ bits-from s base (q + 2 * n) n) × (v / 2 ^ c % 2 ^ n ≡ bits-from s base (q + 3 * n) n)))
-  fields-top n c e =
-      let two : v / 2 ^ c / 2 ^ n ≡ v / 2 ^ (c + n) = shr-shr v c n in
-      let one : v / 2 ^ (c + n) / 2 ^ n ≡ v / 2 ^ (c + n + n) = shr-shr v (c + n) n in
-      let none : v / 2 ^ (c + n + n) / 2 ^ n ≡ v / 2 ^ (c + n + n + n) = shr-shr v (c + n + n) n in
-      let z : q + 0 ≡ q = omega arith in (
-        rw (two, one, none) (in-window s base q v 0 n (c + n + n + n) w (omega arith) ∙ rw z),
-        (
-          rw (two, one) (in-window s base q v n n (c + n + n) w (omega arith)),
-          (rw two (in-window s base q v (2 * n) n (c + n) w (omega arith)), in-window s base q v (3 * n) n c w (omega arith)),
-        ),
-      )
-
-  -- The same of two fields.
-  pair-top : (n c : ℕ) → 2 * n + c ≡ 64 → (v / 2 ^ c / 2 ^ n % 2 ^ n ≡ bits-from s base q n) × (v / 2 ^ c % 2 ^ n ≡ bits-from s base (q + n) n)
-  pair-top n c e =
-      let one : v / 2 ^ c / 2 ^ n ≡ v / 2 ^ (c + n) = shr-shr v c n in
-      let z : q + 0 ≡ q = omega arith in
-      (rw one (in-window s base q v 0 n (c + n) w (omega arith) ∙ rw z), in-window s base q v n n c w (omega arith))
-
-  -- The words that at most 64 bits of a window lie in.
-  pub window-words : (m : ℕ) → m ≤ 64 → (j : ℕ) → q ≤ j * 32 → j * 32 < q + m → word-at s (base + j * 4) < 2 ^ 32
-  window-words m few j l h = three-at s base (q / 32) j (w .words) (omega arith) (omega arith)
+-- The words that at most 64 bits of a window lie in.
+pub window-words : (s : List ℕ) (base q v : ℕ) → Window s base q v → (m : ℕ) → m ≤ 64 → (j : ℕ) → q ≤ j * 32 → j * 32 < q + m → word-at s (base + j * 4) < 2 ^ 32
+window-words s base q v w m few j l h = three-at s base (q / 32) j (w .words) (omega arith) (omega arith)
 
 -- What `four_at` makes of a window.
 pub four-made : (s : List ℕ) (base q n v p₀ p₁ p₂ p₃ r₀ r₁ r₂ r₃ : ℕ) → n ≤ 16 → Window s base q v

@@ -9,25 +9,19 @@ use lib.IntN.{ℤ, pos}
 use lib.ListN.{getD}
 use borrow.Author.Tests.{eqb-true, eqb-false}
 use Rattle.rules.specs.V0.{order, length-of}
+use Rattle.rules.proofs.Tests.{both, by-test}
 
 -- A test of 0 to n − 1, and what it says of each.
 all-below : ℕ → (ℕ → Bool) → Bool
 all-below zero f = true
 all-below (suc n) f = f n && all-below n f
 
-both-true : (a b : Bool) → a && b ≡ true → (a ≡ true) × (b ≡ true)
-both-true true true e = (refl, refl)
-both-true true false e = (refl, e)
-both-true false b e = (e, cc)
-
 each-below : (n : ℕ) (f : ℕ → Bool) → all-below n f ≡ true → (k : ℕ) → k < n → f k ≡ true
 unfolding all-below
 each-below zero f e k h = absurd (omega arith)
-each-below (suc n) f e k h = go (eqb k n) refl (λ l. each-below n f (both-true (f n) (all-below n f) e .1) k l)
-  where
-    go : (t : Bool) → eqb k n ≡ t → (k < n → f k ≡ true) → f k ≡ true
-    go true q ih = rw (eqb-true k n q) (both-true (f n) (all-below n f) e .0)
-    go false q ih = let ne = eqb-false k n q in ih (omega arith)
+each-below (suc n) f e k h =
+    let b = both (f n) (all-below n f) e in
+    by-test (eqb k n) (λ q. rw (eqb-true k n q) (b .0)) (λ q. let ne = eqb-false k n q in each-below n f (b .1) k (omega arith))
 
 -- Sample k of the stream is column 2 (k mod 8) + k / 8 of its block.
 pub order-at : (k : ℕ) → k < 16 → getD order k 0 ≡ 2 * (k % 8) + k / 8

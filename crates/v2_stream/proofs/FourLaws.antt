@@ -8,22 +8,19 @@ use native.Mathlib.Omega.{arith}
 use lib.Dec.{leb, eqb}
 use lib.IntN.{ℤ, pos}
 use lib.ListN.{length, getD, set}
-use lib.Pow.{pow-pos, shr-shr}
+use lib.Pow.{pow-pos}
 use borrow.Author.Tests.{leb-true, le-leb}
 use Rattle.rules.specs.Reader.{signed, read-signed}
 use Rattle.rules.specs.V2.{position, differences-from}
 use Rattle.rules.specs.declared.reader.Bits.{Bits}
 use Rattle.rules.proofs.ReaderLaws.{read-signed-is}
+use Rattle.rules.proofs.Tests.{both}
 use Rattle.window.specs.Window.{bits-from, state-at, Three, Window, Stands}
-use Rattle.window.proofs.WindowLaws.{in-window, read-at, three-at}
+use Rattle.window.proofs.WindowLaws.{fields-top, read-at, three-at}
 use Rattle.v2_stream.specs.Four.{FourAt, Short, short}
 use Rattle.v2_stream.proofs.LengthLaws.{difference-more, difference-end}
 
 -- ── Short lengths ──
-
-both : (t u : Bool) → (t && u) ≡ true → (t ≡ true) × (u ≡ true)
-both true u e = (refl, e)
-both false u e = ((cc), (cc))
 
 pub short-is : (ls : List ℕ) → short ls ≡ true → Short ls
 unfolding short
@@ -46,23 +43,6 @@ short-last ls a b c = simp (le-leb _ _ a, le-leb _ _ b, le-leb _ _ c)
 
 -- ── Four out of a window ──
 
--- Four of n bits from the top of a window, each moved down from the one after it.
-fields-top : (s : List ℕ) (base q v n c : ℕ) → Window s base q v → 4 * n + c ≡ 64
-    → (v / 2 ^ c / 2 ^ n / 2 ^ n / 2 ^ n % 2 ^ n ≡ bits-from s base q n)
-    × ((v / 2 ^ c / 2 ^ n / 2 ^ n % 2 ^ n ≡ bits-from s base (q + n) n)
-    × ((v / 2 ^ c / 2 ^ n % 2 ^ n ≡ bits-from s base (q + 2 * n) n) × (v / 2 ^ c % 2 ^ n ≡ bits-from s base (q + 3 * n) n)))
-fields-top s base q v n c w e =
-    let two : v / 2 ^ c / 2 ^ n ≡ v / 2 ^ (c + n) = shr-shr v c n in
-    let one : v / 2 ^ (c + n) / 2 ^ n ≡ v / 2 ^ (c + n + n) = shr-shr v (c + n) n in
-    let none : v / 2 ^ (c + n + n) / 2 ^ n ≡ v / 2 ^ (c + n + n + n) = shr-shr v (c + n + n) n in
-    let z : q + 0 ≡ q = omega arith in (
-      rw (two, one, none) (in-window s base q v 0 n (c + n + n + n) w (omega arith) ∙ rw z),
-      (
-        rw (two, one) (in-window s base q v n n (c + n + n) w (omega arith)),
-        (rw two (in-window s base q v (2 * n) n (c + n) w (omega arith)), in-window s base q v (3 * n) n c w (omega arith)),
-      ),
-    )
-
 -- What `four_at` makes of a window.
 pub four-made : (s : List ℕ) (base q n v p₀ p₁ p₂ p₃ : ℕ) (r₀ r₁ r₂ r₃ : ℤ) → n ≤ 16 → Window s base q v
     → p₀ ≡ 2 ^ ((64 - 4 * n) % 64) → p₁ ≡ 2 ^ n → p₂ ≡ 2 ^ n → p₃ ≡ 2 ^ n
@@ -74,7 +54,7 @@ four-made s base q zero v p₀ p₁ p₂ p₃ r₀ r₁ r₂ r₃ few w e₀ e�
     record { words = w .words; are = rw (f₀, f₁, f₂, f₃, z (v / p₀ / p₁ / p₂ / p₃), z (v / p₀ / p₁ / p₂), z (v / p₀ / p₁), z (v / p₀)) }
 four-made s base q (suc m) v p₀ p₁ p₂ p₃ r₀ r₁ r₂ r₃ few w e₀ e₁ e₂ e₃ f₀ f₁ f₂ f₃ =
     let c : (64 - 4 * suc m) % 64 ≡ 64 - 4 * suc m = omega arith in
-    let t = fields-top s base q v (suc m) (64 - 4 * suc m) w (omega arith) in
+    let t = fields-top s base q v w (suc m) (64 - 4 * suc m) (omega arith) in
     record { words = w .words; are = rw (f₀, f₁, f₂, f₃, e₀, e₁, e₂, e₃, c, t .0, t .1 .0, t .1 .1 .0, t .1 .1 .1) }
 
 -- ── As the state reads them ──

@@ -1,5 +1,6 @@
--- Reading by position is reading by the record: `read-at` says so of one read, `fields-at` of several. `cut-at` cuts fields out of
--- more bits, and `window-is` makes 64 bits of three words.
+-- Reading by position is reading by the record: `read-at` says so of one read, `leaves` of the record after one that need not be
+-- known, `fields-at` of several. `cut-at` cuts fields out of more bits, `window-is` makes 64 bits of three words, and `fields-top`
+-- cuts these into four.
 use mathlib.Core.Path.{_≡_, refl, sym, ap, subst, _∙_}
 use mathlib.Core.Bool.{Bool, true, false, _&&_}
 use mathlib.Core.List.{List, [], _∷_}
@@ -12,7 +13,8 @@ use lib.ListN.{length}
 use lib.Pow.{pow-pos, pow-mono, pow-add, high, low, field, shl-shr, shl-exact, shr-mod, shr-shr, mod-pow-add, mod-mod-pow}
 use borrow.Author.Tests.{le-leb, lt-leb, lt-ltb, le-ltb, leb-true, leb-false, ltb-true, eqb-true}
 use Rattle.rules.specs.Reader.{word-at, fetched, held, read, fields}
-use Rattle.rules.proofs.ReaderLaws.{fetched-there, counted-there, held-is, read-held, read-next, fields-none, fields-more}
+use Rattle.rules.proofs.ReaderLaws.{fetched-there, counted-there, held-is, read-held, read-next, above, fields-none, fields-more}
+use Rattle.rules.proofs.Tests.{both, by-test}
 use Rattle.rules.specs.declared.reader.Bits.{Bits}
 use Rattle.rules.specs.declared.reader.Got.{Got}
 use Rattle.window.specs.Window.{bit, bits-from, state-at, Three, Window, values-at, span, Narrow, none, also, stands-in, Stands}
@@ -53,18 +55,6 @@ in-word s base i r (suc k) h =
     rw (n, m, in-word s base i r k (omega arith), d, e, ← add-one k, mod-pow-add (w / 2 ^ c) k 1, shr-shr w c 1)
 
 -- ── Two words ──
-
-low-part : (g v j : ℕ) → j ≤ 32 → (g * 2 ^ 32 + v) % 2 ^ j ≡ v % 2 ^ j
-low-part g v j h =
-    let n : 32 ≡ 32 - j + j = omega arith in
-    let e : 2 ^ 32 ≡ 2 ^ (32 - j) * 2 ^ j = ap (λ (x : ℕ). 2 ^ x) n ∙ pow-add 2 (32 - j) j in
-    ap (λ (x : ℕ). (g * x + v) % 2 ^ j) e ∙ ap (λ (x : ℕ). (x + v) % 2 ^ j) (sym (mul-assoc g (2 ^ (32 - j)) (2 ^ j)))
-    ∙ mul-add-mod-self-right (g * 2 ^ (32 - j)) (2 ^ j) v
-
--- What stands above a word does not matter to a read of its own bits.
-above : (g v c k : ℕ) → k + c ≤ 32 → (g * 2 ^ 32 + v) / 2 ^ c % 2 ^ k ≡ v / 2 ^ c % 2 ^ k
-above g v c k h =
-    sym (field (g * 2 ^ 32 + v) k c) ∙ ap (λ (x : ℕ). x / 2 ^ c) (low-part g v (k + c) h) ∙ field v k c
 
 -- The last c bits of a word, and the first m of the next.
 across : (w v c m : ℕ) → m ≤ 32 → v < 2 ^ 32 → (w * 2 ^ 32 + v) / 2 ^ (32 - m) % 2 ^ (c + m) ≡ w % 2 ^ c * 2 ^ m + v / 2 ^ (32 - m) % 2 ^ m
@@ -149,15 +139,13 @@ reads-on s base i r m f some few more fit there far whole =
 -- It does so if its words are there, and a word that it fetches has 32 bits.
 reads-parts : (s : List ℕ) (base i r n : ℕ) (f : ℕ) → 0 < r → r ≤ 32 → n ≤ 32 → (32 < r + n → base + i * 4 + 8 ≤ length s) → base + i * 4 + 8 < 2 ^ 64
     → (32 < r + n → word-at s (base + i * 4 + 4) < 2 ^ 32) → Reads s base f (i * 32 + r) n
-reads-parts s base i r n f some few fit there far whole = go (leb (r + n) 32) refl
-  where
-    go : (t : Bool) → leb (r + n) 32 ≡ t → Reads s base f (i * 32 + r) n
-    go true t = reads-within s base i r n f some (leb-true (r + n) 32 t)
-    go false t =
-        let h : 32 < r + n = leb-false (r + n) 32 t in
-        let d : 32 - r + (r + n - 32) ≡ n = omega arith in
-        subst (λ (x : ℕ). Reads s base f (i * 32 + r) x) d
-        (reads-on s base i r (r + n - 32) f some few (omega arith) (omega arith) (there h) far (whole h))
+reads-parts s base i r n f some few fit there far whole =
+    by-test (leb (r + n) 32)
+    (λ t. reads-within s base i r n f some (leb-true (r + n) 32 t))
+    (λ t. let h : 32 < r + n = leb-false (r + n) 32 t in
+    let d : 32 - r + (r + n - 32) ≡ n = omega arith in
+    subst (λ (x : ℕ). Reads s base f (i * 32 + r) x) d
+    (reads-on s base i r (r + n - 32) f some few (omega arith) (omega arith) (there h) far (whole h)))
 
 pub read-at : (s : List ℕ) (base q n : ℕ) (f : ℕ) → 0 < q → n ≤ 32 → base + (q + n + 31) / 32 * 4 ≤ length s → base + (q + n + 31) / 32 * 4 + 4 < 2 ^ 64
     → ((q + 31) / 32 * 32 < q + n → word-at s (base + (q + 31) / 32 * 4) < 2 ^ 32) → Reads s base f q n
@@ -168,6 +156,36 @@ read-at s base q n f some fit there far whole =
     let a : base + (q + 31) / 32 * 4 ≡ base + i * 4 + 4 = omega arith in
     subst (λ (x : ℕ). Reads s base f x n) e
     (reads-parts s base i r n f (omega arith) (omega arith) fit (λ h. omega arith) (omega arith) (λ h. rw a at (whole (omega arith))))
+
+-- Whatever the bits are, the record after n of them stands n bits on.
+pub leaves : (s : List ℕ) (base q n f : ℕ) → 0 < q → n ≤ 32 → base + (q + n + 31) / 32 * 4 ≤ length s → base + (q + n + 31) / 32 * 4 + 4 < 2 ^ 64
+    → read s (state-at s base q f) n .bits ≡ state-at s base (q + n) f
+leaves s base q n f some fit there far = by-test (leb n (held b)) held-bits fetched-bits
+  where
+    b : Bits
+    b = state-at s base q f
+
+    cap : min n 32 ≡ n
+    cap = omega arith
+
+    holds : held b ≡ (q + 31) / 32 * 32 - q
+    holds = held-is b (omega arith)
+
+    held-bits : leb n (held b) ≡ true → read s b n .bits ≡ state-at s base (q + n) f
+    held-bits t =
+        let h : n ≤ held b = leb-true n (held b) t in
+        let words : (q + n + 31) / 32 ≡ (q + 31) / 32 = omega (arith, holds) in
+        let count : (q + 31) / 32 * 32 - q - n ≡ (q + 31) / 32 * 32 - (q + n) = omega arith in
+        rw (read-held s b n (omega arith), cap, holds, words, count)
+
+    fetched-bits : leb n (held b) ≡ false → read s b n .bits ≡ state-at s base (q + n) f
+    fetched-bits t =
+        let h : held b < n = leb-false n (held b) t in
+        let words : (q + n + 31) / 32 ≡ (q + 31) / 32 + 1 = omega (arith, holds) in
+        let count : (q + 31) / 32 * 32 - q + 32 - n ≡ ((q + 31) / 32 + 1) * 32 - (q + n) = omega arith in
+        let on : (base + (q + 31) / 32 * 4 + 4) % 2 ^ 64 ≡ base + ((q + 31) / 32 + 1) * 4 = omega arith in
+        let at : base + ((q + 31) / 32 + 1) * 4 - 4 ≡ base + (q + 31) / 32 * 4 = omega arith in
+        rw (read-next s b n (omega arith), cap, holds, fetched-there s (base + (q + 31) / 32 * 4) (omega arith), words, on, at, counted-there f, count)
 
 -- ── Fields ──
 
@@ -290,11 +308,32 @@ pub in-window : (s : List ℕ) (base q v a k c : ℕ) → Window s base q v → 
 in-window s base q v a k c w e =
     ap (λ (x : ℕ). x / 2 ^ c % 2 ^ k) (w .is) ∙ ap (λ (x : ℕ). bits-from s base q x / 2 ^ c % 2 ^ k) (sym e) ∙ cut-at s base q a k c
 
--- ── States ──
+-- Four fields of n bits each from the top of a window: each is cut after those behind it are moved out.
+module _ (s : List ℕ) (base q v : ℕ) (w : Window s base q v) where
+  pub fields-top : (n c : ℕ) → 4 * n + c ≡ 64
+      → (v / 2 ^ c / 2 ^ n / 2 ^ n / 2 ^ n % 2 ^ n ≡ bits-from s base q n)
+      × ((v / 2 ^ c / 2 ^ n / 2 ^ n % 2 ^ n ≡ bits-from s base (q + n) n)
+      × ((v / 2 ^ c / 2 ^ n % 2 ^ n ≡ bits-from s base (q + 2 * n) n) × (v / 2 ^ c % 2 ^ n ≡ bits-from s base (q + 3 * n) n)))
+  fields-top n c e =
+      let two : v / 2 ^ c / 2 ^ n ≡ v / 2 ^ (c + n) = shr-shr v c n in
+      let one : v / 2 ^ (c + n) / 2 ^ n ≡ v / 2 ^ (c + n + n) = shr-shr v (c + n) n in
+      let none : v / 2 ^ (c + n + n) / 2 ^ n ≡ v / 2 ^ (c + n + n + n) = shr-shr v (c + n + n) n in
+      let z : q + 0 ≡ q = omega arith in (
+        rw (two, one, none) (in-window s base q v 0 n (c + n + n + n) w (omega arith) ∙ rw z),
+        (
+          rw (two, one) (in-window s base q v n n (c + n + n) w (omega arith)),
+          (rw two (in-window s base q v (2 * n) n (c + n) w (omega arith)), in-window s base q v (3 * n) n c w (omega arith)),
+        ),
+      )
 
-both : (t u : Bool) → (t && u) ≡ true → (t ≡ true) × (u ≡ true)
-both true u e = (refl, e)
-both false u e = ((cc), (cc))
+  -- The same of two fields.
+  pub pair-top : (n c : ℕ) → 2 * n + c ≡ 64 → (v / 2 ^ c / 2 ^ n % 2 ^ n ≡ bits-from s base q n) × (v / 2 ^ c % 2 ^ n ≡ bits-from s base (q + n) n)
+  pair-top n c e =
+      let one : v / 2 ^ c / 2 ^ n ≡ v / 2 ^ (c + n) = shr-shr v c n in
+      let z : q + 0 ≡ q = omega arith in
+      (rw one (in-window s base q v 0 n (c + n) w (omega arith) ∙ rw z), in-window s base q v n n c w (omega arith))
+
+-- ── States ──
 
 -- A state that stands in the stream is one by position.
 pub stands-is : (s : List ℕ) (b : Bits) (more : ℕ) → stands-in s b more ≡ true → Stands s b more
