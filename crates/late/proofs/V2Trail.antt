@@ -20,6 +20,7 @@ use Rattle.rules.specs.V2.{field-widths, header, option-1, option-2, option-4, 
 use Rattle.late.specs.Late.{AgreeIn}
 use Rattle.late.proofs.Trail.{Trail, trail-none, trail-map, trail-then, trail-cond, wider, read-trail, fields-trail, four-trail, read-signed-trail}
 use Rattle.rules.proofs.Tests.{by-test}
+use Rattle.rules.proofs.V2Longer.{written, Seen, seen, state, finish, then-seen, then-is}
 
 -- ── What is read ──
 
@@ -144,40 +145,6 @@ module _ (p : ℕ) (s u : List ℕ) (agree : AgreeIn p s u) where
 
 -- ── A block, as far as it is written ──
 
--- The block itself where the outcome is `Next`, else none.
-abbrev written : V2Block → Block → List Block
-written (Next b st) x = x ∷ []
-written (EarlyMotion b) x = []
-written (Outside b) x = []
-written (LongDifference b) x = []
-
--- What a row takes of a block that is read.
-record Seen : Type 0 where
-  outcome : V2Block
-  mode : List (List ℕ)
-  blocks : List Block
-
-abbrev seen : Parsed → Seen
-seen p = record { outcome = p .outcome; mode = p .mode; blocks = written (p .outcome) (p .block) }
-
-abbrev state : Seen → Bits
-state q = state-after (q .outcome)
-
--- The block at a column, from its scale, its motion and what follows them.
-abbrev finish : V2Hdr → ℕ → ℕ → ℕ → ℤ → ℕ → Tail → Parsed
-finish h w row col scale motion x =
-    record {
-      outcome = x .outcome;
-      mode = x .mode;
-      block = record {
-        place = row * w + col;
-        scale = scale;
-        base = base h w row col motion;
-        differences = x .differences;
-        filler = has-filler (state-after (x .outcome));
-      };
-    }
-
 module _ (p : ℕ) (s u : List ℕ) (agree : AgreeIn p s u) (h : V2Hdr) (w row : ℕ) where
   module _ (col : ℕ) (scale : ℤ) (motion : ℕ) (st : V2Row) (mode : List (List ℕ)) where
     abbrev close : Tail → Seen
@@ -233,20 +200,6 @@ module _ (p : ℕ) (s u : List ℕ) (agree : AgreeIn p s u) (h : V2Hdr) (w row :
       from-scale v c = from-motion v c (read-motion v h (st .motion) (c .bits))
 
 -- ── A row ──
-
--- A block, as far as it is written, and what follows it.
-unfoldable then-seen : V2Block → List Block → (Bits → V2Row → Row) → Row
-then-seen (Next b st) xs rest = let q = rest b st in record { blocks = xs ++ q .blocks; number = q .number; bits = q .bits }
-then-seen (EarlyMotion b) xs rest = record { blocks = []; number = 5; bits = b }
-then-seen (Outside b) xs rest = record { blocks = []; number = 6; bits = b }
-then-seen (LongDifference b) xs rest = record { blocks = []; number = 7; bits = b }
-
-then-is : (o : V2Block) (x : Block) (rest : Bits → V2Row → Row) → then o x rest ≡ then-seen o (written o x) rest
-unfolding then then-seen
-then-is (Next b st) x rest = refl
-then-is (EarlyMotion b) x rest = refl
-then-is (Outside b) x rest = refl
-then-is (LongDifference b) x rest = refl
 
 module _ (p : ℕ) (s u : List ℕ) (agree : AgreeIn p s u) (h : V2Hdr) (w row : ℕ) where
   blocks-none : (col : ℕ) (b : Bits) (st : V2Row) (mode : List (List ℕ))

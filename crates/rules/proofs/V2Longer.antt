@@ -150,26 +150,26 @@ module _ (s u : List ℕ) (longer : Longer s u) where
 -- ── A block, as far as it is written ──
 
 -- The block itself where the outcome is `Next`, else none.
-abbrev written : V2Block → Block → List Block
+abbrev pub written : V2Block → Block → List Block
 written (Next b st) x = x ∷ []
 written (EarlyMotion b) x = []
 written (Outside b) x = []
 written (LongDifference b) x = []
 
 -- What a row takes of a block that is read.
-record Seen : Type 0 where
-  outcome : V2Block
-  mode : List (List ℕ)
-  blocks : List Block
+pub record Seen : Type 0 where
+  pub outcome : V2Block
+  pub mode : List (List ℕ)
+  pub blocks : List Block
 
-abbrev seen : Parsed → Seen
+abbrev pub seen : Parsed → Seen
 seen p = record { outcome = p .outcome; mode = p .mode; blocks = written (p .outcome) (p .block) }
 
-abbrev state : Seen → Bits
+abbrev pub state : Seen → Bits
 state q = state-after (q .outcome)
 
 -- The block at a column, from its scale, its motion and what follows them.
-abbrev finish : V2Hdr → ℕ → ℕ → ℕ → ℤ → ℕ → Tail → Parsed
+abbrev pub finish : V2Hdr → ℕ → ℕ → ℕ → ℤ → ℕ → Tail → Parsed
 finish h w row col scale motion x =
     record {
       outcome = x .outcome;
@@ -238,13 +238,13 @@ module _ (s u : List ℕ) (longer : Longer s u) (h : V2Hdr) (w row : ℕ) where
 -- ── A row ──
 
 -- A block, as far as it is written, and what follows it.
-unfoldable then-seen : V2Block → List Block → (Bits → V2Row → Row) → Row
+unfoldable pub then-seen : V2Block → List Block → (Bits → V2Row → Row) → Row
 then-seen (Next b st) xs rest = let q = rest b st in record { blocks = xs ++ q .blocks; number = q .number; bits = q .bits }
 then-seen (EarlyMotion b) xs rest = record { blocks = []; number = 5; bits = b }
 then-seen (Outside b) xs rest = record { blocks = []; number = 6; bits = b }
 then-seen (LongDifference b) xs rest = record { blocks = []; number = 7; bits = b }
 
-then-is : (o : V2Block) (x : Block) (rest : Bits → V2Row → Row) → then o x rest ≡ then-seen o (written o x) rest
+pub then-is : (o : V2Block) (x : Block) (rest : Bits → V2Row → Row) → then o x rest ≡ then-seen o (written o x) rest
 unfolding then then-seen
 then-is (Next b st) x rest = refl
 then-is (EarlyMotion b) x rest = refl
