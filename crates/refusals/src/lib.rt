@@ -60,7 +60,7 @@ fn bytes_of_scratch(size: Size) -> usize
     if size.height < 2 {
         return 0;
     }
-    (size.width + 15) / V0Row::BLOCK * (size.height - 2)
+    V0Row::blocks_in(size.width) * (size.height - 2)
 }
 
 // The first of refusals 1 to 4 that holds, or 0.

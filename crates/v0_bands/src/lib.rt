@@ -37,7 +37,7 @@ fn add_band(
     requires { ⌜ BandLent w «block_width» block row n (now out) (now dirs) ⌝ }
     ensures { λ _. ⌜ now (out .exit) ≡ predict-band sample-stage w «block_width» block n row (now (dirs .entry)) (now (out .entry)) ⌝ }
 {
-    let blocks = (w + 15) / V0Row::BLOCK;
+    let blocks = V0Row::blocks_in(w);
     let from = block * (block_width / V0Row::BLOCK);
     let to = least(from + block_width / V0Row::BLOCK, blocks);
     let mut r: usize = 0;

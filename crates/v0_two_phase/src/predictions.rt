@@ -175,7 +175,7 @@ pub fn add_rows(out: &mut [u16], dirs: &[u8], size: Size)
 {
     let w = size.width;
     let h = size.height;
-    let blocks = (w + 15) / V0Row::BLOCK;
+    let blocks = V0Row::blocks_in(w);
     let mut r: usize = 0;
     while r + 2 < h {
         add_part(out, dirs, r * blocks, 0, blocks, w, r + 2);

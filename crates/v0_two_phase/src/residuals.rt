@@ -138,7 +138,7 @@ pub fn parse_v0_residuals(src: &[u8], offset: u32, width: usize, out: &mut [u16]
     ensures residuals { λ _. ⌜ now (out .exit) ≡ store-blocks 0 width 0 (row-records (now (src .entry)) width 2 offset) (now (out .entry)) ⌝ }
     ensures directions { λ _. ⌜ now (dirs .exit) ≡ map direction (row-records (now (src .entry)) width 2 offset) ++ drop (blocks-in width) (now (dirs .entry)) ⌝ }
 {
-    let blocks = (width + 15) / V0Row::BLOCK;
+    let blocks = V0Row::blocks_in(width);
     let mut row = V0Row::fresh(2, offset);
     let mut k: usize = 0;
     while k < blocks {
@@ -160,7 +160,7 @@ pub fn parse_rows(src: &[u8], offsets: &[u32], size: Size, out: &mut [u16], dirs
 {
     let w = size.width;
     let h = size.height;
-    let blocks = (w + 15) / V0Row::BLOCK;
+    let blocks = V0Row::blocks_in(w);
     let mut r: usize = 0;
     while r + 2 < h {
         let row = r + 2;

@@ -8,14 +8,14 @@ use Rattle.refusals.proofs.bytes_of_scratch.Tie as tie
 returns : tie.Need-returns
 returns c = no-late-rows _ _ (c .if1 .taken)
 
-add-result : tie.Need-add-result
-add-result c = search needs
+blocks-in-requires : tie.Need-blocks-in-requires
+blocks-in-requires c κs = search needs
 
 mul-result : tie.Need-mul-result
-mul-result c = omega (arith, scratch-fits _ _ (c .before .before .before .before .pre .0) (c .before .before .before .before .pre .1))
+mul-result c = let s = c .before .before .before .before in rw (c .before .blocks-in .ensures) (omega (arith, scratch-fits _ _ (s .pre .0) (s .pre .1)))
 
 returns-2 : tie.Need-returns-2
-returns-2 c = search needs
+returns-2 c = rw (c .before .blocks-in .ensures)
 
 pub bytes-of-scratch-spec : {M : Type 1} → statement M
-bytes-of-scratch-spec = tie.close (tie.spec returns add-result mul-result returns-2)
+bytes-of-scratch-spec = tie.close (tie.spec returns blocks-in-requires mul-result returns-2)

@@ -1,5 +1,6 @@
 -- What is left from row r of the band on comes to all its rows.
-use Prim.Native.Nat.{_-_}
+use mathlib.Core.Path.{ap, _∙_}
+use Prim.Native.Nat.{ℕ, _+_, _-_, _*_, _/_, min}
 use native.Mathlib.Omega.{arith}
 use borrow.Author.Needs.{needs}
 use Rattle.rules.specs.Phases.{sample-stage}
@@ -13,14 +14,21 @@ Inv-loop out₀ dirs w block-width block row n blocks from to r₀ out r = Band 
 abbrev μ-loop : tie.MeasureT-loop
 μ-loop out₀ dirs w block-width block row n blocks from to r₀ out r = n - r
 
-add-blocks : tie.Need-add-blocks Inv-loop μ-loop
-add-blocks c = omega (arith, c .before .before .pre .width)
+-- Places that the answers look back at.
+abbrev at-start : tie.At-loop Inv-loop μ-loop → tie.Start Inv-loop μ-loop
+at-start c = c .before .before .before .before .before
+
+abbrev at-loop : tie.After-slice-known2 Inv-loop μ-loop → tie.At-loop Inv-loop μ-loop
+at-loop c = c .before .before .before .before .before
+
+blocks-in-requires : tie.Need-blocks-in-requires Inv-loop μ-loop
+blocks-in-requires c κs = c .before .before .pre .width
 
 mul-from : tie.Need-mul-from Inv-loop μ-loop
-mul-from c = omega (arith, from-low (c .before .before .pre), c .before .before .pre .width)
+mul-from c = omega (arith, from-low (c .before .before .before .pre), c .before .before .before .pre .width)
 
 add-least : tie.Need-add-least Inv-loop μ-loop
-add-least c = omega (arith, from-low (c .before .before .pre), c .before .before .pre .width)
+add-least c = omega (arith, from-low (c .before .before .before .pre), c .before .before .before .pre .width)
 
 least-requires : tie.Need-least-requires Inv-loop μ-loop
 least-requires c κs = search needs
@@ -29,25 +37,27 @@ loop-holds : tie.Need-loop-holds Inv-loop μ-loop
 loop-holds c = band-begun _ _ _ _ _ _ _ _
 
 add-add-part : tie.Need-add-add-part Inv-loop μ-loop
-add-add-part c = omega (arith, c .before .before .before .before .before .before .pre .rows-below)
+add-add-part c = omega (arith, at-start (c .before .before) .pre .rows-below)
 
 sub-add-part : tie.Need-sub-add-part Inv-loop μ-loop
-sub-add-part c = omega (arith, c .before .before .before .before .before .before .pre .rows-above)
+sub-add-part c = omega (arith, at-start (c .before .before) .pre .rows-above)
 
 mul-add-part : tie.Need-mul-add-part Inv-loop μ-loop
 mul-add-part c =
-    let p = c .before .before .before .before .before .before .pre in
+    let p = at-start (c .before .before) .pre in
     record { fits = small-product _ _ (omega (arith, p .rows-below)) (omega (arith, p .width)) }
 
 add-add-part-2 : tie.Need-add-add-part-2 Inv-loop μ-loop
-add-add-part-2 c = omega (arith, c .before .before .before .before .before .before .pre .rows-below)
+add-add-part-2 c = omega (arith, at-start (c .before .before) .pre .rows-below)
 
 add-part-requires : tie.Need-add-part-requires Inv-loop μ-loop
 add-part-requires c κs =
-    let p = c .before .before .before .before .before .before .pre in
-    let l = c .before .before .loop in (
+    let p = at-start (c .before .before) .pre in
+    let l = c .before .before .loop in
+    let b = c .before .before .before .before .blocks-in in
+    let m = c .before .before .before .least in (
       row-late p _ (l .inv .same-length) (l .r) (omega arith),
-      (omega (arith, directions-within p (l .r) (omega arith), c .before .before .before .least .ensures), omega (arith, c .before .before .before .least .ensures)),
+      rw (b .ensures) (omega (arith, directions-within p (l .r) (omega arith), m .ensures, b .ensures), omega (arith, m .ensures, b .ensures)),
     )
 
 add-r : tie.Need-add-r Inv-loop μ-loop
@@ -58,7 +68,10 @@ loop-less c = omega arith
 
 loop-again : tie.Need-loop-again Inv-loop μ-loop
 loop-again c =
-    band-on _ _ _ _ _ _ _ _ _ _ _ (omega arith) (c .before .before .before .before .before .before .before .before .before .pre .multiple) (directions-within (c .before .before .before .before .before .before .before .before .before .pre) _ (omega arith)) (c .before .before .add-part .kept .0) _ (c .before .before .before .before .before .before .least .ensures) (c .before .before .add-part .ensures) (c .before .before .before .before .before .loop .inv)
+    let b = at-loop c .before .before .blocks-in in
+    let a = at-start (at-loop c) .args in
+    let i = a .block-width / 16 in
+    band-on _ _ _ _ _ _ _ _ _ _ _ (omega arith) (at-start (at-loop c) .pre .multiple) (directions-within (at-start (at-loop c) .pre) _ (omega arith)) (c .before .before .add-part .kept .0) _ (at-loop c .before .least .ensures ∙ ap (λ (x : ℕ). min (a .block * i + i) x) (b .ensures)) (rw (b .ensures) at (c .before .before .add-part .ensures)) (c .before .before .before .before .before .loop .inv)
 
 same-length : tie.Need-same-length Inv-loop μ-loop
 same-length c = search needs
@@ -72,7 +85,7 @@ add-band-spec =
     (tie.spec
     Inv-loop
     μ-loop
-    add-blocks
+    blocks-in-requires
     mul-from
     add-least
     least-requires

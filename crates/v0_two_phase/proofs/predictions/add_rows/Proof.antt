@@ -1,6 +1,6 @@
 -- What is left from row r + 2 on comes to all rows.
 use mathlib.Core.Path.{_∙_}
-use Prim.Native.Nat.{_+_, _-_, _*_, _/_}
+use Prim.Native.Nat.{_-_, _*_}
 use native.Mathlib.Omega.{arith}
 use denote.Ref.{now}
 use borrow.Author.Needs.{needs}
@@ -16,8 +16,8 @@ Inv-loop out₀ dirs w h blocks r₀ out r = Rows sample-stage w h dirs out₀ o
 abbrev μ-loop : tie.MeasureT-loop
 μ-loop out₀ dirs w h blocks r₀ out r = h - r
 
-add-blocks : tie.Need-add-blocks Inv-loop μ-loop
-add-blocks c = search needs
+blocks-in-requires : tie.Need-blocks-in-requires Inv-loop μ-loop
+blocks-in-requires c κs = search needs
 
 loop-holds : tie.Need-loop-holds Inv-loop μ-loop
 loop-holds c = rows-begun _ _ _ _ _
@@ -26,23 +26,23 @@ add-loop : tie.Need-add-loop Inv-loop μ-loop
 add-loop c = search needs
 
 mul-add-part : tie.Need-mul-add-part Inv-loop μ-loop
-mul-add-part c = omega (arith, directions-within ((c .before .before .before .before .before .args .size .width + 15) / 16) (c .before .before .before .before .before .args .size .height) (c .before .before .loop .r) _ (omega arith) (c .before .before .before .before .before .pre .directions-lent))
+mul-add-part c = rw (c .before .before .before .blocks-in .ensures) (omega (arith, directions-within _ (c .before .before .before .before .before .before .args .size .height) (c .before .before .loop .r) _ (omega arith) (c .before .before .before .before .before .before .pre .directions-lent)))
 
 add-add-part : tie.Need-add-add-part Inv-loop μ-loop
 add-add-part c = search needs
 
 add-part-requires : tie.Need-add-part-requires Inv-loop μ-loop
 add-part-requires c κs =
-    let p = c .before .before .before .before .before .pre in
+    let p = c .before .before .before .before .before .before .pre in
     let l = c .before .before .loop in
-    let h = c .before .before .before .before .before .args .size .height in (
+    let h = c .before .before .before .before .before .before .args .size .height in (
       record {
         width = p .frame .width;
         rows-above = omega arith;
         row-below = omega (arith, p .frame .height);
         row-lent = row-within _ h (l .r) _ (omega arith) (l .inv .same-length ∙ p .frame .lent);
       },
-      (directions-within _ h (l .r) _ (omega arith) (p .directions-lent), omega arith),
+      rw (c .before .before .before .blocks-in .ensures) (directions-within _ h (l .r) _ (omega arith) (p .directions-lent), omega arith),
     )
 
 add-r : tie.Need-add-r Inv-loop μ-loop
@@ -53,11 +53,11 @@ loop-less c = search needs
 
 loop-again : tie.Need-loop-again Inv-loop μ-loop
 loop-again c =
-    let a = c .before .before .before .before .before .before .before .before .args in
+    let a = c .before .before .before .before .before .before .before .before .before .args in
     let l = c .before .before .before .before .before .loop in
-    let n = (a .size .width + 15) / 16 in
+    let b = c .before .before .before .before .before .before .blocks-in in
     rows-on _ _ _ _ _ _ _ _ (omega arith) (c .before .before .add-part .kept .0)
-    (whole-row _ _ _ (l .r * n) n (now (a .dirs)) _ _ (c .before .before .add-part .ensures)) (l .inv)
+    (rw (b .ensures) at (whole-row _ _ _ (l .r * b .result) (b .result) (now (a .dirs)) _ _ (c .before .before .add-part .ensures))) (l .inv)
 
 same-length : tie.Need-same-length Inv-loop μ-loop
 same-length c = search needs
@@ -71,7 +71,7 @@ add-rows-spec =
     (tie.spec
     Inv-loop
     μ-loop
-    add-blocks
+    blocks-in-requires
     loop-holds
     add-loop
     mul-add-part

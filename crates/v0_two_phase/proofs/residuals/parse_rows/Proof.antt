@@ -1,11 +1,12 @@
 -- What is left from row r + 2 on comes to all rows; a row's two parts lie within what is lent.
 use mathlib.Core.Path.{_∙_}
-use Prim.Native.Nat.{ℕ, _+_, _-_, _*_, _/_, _≤_}
+use Prim.Native.Nat.{ℕ, _+_, _-_, _*_, _≤_}
 use native.Mathlib.Omega.{arith}
 use lib.ListN.{length, length-drop}
 use borrow.Rule.Slice.PartMut.{same-len-mid}
 use borrow.Author.Needs.{needs}
 use Rattle.rules.specs.Phases.{scratch}
+use Rattle.rules.specs.V0.{blocks-in}
 use Rattle.v0_cells.proofs.CellLaws.{product}
 use Rattle.v0_two_phase.proofs.RowsLaws.{Rows, rows-begun, rows-on, rows-done, tail-lent, row-within, directions-within}
 use Rattle.v0_two_phase.proofs.residuals.parse_rows.Statement.{statement}
@@ -19,19 +20,19 @@ abbrev μ-loop : tie.MeasureT-loop
 
 -- The row lies within the frame, and its directions within theirs.
 samples-room : (c : tie.In-loop Inv-loop μ-loop)
-    → (c .before .loop .r + 2) * c .before .before .before .before .before .before .args .size .width + c .before .before .before .before .before .before .args .size .width ≤ length (c .before .loop .out)
+    → (c .before .loop .r + 2) * c .before .before .before .before .before .before .before .args .size .width + c .before .before .before .before .before .before .before .args .size .width ≤ length (c .before .loop .out)
 samples-room c =
-    row-within _ (c .before .before .before .before .before .before .args .size .height) _ _ (omega arith) (c .before .loop .inv .same-samples ∙ c .before .before .before .before .before .before .pre .0 .frame .lent)
+    row-within _ (c .before .before .before .before .before .before .before .args .size .height) _ _ (omega arith) (c .before .loop .inv .same-samples ∙ c .before .before .before .before .before .before .before .pre .0 .frame .lent)
 
 dirs-room : (c : tie.In-loop Inv-loop μ-loop)
-    → c .before .loop .r * ((c .before .before .before .before .before .before .args .size .width + 15) / 16) + (c .before .before .before .before .before .before .args .size .width + 15) / 16
-    ≤ length (c .before .loop .dirs)
+    → c .before .loop .r * c .before .before .blocks-in .result + c .before .before .blocks-in .result ≤ length (c .before .loop .dirs)
 dirs-room c =
-    directions-within _ (c .before .before .before .before .before .before .args .size .height) _ _ (omega arith)
-    (omega (arith, c .before .loop .inv .same-dirs, c .before .before .before .before .before .before .pre .0 .directions-lent))
+    rw (c .before .before .blocks-in .ensures)
+    (directions-within _ (c .before .before .before .before .before .before .before .args .size .height) _ _ (omega arith)
+    (omega (arith, c .before .loop .inv .same-dirs, c .before .before .before .before .before .before .before .pre .0 .directions-lent)))
 
-add-blocks : tie.Need-add-blocks Inv-loop μ-loop
-add-blocks c = search needs
+blocks-in-requires : tie.Need-blocks-in-requires Inv-loop μ-loop
+blocks-in-requires c κs = search needs
 
 loop-holds : tie.Need-loop-holds Inv-loop μ-loop
 loop-holds c = rows-begun _ _ _ _ _ _
@@ -56,7 +57,7 @@ shared-slice-read-parse-v0-residuals :
 shared-slice-read-parse-v0-residuals c = search needs
 
 mul-parse-v0-residuals-2 : tie.Need-mul-parse-v0-residuals-2 Inv-loop μ-loop
-mul-parse-v0-residuals-2 c = omega (arith, product (c .before .before .loop .r + 2) (c .before .before .before .before .before .before .before .args .size .width) (omega (arith, c .before .before .before .before .before .before .before .pre .0 .frame .height)) (omega (arith, c .before .before .before .before .before .before .before .pre .0 .frame .width)))
+mul-parse-v0-residuals-2 c = omega (arith, product (c .before .before .loop .r + 2) (c .before .before .before .before .before .before .before .before .args .size .width) (omega (arith, c .before .before .before .before .before .before .before .before .pre .0 .frame .height)) (omega (arith, c .before .before .before .before .before .before .before .before .pre .0 .frame .width)))
 
 sub-parse-v0-residuals : tie.Need-sub-parse-v0-residuals Inv-loop μ-loop
 sub-parse-v0-residuals c = omega (arith, samples-room (c .before))
@@ -79,12 +80,13 @@ part-parse-v0-residuals-end-2 c = search needs
 parse-v0-residuals-requires : tie.Need-parse-v0-residuals-requires Inv-loop μ-loop
 parse-v0-residuals-requires c κs =
     let l = c .before .before .before .before .loop in
-    let w = c .before .before .before .before .before .before .before .before .before .args .size .width in
+    let b = c .before .before .before .before .before .blocks-in in
+    let w = c .before .before .before .before .before .before .before .before .before .before .args .size .width in
     record {
-      width = c .before .before .before .before .before .before .before .before .before .pre .0 .frame .width;
+      width = c .before .before .before .before .before .before .before .before .before .before .pre .0 .frame .width;
       samples-lent = rw (tail-lent ((l .r + 2) * w) (l .out)) (omega (arith, samples-room (c .before .before .before), length-drop ((l .r + 2) * w) (l .out)));
       directions-lent =
-          rw (tail-lent (l .r * ((w + 15) / 16)) (l .dirs)) (omega (arith, dirs-room (c .before .before .before), length-drop (l .r * ((w + 15) / 16)) (l .dirs)));
+          rw (tail-lent (l .r * b .result) (l .dirs)) (omega (arith, dirs-room (c .before .before .before), length-drop (l .r * b .result) (l .dirs), b .ensures));
     }
 
 add-r : tie.Need-add-r Inv-loop μ-loop
@@ -96,15 +98,17 @@ loop-less c = search needs
 loop-again : tie.Need-loop-again Inv-loop μ-loop
 loop-again c =
     let l = c .before .before .before .before .before .before .before .before .before .loop in
-    let z = c .before .before .before .before .before .before .before .before .before .before .before .before .before .before .args .size in
-    let n = (z .width + 15) / 16 in
+    let z = c .before .before .before .before .before .before .before .before .before .before .before .before .before .before .before .args .size in
+    let b = c .before .before .before .before .before .before .before .before .before .before .blocks-in in
+    let n = blocks-in (z .width) in
     let first = (l .r + 2) * z .width in
     let p = c .before .before .before .before .parse-v0-residuals in
-    let enough : n * (z .height - 2) ≤ length (l .dirs) = omega (arith, l .inv .same-dirs, c .before .before .before .before .before .before .before .before .before .before .before .before .before .before .pre .0 .directions-lent) in
-    rows-on _ _ _ _ _ _ _ (omega arith) (directions-within n (z .height) (l .r) (n * (z .height - 2)) (omega arith) (omega arith)) enough _ _ _ _
+    let enough : n * (z .height - 2) ≤ length (l .dirs) = omega (arith, l .inv .same-dirs, c .before .before .before .before .before .before .before .before .before .before .before .before .before .before .before .pre .0 .directions-lent) in
+    rw (b .ensures)
+    (rows-on _ _ _ _ _ _ _ (omega arith) (directions-within n (z .height) (l .r) (n * (z .height - 2)) (omega arith) (omega arith)) enough _ _ _ _
     (same-len-mid {X = ℕ} first (length (l .out) - first) (l .out) (p .last .1 .1 .1 .0) (p .kept .1 .1 .1 .0))
-    (same-len-mid {X = ℕ} (l .r * n) (length (l .dirs) - l .r * n) (l .dirs) (p .last .1 .1 .1 .1 .0) (p .kept .1 .1 .1 .1 .0))
-    (p .ensures .0) (p .ensures .1) (l .inv)
+    (rw (b .ensures) at (same-len-mid {X = ℕ} (l .r * b .result) (length (l .dirs) - l .r * b .result) (l .dirs) (p .last .1 .1 .1 .1 .0) (p .kept .1 .1 .1 .1 .0)))
+    (p .ensures .0) (rw (b .ensures) at (p .ensures .1)) (l .inv))
 
 same-length : tie.Need-same-length Inv-loop μ-loop
 same-length c = search needs
@@ -115,7 +119,7 @@ same-length-2 c = search needs
 returns : tie.Need-returns Inv-loop μ-loop
 unfolding scratch
 returns c =
-    rows-done _ _ _ _ _ _ _ _ _ (omega arith) (omega (arith, c .before .loop .inv .same-dirs, c .before .before .before .before .before .before .pre .0 .directions-lent)) (c .before .loop .inv)
+    rows-done _ _ _ _ _ _ _ _ _ (omega arith) (omega (arith, c .before .loop .inv .same-dirs, c .before .before .before .before .before .before .before .pre .0 .directions-lent)) (c .before .loop .inv)
 
 pub parse-rows-spec : {M : Type 1} → statement M
 parse-rows-spec =
@@ -123,7 +127,7 @@ parse-rows-spec =
     (tie.spec
     Inv-loop
     μ-loop
-    add-blocks
+    blocks-in-requires
     loop-holds
     add-loop
     add-row

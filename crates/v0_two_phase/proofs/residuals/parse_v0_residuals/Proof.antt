@@ -1,5 +1,4 @@
 -- What is left from block k on comes to the whole row, and the lengths stay near 0.
-use mathlib.Core.Path.{refl}
 use Prim.Native.Nat.{_-_}
 use native.Mathlib.Omega.{arith}
 use borrow.Author.Needs.{needs}
@@ -13,8 +12,8 @@ Inv-loop src offset width out₀ dirs₀ blocks row₀ k₀ out dirs row k = Par
 abbrev μ-loop : tie.MeasureT-loop
 μ-loop src offset width out₀ dirs₀ blocks row₀ k₀ out dirs row k = blocks - k
 
-add-blocks : tie.Need-add-blocks Inv-loop μ-loop
-add-blocks c = search needs
+blocks-in-requires : tie.Need-blocks-in-requires Inv-loop μ-loop
+blocks-in-requires c κs = search needs
 
 fresh-requires : tie.Need-fresh-requires Inv-loop μ-loop
 fresh-requires c κs = search needs
@@ -35,7 +34,7 @@ mul-store-residuals : tie.Need-mul-store-residuals Inv-loop μ-loop
 mul-store-residuals c = search needs
 
 store-residuals-requires : tie.Need-store-residuals-requires Inv-loop μ-loop
-store-residuals-requires c κs = (omega (arith, c .before .before .before .before .before .loop .inv .same-samples, c .before .before .before .before .before .before .before .before .before .before .pre .samples-lent), omega arith)
+store-residuals-requires c κs = (omega (arith, c .before .before .before .before .before .loop .inv .same-samples, c .before .before .before .before .before .before .before .before .before .before .before .pre .samples-lent), omega arith)
 
 add-k : tie.Need-add-k Inv-loop μ-loop
 add-k c = search needs
@@ -44,7 +43,7 @@ loop-less : tie.Need-loop-less Inv-loop μ-loop
 loop-less c = search needs
 
 loop-again : tie.Need-loop-again Inv-loop μ-loop
-loop-again c = parsing-on _ _ _ _ _ _ _ _ _ _ _ _ _ (search needs) (omega (arith, c .before .before .before .before .before .before .before .before .before .loop .inv .same-dirs, c .before .before .before .before .before .before .before .before .before .before .before .before .before .before .pre .directions-lent)) (c .before .before .before .before .before .before .before .next-block .ensures) (c .before .before .before .before .before .before .direction-byte .ensures) (c .before .before .before .store-residuals .kept .0) (c .before .before .before .store-residuals .ensures) (c .before .before .before .before .before .before .before .before .before .loop .inv)
+loop-again c = parsing-on _ _ _ _ _ _ _ _ _ _ _ _ _ (search needs) (omega (arith, c .before .before .before .before .before .before .before .before .before .loop .inv .same-dirs, c .before .before .before .before .before .before .before .before .before .before .before .before .before .before .before .pre .directions-lent)) (c .before .before .before .before .before .before .before .next-block .ensures) (c .before .before .before .before .before .before .direction-byte .ensures) (c .before .before .before .store-residuals .kept .0) (c .before .before .before .store-residuals .ensures) (c .before .before .before .before .before .before .before .before .before .loop .inv)
 
 same-length : tie.Need-same-length Inv-loop μ-loop
 same-length c = search needs
@@ -53,7 +52,7 @@ same-length-2 : tie.Need-same-length-2 Inv-loop μ-loop
 same-length-2 c = search needs
 
 returns : tie.Need-returns Inv-loop μ-loop
-returns c = parsing-done _ _ _ _ _ _ _ _ _ _ _ (omega arith) refl (c .before .before .fresh .ensures) (c .before .loop .inv)
+returns c = parsing-done _ _ _ _ _ _ _ _ _ _ _ (omega arith) (c .before .before .before .blocks-in .ensures) (c .before .before .fresh .ensures) (c .before .loop .inv)
 
 pub parse-v0-residuals-spec : {M : Type 1} → statement M
 parse-v0-residuals-spec =
@@ -61,7 +60,7 @@ parse-v0-residuals-spec =
     (tie.spec
     Inv-loop
     μ-loop
-    add-blocks
+    blocks-in-requires
     fresh-requires
     loop-holds
     next-block-requires
