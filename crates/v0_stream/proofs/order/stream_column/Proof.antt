@@ -1,11 +1,10 @@
+-- The order of the stream, tested at all sixteen places.
 use mathlib.Core.Path.{sym}
 use native.Mathlib.Omega.{arith}
 use borrow.Author.Needs.{needs}
 use Rattle.v0_stream.proofs.OrderLaws.{order-at}
 use Rattle.v0_stream.proofs.order.stream_column.Statement.{statement}
 use Rattle.v0_stream.proofs.order.stream_column.Tie as tie
-
--- The order of the stream, tested at all sixteen places.
 
 mul-result : tie.Need-mul-result
 mul-result c = search needs

@@ -1,3 +1,4 @@
+-- Flag 3 reads the length. Below it the flag's low bit is added and its high bit taken off: one more, one less, or the same.
 use mathlib.Core.Path.{sym, _∙_}
 use native.Mathlib.Omega.{arith}
 use borrow.Author.Needs.{needs}
