@@ -16,6 +16,19 @@ Inv-loop out₀ dirs w h bands block-width steps blocks late i₀ out i = Steps 
 abbrev μ-loop : tie.MeasureT-loop
 μ-loop out₀ dirs w h bands block-width steps blocks late i₀ out i = length steps - i
 
+-- Places that the answers look back at.
+abbrev after-blocks-in-band : tie.At-loop Inv-loop μ-loop → tie.After-blocks-in-band Inv-loop μ-loop
+after-blocks-in-band c = c .before .before
+
+abbrev at-start : tie.At-loop Inv-loop μ-loop → tie.Start Inv-loop μ-loop
+at-start c = after-blocks-in-band c .before .before .before .before
+
+abbrev at-loop : tie.After-add-band Inv-loop μ-loop → tie.At-loop Inv-loop μ-loop
+at-loop c = c .before .before .before .before
+
+abbrev after-add-band : tie.After-out2 Inv-loop μ-loop → tie.After-add-band Inv-loop μ-loop
+after-add-band c = c .before .before .before .before .before
+
 blocks-in-band-requires : tie.Need-blocks-in-band-requires Inv-loop μ-loop
 blocks-in-band-requires c κs = some-column _ _ _ _ (c .before .before .before .pre .width) (c .before .before .before .pre .cut-fits)
 
@@ -35,37 +48,39 @@ cast-n : tie.Need-cast-n Inv-loop μ-loop
 cast-n c = omega (arith, c .shared-slice-known3 .given (c .before .before .loop .i))
 
 div-band : tie.Need-div-band Inv-loop μ-loop
-div-band c = blocks-some (c .before .before .before .before .before .before .before .before .pre) (c .before .before .loop .i) (omega arith) _ _ (c .before .before .before .before .blocks-in-band .ensures) (c .before .before .before .late-rows .ensures)
+div-band c = let l = c .before .before in blocks-some (at-start l .pre) (l .loop .i) (omega arith) _ _ (after-blocks-in-band l .blocks-in-band .ensures) (l .before .late-rows .ensures)
 
 mul-first : tie.Need-mul-first Inv-loop μ-loop
-mul-first c = omega (arith, first-most (c .before .before .before .before .before .before .before .before .pre) (c .before .before .loop .i) (omega arith) _ _ (c .before .before .before .before .blocks-in-band .ensures) (c .before .before .before .late-rows .ensures))
+mul-first c = let l = c .before .before in omega (arith, first-most (at-start l .pre) (l .loop .i) (omega arith) _ _ (after-blocks-in-band l .blocks-in-band .ensures) (l .before .late-rows .ensures))
 
 div-first : tie.Need-div-first Inv-loop μ-loop
-div-first c = bands-some (c .before .before .before .before .before .before .before .before .pre) (c .before .before .loop .i) (omega arith)
+div-first c = let l = c .before .before in bands-some (at-start l .pre) (l .loop .i) (omega arith)
 
 add-end : tie.Need-add-end Inv-loop μ-loop
-add-end c = omega (arith, band-low (c .before .before .before .before .before .before .before .before .pre) (c .before .before .loop .i) (omega arith) _ _ (c .before .before .before .before .blocks-in-band .ensures) (c .before .before .before .late-rows .ensures), bands-most _ _ _ _ (c .before .before .before .before .before .before .before .before .pre .width) (c .before .before .before .before .before .before .before .before .pre .cut-fits))
+add-end c = let l = c .before .before in omega (arith, band-low (at-start l .pre) (l .loop .i) (omega arith) _ _ (after-blocks-in-band l .blocks-in-band .ensures) (l .before .late-rows .ensures), bands-most _ _ _ _ (at-start l .pre .width) (at-start l .pre .cut-fits))
 
 mul-end : tie.Need-mul-end Inv-loop μ-loop
-mul-end c = omega (arith, rows-most (c .before .before .before .before .before .before .before .before .pre) (c .before .before .loop .i) (omega arith) _ _ (c .before .before .before .before .blocks-in-band .ensures) (c .before .before .before .late-rows .ensures))
+mul-end c = let l = c .before .before in omega (arith, rows-most (at-start l .pre) (l .loop .i) (omega arith) _ _ (after-blocks-in-band l .blocks-in-band .ensures) (l .before .late-rows .ensures))
 
 div-end : tie.Need-div-end Inv-loop μ-loop
-div-end c = bands-some (c .before .before .before .before .before .before .before .before .pre) (c .before .before .loop .i) (omega arith)
+div-end c = let l = c .before .before in bands-some (at-start l .pre) (l .loop .i) (omega arith)
 
 rem-add-band : tie.Need-rem-add-band Inv-loop μ-loop
-rem-add-band c = blocks-some (c .before .before .before .before .before .before .before .before .before .pre) (c .before .before .before .loop .i) (omega arith) _ _ (c .before .before .before .before .before .blocks-in-band .ensures) (c .before .before .before .before .late-rows .ensures)
+rem-add-band c = let l = c .before .before .before in blocks-some (at-start l .pre) (l .loop .i) (omega arith) _ _ (after-blocks-in-band l .blocks-in-band .ensures) (l .before .late-rows .ensures)
 
 add-add-band : tie.Need-add-add-band Inv-loop μ-loop
-add-add-band c = omega (arith, start-end (c .before .before .before .before .before .before .before .before .before .pre) (c .before .before .before .loop .i) (omega arith) _ _ (c .before .before .before .before .before .blocks-in-band .ensures) (c .before .before .before .before .late-rows .ensures), end-low (c .before .before .before .before .before .before .before .before .before .pre) (c .before .before .before .loop .i) (omega arith) _ _ (c .before .before .before .before .before .blocks-in-band .ensures) (c .before .before .before .before .late-rows .ensures), c .before .before .before .before .before .before .before .before .before .pre .height)
+add-add-band c = let l = c .before .before .before in omega (arith, start-end (at-start l .pre) (l .loop .i) (omega arith) _ _ (after-blocks-in-band l .blocks-in-band .ensures) (l .before .late-rows .ensures), end-low (at-start l .pre) (l .loop .i) (omega arith) _ _ (after-blocks-in-band l .blocks-in-band .ensures) (l .before .late-rows .ensures), at-start l .pre .height)
 
 sub-add-band : tie.Need-sub-add-band Inv-loop μ-loop
-sub-add-band c = start-end (c .before .before .before .before .before .before .before .before .before .pre) (c .before .before .before .loop .i) (omega arith) _ _ (c .before .before .before .before .before .blocks-in-band .ensures) (c .before .before .before .before .late-rows .ensures)
+sub-add-band c = let l = c .before .before .before in start-end (at-start l .pre) (l .loop .i) (omega arith) _ _ (after-blocks-in-band l .blocks-in-band .ensures) (l .before .late-rows .ensures)
 
 add-band-requires : tie.Need-add-band-requires Inv-loop μ-loop
-add-band-requires c κs = band-lent (c .before .before .before .before .before .before .before .before .before .pre) (c .before .before .before .loop .i) (omega arith) _ _ (c .before .before .before .before .before .blocks-in-band .ensures) (c .before .before .before .before .late-rows .ensures) _ (c .before .before .before .loop .inv .same-length)
+add-band-requires c κs = let l = c .before .before .before in band-lent (at-start l .pre) (l .loop .i) (omega arith) _ _ (after-blocks-in-band l .blocks-in-band .ensures) (l .before .late-rows .ensures) _ (l .loop .inv .same-length)
 
 exchange-freed-requires : tie.Need-exchange-freed-requires Inv-loop μ-loop
-exchange-freed-requires c κs = step-lent (c .before .before .before .before .before .before .before .before .before .before .before .before .before .pre) (c .before .before .before .before .before .before .before .loop .i) (omega arith) _ _ (c .before .before .before .before .before .before .before .before .before .blocks-in-band .ensures) (c .before .before .before .before .before .before .before .before .late-rows .ensures) _ (c .before .before .before .add-band .kept .0 ∙ c .before .before .before .before .before .before .before .loop .inv .same-length)
+exchange-freed-requires c κs =
+    let l = at-loop (c .before .before .before) in
+    step-lent (at-start l .pre) (l .loop .i) (omega arith) _ _ (after-blocks-in-band l .blocks-in-band .ensures) (l .before .late-rows .ensures) _ (c .before .before .before .add-band .kept .0 ∙ l .loop .inv .same-length)
 
 add-i : tie.Need-add-i Inv-loop μ-loop
 add-i c = omega arith
@@ -75,7 +90,11 @@ loop-less c = omega arith
 
 loop-again : tie.Need-loop-again Inv-loop μ-loop
 loop-again c =
-    steps-on _ _ _ _ _ _ _ _ (omega arith) (c .before .before .exchange-freed .kept .0 ∙ c .before .before .before .before .before .before .add-band .kept .0) _ _ (c .before .before .before .before .before .before .before .before .before .before .before .before .blocks-in-band .ensures) (c .before .before .before .before .before .before .before .before .before .before .before .late-rows .ensures) (c .before .before .before .before .before .before .add-band .ensures) (c .before .before .exchange-freed .ensures) (c .before .before .before .before .before .before .before .before .before .before .loop .inv)
+    let a = after-add-band (c .before) in
+    let e = c .before .before .exchange-freed in
+    let l = at-loop a in
+    steps-on _ _ _ _ _ _ _ _ (omega arith) (e .kept .0 ∙ a .add-band .kept .0) _ _ (after-blocks-in-band l .blocks-in-band .ensures) (l .before .late-rows .ensures)
+    (a .add-band .ensures) (e .ensures) (l .loop .inv)
 
 same-length : tie.Need-same-length Inv-loop μ-loop
 same-length c = search needs

@@ -5,6 +5,13 @@ use Rattle.v0_bands.proofs.ExchangeLaws.{blocks-some, band-in, block-in
 use Rattle.v0_bands.proofs.exchange_freed.Statement.{statement}
 use Rattle.v0_bands.proofs.exchange_freed.Tie as tie
 
+-- Places that the answers look back at.
+abbrev at-start : tie.After-freed-row2 → tie.Start
+at-start c = c .before .before .before
+
+abbrev after-freed-row2 : tie.After-exchange-part-arg → tie.After-freed-row2
+after-freed-row2 c = c .before .before .before
+
 div-band : tie.Need-div-band
 div-band c = blocks-some (c .before .pre)
 
@@ -30,13 +37,13 @@ freed-column-requires-2 : tie.Need-freed-column-requires-2
 freed-column-requires-2 c κs = column-lent (c .before .before .before .before .pre) _ (omega (arith, block-in (c .before .before .before .before .pre)))
 
 exchange-part-requires : tie.Need-exchange-part-requires
-exchange-part-requires c κs = part-lent (c .before .before .before .before .before .before .pre) _ _ _ _ (c .before .before .before .before .freed-row .ensures) (c .before .before .before .freed-row2 .ensures) (c .before .before .freed-column .ensures) (c .before .freed-column2 .ensures)
+exchange-part-requires c κs = part-lent (at-start (after-freed-row2 c) .pre) _ _ _ _ (c .before .before .before .before .freed-row .ensures) (c .before .before .before .freed-row2 .ensures) (c .before .before .freed-column .ensures) (c .before .freed-column2 .ensures)
 
 same-length : tie.Need-same-length
 same-length c = search needs
 
 returns : tie.Need-returns
-returns c = freed-is (c .before .before .before .before .before .before .before .before .before .pre) _ _ _ _ (c .before .before .before .before .before .before .before .freed-row .ensures) (c .before .before .before .before .before .before .freed-row2 .ensures) (c .before .before .before .before .before .freed-column .ensures) (c .before .before .before .before .freed-column2 .ensures) _ (c .before .before .exchange-part .ensures)
+returns c = freed-is (at-start (after-freed-row2 (c .before .before .before)) .pre) _ _ _ _ (after-freed-row2 (c .before .before .before) .before .freed-row .ensures) (after-freed-row2 (c .before .before .before) .freed-row2 .ensures) (c .before .before .before .before .before .freed-column .ensures) (c .before .before .before .before .freed-column2 .ensures) _ (c .before .before .exchange-part .ensures)
 
 pub exchange-freed-spec : {M : Type 1} → statement M
 exchange-freed-spec =

@@ -12,6 +12,10 @@ Inv-loop src size row offset w state₀ col₀ state col = Checking src size row
 abbrev μ-loop : tie.MeasureT-loop
 μ-loop src size row offset w state₀ col₀ state col = size .width + 16 - col
 
+-- Places that the answers look back at.
+abbrev at-start : tie.At-loop Inv-loop μ-loop → tie.Start Inv-loop μ-loop
+at-start c = c .before .before .before
+
 fresh-requires : tie.Need-fresh-requires Inv-loop μ-loop
 fresh-requires c κs = search needs
 
@@ -25,7 +29,7 @@ fault-of-requires : tie.Need-fault-of-requires Inv-loop μ-loop
 fault-of-requires c κs = search needs
 
 returns : tie.Need-returns Inv-loop μ-loop
-returns c = let a = c .before .before .before .before .before .before .before in check-found (a .args .src .now) (a .args .size) (a .args .row) (a .args .offset) (c .before .before .before .before .loop .state) (c .before .before .before .before .loop .col) (omega arith) (c .before .before .see-block .result) (c .before .fault-of .result) (c .before .before .see-block .ensures) (c .before .fault-of .ensures) (c .if1 .taken) (c .before .before .before .before .loop .inv)
+returns c = let a = at-start (c .before .before .before .before) in check-found (a .args .src .now) (a .args .size) (a .args .row) (a .args .offset) (c .before .before .before .before .loop .state) (c .before .before .before .before .loop .col) (omega arith) (c .before .before .see-block .result) (c .before .fault-of .result) (c .before .before .see-block .ensures) (c .before .fault-of .ensures) (c .if1 .taken) (c .before .before .before .before .loop .inv)
 
 add-col : tie.Need-add-col Inv-loop μ-loop
 add-col c = omega arith
@@ -34,7 +38,7 @@ loop-less : tie.Need-loop-less Inv-loop μ-loop
 loop-less c = omega arith
 
 loop-again : tie.Need-loop-again Inv-loop μ-loop
-loop-again c = let a = c .before .before .before .before .before .before .before .before in checking-on (a .args .src .now) (a .args .size) (a .args .row) (a .args .offset) (c .before .before .before .before .before .loop .state) (c .before .before .before .before .before .loop .col) (omega arith) (c .before .before .before .see-block .result) (c .before .before .fault-of .result) (c .before .before .before .see-block .ensures) (c .before .before .fault-of .ensures) (omega arith) (c .before .before .before .before .before .loop .inv)
+loop-again c = let a = at-start (c .before .before .before .before .before) in checking-on (a .args .src .now) (a .args .size) (a .args .row) (a .args .offset) (c .before .before .before .before .before .loop .state) (c .before .before .before .before .before .loop .col) (omega arith) (c .before .before .before .see-block .result) (c .before .before .fault-of .result) (c .before .before .before .see-block .ensures) (c .before .before .fault-of .ensures) (omega arith) (c .before .before .before .before .before .loop .inv)
 
 returns-2 : tie.Need-returns-2 Inv-loop μ-loop
 returns-2 c = let a = c .before .before .before .before in checked (a .args .src .now) (a .args .size) (a .args .row) (a .args .offset) (c .before .loop .state) (c .before .loop .col) (omega arith) (c .before .loop .inv)

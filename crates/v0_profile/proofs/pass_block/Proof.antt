@@ -16,15 +16,18 @@ use Rattle.v0_profile.proofs.PassLaws.{passed}
 use Rattle.v0_profile.proofs.pass_block.Statement.{statement}
 use Rattle.v0_profile.proofs.pass_block.Tie as tie
 
--- Points on the way: the entry, where the record is known to stand, and the head.
+-- Points on the way: the entry, where the record is known to stand, the head, and the bits of the first length.
 abbrev start : tie.Then1 → tie.Start
 start c = c .before .before .before .before .before
 
 abbrev standing : tie.After-window-head → tie.Then1
 standing c = c .before .before
 
+abbrev counted : tie.After-residual-length3 → tie.After-residual-length
+counted c = c .before .before .before .before
+
 abbrev headed : tie.After-residual-length4 → tie.After-window-head
-headed c = c .before .before .before .before .before .before .before .before .before
+headed c = counted (c .before .before) .before .before .before
 
 -- The record stands in the stream.
 stood : (c : tie.Then1) → Stands (now (start c .args .src)) (start c .args .state .bits) 76 × (start c .args .state .bits .pos - 4 + 76 < 2 ^ 64)
@@ -36,7 +39,7 @@ stood c =
 
 -- Its head is read, and the bits of each residual are known.
 planned : (c : tie.After-residual-length4) → (let a = start (standing (headed c)) .args in
-    Planned (now (a .src)) (a .state) (headed c .window-head .result) (c .before .before .before .before .before .before .residual-length .result) (c .before .before .before .before .residual-length2 .result) (c .before .before .residual-length3 .result) (c .residual-length4 .result))
+    Planned (now (a .src)) (a .state) (headed c .window-head .result) (counted (c .before .before) .residual-length .result) (c .before .before .before .before .residual-length2 .result) (c .before .before .residual-length3 .result) (c .residual-length4 .result))
 planned c =
     let x = stood (standing (headed c)) in
     let ls = headed c .window-head .result .lengths in

@@ -6,6 +6,13 @@ use Rattle.v0_profile.proofs.BlockLaws.{seen-whole, seen-samples}
 use Rattle.v0_profile.proofs.see_block.Statement.{statement}
 use Rattle.v0_profile.proofs.see_block.Tie as tie
 
+-- Places that the answers look back at.
+abbrev at-start : tie.After-read-block-head → tie.Start
+at-start c = c .before .before .before .before
+
+abbrev after-read-block-head : tie.After-no-samples2 → tie.After-read-block-head
+after-read-block-head c = c .before .before .before .before
+
 is-inner-requires : tie.Need-is-inner-requires
 is-inner-requires c κs = search needs
 
@@ -28,7 +35,7 @@ decode-samples-requires : tie.Need-decode-samples-requires
 decode-samples-requires c κs = search needs
 
 returns-2 : tie.Need-returns-2
-returns-2 c = let a = c .before .before .before .before .before .before .before .before .before .before .before .args in let h = c .before .before .before .before .before .before .before .read-block-head in seen-samples (now (a .src)) (a .size) (a .row) (a .col) (a .state) (h .result) (c .before .before .before .before .decode-samples .result) (h .ensures) (c .before .before .before .before .decode-samples .ensures .0)
+returns-2 c = let r = after-read-block-head (c .before .before .before) in let a = at-start r .args in let h = r .read-block-head in seen-samples (now (a .src)) (a .size) (a .row) (a .col) (a .state) (h .result) (c .before .before .before .before .decode-samples .result) (h .ensures) (c .before .before .before .before .decode-samples .ensures .0)
 
 pub see-block-spec : {M : Type 1} → statement M
 see-block-spec =

@@ -8,6 +8,10 @@ use Rattle.window.proofs.WindowLaws.{stands-full, stands-early, stands-
 use Rattle.window.proofs.stands.Statement.{statement}
 use Rattle.window.proofs.stands.Tie as tie
 
+-- Places that the answers look back at.
+abbrev at-start : tie.Else1 → tie.Start
+at-start c = c .before .before .before
+
 returns : tie.Need-returns
 returns c = let a = c .before .before .before .args in sym (stands-full (now (a .src)) (a .bits) (a .more) (omega arith))
 
@@ -18,7 +22,7 @@ returns-3 : tie.Need-returns-3
 returns-3 c = let a = c .before .before .before .before .before .args in sym (stands-late (now (a .src)) (a .bits) (a .more) (omega arith) (omega arith) (omega arith))
 
 returns-4 : tie.Need-returns-4
-returns-4 c = let a = c .before .before .before .before .before .before .args in sym (stands-late (now (a .src)) (a .bits) (a .more) (omega arith) (omega arith) (omega arith))
+returns-4 c = let a = at-start (c .before .before .before) .args in sym (stands-late (now (a .src)) (a .bits) (a .more) (omega arith) (omega arith) (omega arith))
 
 word-there-requires : tie.Need-word-there-requires
 word-there-requires c κs = search needs
@@ -27,7 +31,7 @@ cast-result : tie.Need-cast-result
 cast-result c = search needs
 
 returns-5 : tie.Need-returns-5
-returns-5 c = let a = c .before .before .before .before .before .before .before .before .args in
+returns-5 c = let a = at-start (c .before .before .before .before .before) .args in
     ap (λ w. eqb w (a .bits .word)) (c .before .word-there .ensures .0) ∙ sym (stands-word (now (a .src)) (a .bits) (a .more) (omega arith) (omega arith) (omega arith))
 
 pub stands-spec : {M : Type 1} → statement M

@@ -17,6 +17,13 @@ Inv-loop src head lengths bits₀ residuals₀ j₀ bits residuals j = Reading s
 abbrev μ-loop : tie.MeasureT-loop
 μ-loop src head lengths bits₀ residuals₀ j₀ bits residuals j = 4 - j
 
+-- Places that the answers look back at.
+abbrev at-start : tie.At-loop Inv-loop μ-loop → tie.Start Inv-loop μ-loop
+at-start c = c .before .before .before .before .before
+
+abbrev after-read-four : tie.After-residual-of4 Inv-loop μ-loop → tie.After-read-four Inv-loop μ-loop
+after-read-four c = c .before .before .before .before .before
+
 loop-holds : tie.Need-loop-holds Inv-loop μ-loop
 loop-holds c = reading-begun _ _ _ _ refl
 
@@ -100,14 +107,14 @@ loop-less c = search needs
 
 loop-again : tie.Need-loop-again Inv-loop μ-loop
 loop-again c =
-    let r = c .before .before .before .before .before .before in
+    let r = after-read-four (c .before) in
     let l = r .before .before .before .before in
     let ls = l .before .before .before .before .before .args .head .row .lengths in
     let n-is = rw (toZ-ofZ w32 (getD ls _ (pos 0)) (record { sfits = r .before .before .residual-length-arg .given })) at (r .before .residual-length .ensures) in
     reading-four _ ls _ _ _ _ _ (r .read-four .result) _ _ _ _ (omega arith) n-is (r .read-four .ensures) (c .before .before .before .before .residual-of .ensures) (c .before .before .before .residual-of2 .ensures) (c .before .before .residual-of3 .ensures) (c .before .residual-of4 .ensures) (l .loop .inv)
 
 returns : tie.Need-returns Inv-loop μ-loop
-returns c = read-all _ _ _ (c .before .loop .bits) (c .before .loop .residuals) (4 * c .before .loop .j) (c .before .before .before .before .before .before .args .head) (omega arith) refl refl (c .before .loop .inv)
+returns c = read-all _ _ _ (c .before .loop .bits) (c .before .loop .residuals) (4 * c .before .loop .j) (at-start (c .before) .args .head) (omega arith) refl refl (c .before .loop .inv)
 
 pub read-residuals-spec : {M : Type 1} → statement M
 read-residuals-spec =

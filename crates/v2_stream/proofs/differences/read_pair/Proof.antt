@@ -11,6 +11,10 @@ use Rattle.v2_stream.proofs.PairLaws.{pair-cut, pair-read}
 use Rattle.v2_stream.proofs.differences.read_pair.Statement.{statement}
 use Rattle.v2_stream.proofs.differences.read_pair.Tie as tie
 
+-- Places that the answers look back at.
+abbrev after-get-whole : tie.After-field → tie.After-get-whole
+after-get-whole c = c .before .before .before
+
 mul-get-whole : tie.Need-mul-get-whole
 mul-get-whole c = search needs
 
@@ -36,7 +40,7 @@ returns : tie.Need-returns
 returns c =
     let x = c .before .before .signed-of in
     let y = c .signed-of2 in
-    let g = c .before .before .before .before .before .before .get-whole in
+    let g = after-get-whole (c .before .before .before) .get-whole in
     rw (toZ-ofZ w32 (x .result) (search needs), toZ-ofZ w32 (y .result) (search needs))
     (pair-cut _ _ _ (g .result) _ _ (omega arith) (g .ensures) (x .ensures ∙ ap (signed _) (c .before .before .before .field .ensures)) (y .ensures ∙ ap (signed _) (c .before .field2 .ensures)))
 

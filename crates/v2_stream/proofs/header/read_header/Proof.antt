@@ -5,6 +5,16 @@ use Rattle.v2_stream.proofs.HeaderLaws.{got-below, header-is}
 use Rattle.v2_stream.proofs.header.read_header.Statement.{statement}
 use Rattle.v2_stream.proofs.header.read_header.Tie as tie
 
+-- Places that the answers look back at.
+abbrev after-get : tie.After-skip3 → tie.After-get
+after-get c = c .before .before
+
+abbrev after-skip3 : tie.After-get2 → tie.After-skip3
+after-skip3 c = c .before .before .before .before .before
+
+abbrev after-get2 : tie.After-get3 → tie.After-get2
+after-get2 c = c .before .before .before .before .before
+
 fresh-requires : tie.Need-fresh-requires
 fresh-requires c κs = search needs
 
@@ -48,16 +58,21 @@ get-requires-3 : tie.Need-get-requires-3
 get-requires-3 c κs = search needs
 
 add-t19 : tie.Need-add-t19
-add-t19 c = omega (arith, got-below _ _ _ _ (c .before .before .before .before .before .before .before .before .before .before .before .before .before .before .get .ensures))
+add-t19 c = omega (arith, got-below _ _ _ _ (after-get (after-skip3 (after-get2 (c .before .before))) .get .ensures))
 
 cast-t20 : tie.Need-cast-t20
 cast-t20 c = omega (arith, got-below _ _ _ _ (c .before .before .before .get3 .ensures))
 
 returns : tie.Need-returns
 returns c =
-    header-is _ _ _ _ _ _ _ _ _ _ _ _ _ _ _ (c .before .before .before .before .before .before .before .before .before .before .before .before .before .before .before .before .before .before .fresh .ensures) (c .before .before .before .before .before .before .before .before .before .before .before .before .before .before .before .before .before .skip .ensures) (c .before .before .before .before .before .before .before .before .before .before .before .before .before .before .before .before .skip2 .ensures) (c .before .before .before .before .before .before .before .before .before .before .before .before .before .before .before .get .ensures) (c .before .before .before .before .before .before .before .before .before .before .before .before .before .skip3 .ensures)
-    (c .before .before .before .before .before .before .before .before .before .before .before .before .skip4 .ensures) (c .before .before .before .before .before .before .before .before .before .before .before .skip5 .ensures) (c .before .before .before .before .before .before .before .before .before .before .skip6 .ensures) (c .before .before .before .before .before .before .before .before .before .skip7 .ensures) (c .before .before .before .before .before .before .before .before .get2 .ensures) (c .before .before .before .before .before .before .skip8 .ensures) (c .before .before .before .before .before .skip9 .ensures)
-    (c .before .before .before .before .skip10 .ensures) (c .before .before .before .get3 .ensures)
+    let d = c .before .before .before in
+    let o = after-get2 d in
+    let s = after-skip3 o in
+    let g = after-get s in
+    header-is _ _ _ _ _ _ _ _ _ _ _ _ _ _ _ (g .before .before .before .fresh .ensures) (g .before .before .skip .ensures) (g .before .skip2 .ensures) (g .get .ensures)
+    (s .skip3 .ensures) (o .before .before .before .before .skip4 .ensures) (o .before .before .before .skip5 .ensures) (o .before .before .skip6 .ensures)
+    (o .before .skip7 .ensures) (o .get2 .ensures) (d .before .before .before .skip8 .ensures) (d .before .before .skip9 .ensures) (d .before .skip10 .ensures)
+    (d .get3 .ensures)
 
 pub read-header-spec : {M : Type 1} → statement M
 read-header-spec =

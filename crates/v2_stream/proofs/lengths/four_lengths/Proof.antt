@@ -1,3 +1,4 @@
+-- What is left from length j on comes to all four, as long as none before it was too long.
 use mathlib.Core.Bool.{false}
 use mathlib.Core.Path.{_≡_, refl, sym, _∙_}
 use Prim.Native.Nat.{_-_, _≤_}
@@ -16,6 +17,16 @@ Inv-loop src depth row mode₀ flags four₀ at₀ j₀ mode four at j =
 
 abbrev μ-loop : tie.MeasureT-loop
 μ-loop src depth row mode₀ flags four₀ at₀ j₀ mode four at j = 4 - j
+
+-- Places that the answers look back at.
+abbrev after-read-flags : tie.At-loop Inv-loop μ-loop → tie.After-read-flags Inv-loop μ-loop
+after-read-flags c = c .before .before .before
+
+abbrev at-loop : tie.After-colour-of Inv-loop μ-loop → tie.At-loop Inv-loop μ-loop
+at-loop c = c .before .before
+
+abbrev after-colour-of : tie.After-struct-known Inv-loop μ-loop → tie.After-colour-of Inv-loop μ-loop
+after-colour-of c = c .before .before .before .before .before
 
 read-flags-requires : tie.Need-read-flags-requires Inv-loop μ-loop
 read-flags-requires c κs = search needs
@@ -42,7 +53,7 @@ index-2-next-length : tie.Need-index-2-next-length Inv-loop μ-loop
 index-2-next-length c = search needs
 
 next-length-requires : tie.Need-next-length-requires Inv-loop μ-loop
-next-length-requires c κs = flag-below _ _ _ _ (c .before .before .before .before .before .before .read-flags .ensures)
+next-length-requires c κs = flag-below _ _ _ _ (after-read-flags (at-loop (c .before)) .read-flags .ensures)
 
 mul-if1 : tie.Need-mul-if1 Inv-loop μ-loop
 mul-if1 c = search needs
@@ -70,9 +81,9 @@ add-if1 c = search needs
 
 returns : tie.Need-returns Inv-loop μ-loop
 returns c =
-    let m = c .before .before .before .before .before .before .before .before .loop in
-    sym (flagged-are _ _ _ _ _ _ (c .before .before .before .before .before .before .before .before .before .before .before .read-flags .ensures) ∙ m .inv .1
-    ∙ length-too-long _ _ _ _ _ (c .before .before .before .before .before .before .before .loop-test .taken) _ _ _ _ (c .before .before .before .before .before .before .colour-of .ensures .0) _ (c .before .before .before .before .next-length .ensures) (c .if1 .taken))
+    let m = at-loop (after-colour-of (c .before)) .loop in
+    sym (flagged-are _ _ _ _ _ _ (after-read-flags (at-loop (after-colour-of (c .before))) .read-flags .ensures) ∙ m .inv .1
+    ∙ length-too-long _ _ _ _ _ (after-colour-of (c .before) .before .loop-test .taken) _ _ _ _ (after-colour-of (c .before) .colour-of .ensures .0) _ (c .before .before .before .before .next-length .ensures) (c .if1 .taken))
 
 add-j : tie.Need-add-j Inv-loop μ-loop
 add-j c = search needs
@@ -82,9 +93,9 @@ loop-less c = search needs
 
 loop-again : tie.Need-loop-again Inv-loop μ-loop
 loop-again c =
-    let m = c .before .before .before .before .before .before .before .before .loop in (
-      omega (arith, c .before .before .before .before .before .before .before .loop-test .taken),
-      m .inv .1 ∙ length-goes-on _ _ _ _ _ (c .before .before .before .before .before .before .before .loop-test .taken) _ _ _ _ (c .before .before .before .before .before .before .colour-of .ensures .0) _ (c .before .before .before .before .next-length .ensures) (c .if1 .left),
+    let m = at-loop (after-colour-of (c .before)) .loop in (
+      omega (arith, after-colour-of (c .before) .before .loop-test .taken),
+      m .inv .1 ∙ length-goes-on _ _ _ _ _ (after-colour-of (c .before) .before .loop-test .taken) _ _ _ _ (after-colour-of (c .before) .colour-of .ensures .0) _ (c .before .before .before .before .next-length .ensures) (c .if1 .left),
     )
 
 returns-2 : tie.Need-returns-2 Inv-loop μ-loop

@@ -6,6 +6,10 @@ use Rattle.v2_stream.proofs.HeaderLaws.{motion-by-bit, motion-read, mot
 use Rattle.v2_stream.proofs.motion.next_motion.Statement.{statement}
 use Rattle.v2_stream.proofs.motion.next_motion.Tie as tie
 
+-- Places that the answers look back at.
+abbrev after-get : tie.Else1 → tie.After-get
+after-get c = c .before .before .before
+
 get-requires : tie.Need-get-requires
 get-requires c κs = search needs
 
@@ -22,7 +26,7 @@ get-requires-2 : tie.Need-get-requires-2
 get-requires-2 c κs = search needs
 
 returns-2 : tie.Need-returns-2
-returns-2 c = c .get2 .ensures ∙ sym (motion-read _ _ _ _ _ (c .before .before .before .before .before .before .get .ensures) (sym (c .before .before .before .before .short-motion .ensures) ∙ c .before .before .before .if1 .left) (c .before .if2 .taken))
+returns-2 c = c .get2 .ensures ∙ sym (motion-read _ _ _ _ _ (after-get (c .before .before .before) .get .ensures) (sym (c .before .before .before .before .short-motion .ensures) ∙ c .before .before .before .if1 .left) (c .before .if2 .taken))
 
 returns-3 : tie.Need-returns-3
 returns-3 c = sym (motion-kept _ _ _ _ _ (c .before .before .before .before .before .get .ensures) (sym (c .before .before .before .short-motion .ensures) ∙ c .before .before .if1 .left) (ne-eqb _ _ (c .if2 .left)))
