@@ -7,6 +7,7 @@ ghost use Rattle.packed.specs.Proposal.{proposal, before, same, Yields};
 use frame_writer::measure::v0_length;
 use refusals::Lending;
 use refusals::refuse;
+use refusals::refuse_direct;
 use refusals::refused;
 use rules::Answer;
 use rules::Size;
@@ -41,14 +42,7 @@ fn check_before(
     if is_too_bright(&meant[..n]) {
         return refused(Answer::TOO_BRIGHT);
     }
-    let short = refuse(
-        size,
-        false,
-        scratch,
-        Lending::Length(offsets.len()),
-        Lending::Nothing,
-        Lending::Nothing,
-    );
+    let short = refuse_direct(size, scratch, offsets.len(), Lending::Nothing);
     if short != 0 {
         return refused(short);
     }

@@ -1,11 +1,12 @@
 // Refusals 1 to 4, tested before anything is written.
 ghost use mathlib.Core.Path.{_≡_};
-ghost use mathlib.Core.Bool.{_||_};
+ghost use mathlib.Core.Bool.{false, _||_};
 ghost use Prim.Native.Nat.{_≤_};
 ghost use lib.Dec.{ltb};
 ghost use Rattle.rules.specs.Answer.{refused, v2, too-large, too-small, scratch-bytes, first-of};
 ghost use Rattle.rules.specs.Frame.{cells};
 ghost use Rattle.refusals.specs.Lending.{short};
+ghost use Rattle.refusals.specs.declared.Lending.the-variants.{Nothing, Length};
 use rules::Answer;
 use rules::Size;
 use rules::V0Row;
@@ -94,4 +95,32 @@ pub fn refuse(
         return Answer::SHORT_MAP;
     }
     0
+}
+
+// The same for a V0 decoder that takes no scratch. Every V0 frame's offsets are lent, and none is too small.
+pub fn refuse_direct(size: Size, samples: usize, offsets: usize, map: Lending) -> u32
+    ensures { λ r. ⌜ r ≡ first-of (too-large size) false (ltb samples (cells size) || short (Length offsets) (size .height)) (short map (cells size) || short Nothing (scratch-bytes size)) ⌝ }
+{
+    refuse(
+        size,
+        false,
+        samples,
+        Lending::Length(offsets),
+        map,
+        Lending::Nothing,
+    )
+}
+
+// And for one that takes scratch, and makes no map.
+pub fn refuse_two_phase(size: Size, samples: usize, offsets: usize, scratch: usize) -> u32
+    ensures { λ r. ⌜ r ≡ first-of (too-large size) false (ltb samples (cells size) || short (Length offsets) (size .height)) (short Nothing (cells size) || short (Length scratch) (scratch-bytes size)) ⌝ }
+{
+    refuse(
+        size,
+        false,
+        samples,
+        Lending::Length(offsets),
+        Lending::Nothing,
+        Lending::Length(scratch),
+    )
 }

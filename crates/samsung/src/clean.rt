@@ -11,7 +11,7 @@ ghost use Rattle.profile.specs.Profile.{verdict};
 ghost use Rattle.profile.specs.Clean.{Yields};
 use maps::mark_all;
 use refusals::Lending;
-use refusals::refuse;
+use refusals::refuse_direct;
 use refusals::refused;
 use rules::Answer;
 use rules::Size;
@@ -46,14 +46,7 @@ pub fn decode_v0_clean(
         r (buffers (now (out .exit)) none none) ⌝ }
 {
     let size = Size { width, height };
-    let refusal = refuse(
-        size,
-        false,
-        out.len(),
-        Lending::Length(offsets.len()),
-        Lending::Nothing,
-        Lending::Nothing,
-    );
+    let refusal = refuse_direct(size, out.len(), offsets.len(), Lending::Nothing);
     if refusal != 0 {
         return refused(refusal);
     }
@@ -75,14 +68,7 @@ pub fn decode_v0_clean_map(
         r (buffers (now (out .exit)) (some (now (map .exit))) none) ⌝ }
 {
     let size = Size { width, height };
-    let refusal = refuse(
-        size,
-        false,
-        out.len(),
-        Lending::Length(offsets.len()),
-        Lending::Length(map.len()),
-        Lending::Nothing,
-    );
+    let refusal = refuse_direct(size, out.len(), offsets.len(), Lending::Length(map.len()));
     if refusal != 0 {
         return refused(refusal);
     }

@@ -9,7 +9,7 @@ ghost use Rattle.v0_direct.specs.Lent.{Lends};
 ghost use Rattle.rules.specs.Answer.{direct, ask, buffers, Yields};
 use maps::mark_old;
 use refusals::Lending;
-use refusals::refuse;
+use refusals::refuse_direct;
 use refusals::refused;
 use rules::Answer;
 use rules::Size;
@@ -28,14 +28,7 @@ pub fn decode_v0_reference(
         r (buffers (now (out .exit)) none none) ⌝ }
 {
     let size = Size { width, height };
-    let refusal = refuse(
-        size,
-        false,
-        out.len(),
-        Lending::Length(offsets.len()),
-        Lending::Nothing,
-        Lending::Nothing,
-    );
+    let refusal = refuse_direct(size, out.len(), offsets.len(), Lending::Nothing);
     if refusal != 0 {
         return refused(refusal);
     }
@@ -70,14 +63,7 @@ pub fn decode_v0_reference_map(
         r (buffers (now (out .exit)) (some (now (map .exit))) none) ⌝ }
 {
     let size = Size { width, height };
-    let refusal = refuse(
-        size,
-        false,
-        out.len(),
-        Lending::Length(offsets.len()),
-        Lending::Length(map.len()),
-        Lending::Nothing,
-    );
+    let refusal = refuse_direct(size, out.len(), offsets.len(), Lending::Length(map.len()));
     if refusal != 0 {
         return refused(refusal);
     }

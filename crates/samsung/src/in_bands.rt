@@ -1,8 +1,7 @@
 // The V0 decoder in bands: the two-phase decoder, with phase two done block by block in the sequence of a list of steps.
 ghost use Rattle.bands.specs.Call.{call, Yields};
 use bands::refuse_steps;
-use refusals::Lending;
-use refusals::refuse;
+use refusals::refuse_two_phase;
 use refusals::refused;
 use rules::Answer;
 use rules::Size;
@@ -26,14 +25,7 @@ pub fn decode_v0_bands(
         r (now (out .exit)) (now (scratch .exit)) ⌝ }
 {
     let size = Size { width, height };
-    let refusal = refuse(
-        size,
-        false,
-        out.len(),
-        Lending::Length(offsets.len()),
-        Lending::Nothing,
-        Lending::Length(scratch.len()),
-    );
+    let refusal = refuse_two_phase(size, out.len(), offsets.len(), scratch.len());
     if refusal != 0 {
         return refused(refusal);
     }

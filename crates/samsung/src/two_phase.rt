@@ -1,8 +1,7 @@
 // The two-phase V0 decoder's entry. It makes no map.
 ghost use mathlib.Core.Option.{none, some};
 ghost use Rattle.rules.specs.Answer.{two-phase, ask, buffers, Yields};
-use refusals::Lending;
-use refusals::refuse;
+use refusals::refuse_two_phase;
 use refusals::refused;
 use rules::Answer;
 use rules::Size;
@@ -22,14 +21,7 @@ pub fn decode_v0(
         r (buffers (now (out .exit)) none (some (now (scratch .exit)))) ⌝ }
 {
     let size = Size { width, height };
-    let refusal = refuse(
-        size,
-        false,
-        out.len(),
-        Lending::Length(offsets.len()),
-        Lending::Nothing,
-        Lending::Length(scratch.len()),
-    );
+    let refusal = refuse_two_phase(size, out.len(), offsets.len(), scratch.len());
     if refusal != 0 {
         return refused(refusal);
     }

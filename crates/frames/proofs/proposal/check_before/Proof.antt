@@ -56,8 +56,8 @@ returns-2 c =
     bright-before (a .src .now) (a .offsets .now) (a .width) (a .height) (a .meant .now) (a .scratch) _ (at .before .refuse .ensures) (at .if1 .left)
     _ (bright .is-too-bright .ensures) _ (c .before .if2 .taken) (c .refused2 .ensures)
 
-refuse-requires-2 : tie.Need-refuse-requires-2
-refuse-requires-2 c κs = search needs
+refuse-direct-requires : tie.Need-refuse-direct-requires
+refuse-direct-requires c κs = search needs
 
 refused-requires-3 : tie.Need-refused-requires-3
 refused-requires-3 c κs = search needs
@@ -68,7 +68,7 @@ returns-3 c =
     let at = not-bright dim in
     let a = start (at .before) .args in
     short-before (a .src .now) (a .offsets .now) (a .width) (a .height) (a .meant .now) (a .scratch) _ (at .before .refuse .ensures) (at .if1 .left)
-    _ (dim .before .is-too-bright .ensures) (dim .if2 .left) _ (c .before .before .refuse2 .ensures) _ (c .before .if3 .taken) (c .refused3 .ensures)
+    _ (dim .before .is-too-bright .ensures) (dim .if2 .left) _ (c .before .before .refuse-direct .ensures) _ (c .before .if3 .taken) (c .refused3 .ensures)
 
 check-frame-requires : tie.Need-check-frame-requires
 check-frame-requires c κs =
@@ -76,7 +76,7 @@ check-frame-requires c κs =
     let at = not-bright dim in
     let a = start (at .before) .args in
     checkable (a .src .now) (a .offsets .now) (a .width) (a .height) (a .meant .now) (a .scratch) _ (at .before .refuse .ensures) (at .if1 .left)
-    _ (dim .before .is-too-bright .ensures) (dim .if2 .left) _ (c .before .refuse2 .ensures) (c .if3 .left)
+    _ (dim .before .is-too-bright .ensures) (dim .if2 .left) _ (c .before .refuse-direct .ensures) (c .if3 .left)
 
 returns-4 : tie.Need-returns-4
 returns-4 c =
@@ -86,7 +86,7 @@ returns-4 c =
     let at = not-bright dim in
     let a = start (at .before) .args in
     fault-before (a .src .now) (a .offsets .now) (a .width) (a .height) (a .meant .now) (a .scratch) _ (at .before .refuse .ensures) (at .if1 .left)
-    _ (dim .before .is-too-bright .ensures) (dim .if2 .left) _ (lent .before .refuse2 .ensures) (lent .if3 .left) _ (told .check-frame .ensures) (c .if4 .taken)
+    _ (dim .before .is-too-bright .ensures) (dim .if2 .left) _ (lent .before .refuse-direct .ensures) (lent .if3 .left) _ (told .check-frame .ensures) (c .if4 .taken)
 
 slice-aggregate-v0-length : tie.Need-slice-aggregate-v0-length
 slice-aggregate-v0-length c =
@@ -100,7 +100,7 @@ v0-length-requires c κs =
     let at = not-bright dim in
     let a = start (at .before) .args in
     writable (a .src .now) (a .offsets .now) (a .width) (a .height) (a .meant .now) (a .scratch) _ (at .before .refuse .ensures) (at .if1 .left)
-    _ (dim .before .is-too-bright .ensures) (dim .if2 .left) _ (lent .before .refuse2 .ensures) (lent .if3 .left)
+    _ (dim .before .is-too-bright .ensures) (dim .if2 .left) _ (lent .before .refuse-direct .ensures) (lent .if3 .left)
 
 refused-requires-4 : tie.Need-refused-requires-4
 refused-requires-4 c κs = search needs
@@ -114,7 +114,7 @@ returns-5 c =
     let at = not-bright dim in
     let a = start (at .before) .args in
     long-before (a .src .now) (a .offsets .now) (a .width) (a .height) (a .meant .now) (a .scratch) _ (at .before .refuse .ensures) (at .if1 .left)
-    _ (dim .before .is-too-bright .ensures) (dim .if2 .left) _ (lent .before .refuse2 .ensures) (lent .if3 .left) _ (fine .before .before .check-frame .ensures) (fine .if4 .left)
+    _ (dim .before .is-too-bright .ensures) (dim .if2 .left) _ (lent .before .refuse-direct .ensures) (lent .if3 .left) _ (fine .before .before .check-frame .ensures) (fine .if4 .left)
     _ (measured .v0-length .ensures) _ (c .before .if5 .taken) (c .refused4 .ensures)
 
 done-requires : tie.Need-done-requires
@@ -129,7 +129,7 @@ returns-6 c =
     let at = not-bright dim in
     let a = start (at .before) .args in
     done-before (a .src .now) (a .offsets .now) (a .width) (a .height) (a .meant .now) (a .scratch) _ (at .before .refuse .ensures) (at .if1 .left)
-    _ (dim .before .is-too-bright .ensures) (dim .if2 .left) _ (lent .before .refuse2 .ensures) (lent .if3 .left) _ (fine .before .before .check-frame .ensures) (fine .if4 .left)
+    _ (dim .before .is-too-bright .ensures) (dim .if2 .left) _ (lent .before .refuse-direct .ensures) (lent .if3 .left) _ (fine .before .before .check-frame .ensures) (fine .if4 .left)
     _ (measured .v0-length .ensures) _ (c .before .if5 .left) (c .done .ensures)
 
 pub check-before-spec : {M : Type 1} → statement M
@@ -144,7 +144,7 @@ check-before-spec =
     is-too-bright-requires
     refused-requires-2
     returns-2
-    refuse-requires-2
+    refuse-direct-requires
     refused-requires-3
     returns-3
     check-frame-requires

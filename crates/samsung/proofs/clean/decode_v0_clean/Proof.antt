@@ -11,8 +11,8 @@ use borrow.Author.Needs.{needs}
 use Rattle.samsung.proofs.clean.decode_v0_clean.Statement.{statement}
 use Rattle.samsung.proofs.clean.decode_v0_clean.Tie as tie
 
-refuse-requires : tie.Need-refuse-requires
-refuse-requires c κs = search needs
+refuse-direct-requires : tie.Need-refuse-direct-requires
+refuse-direct-requires c κs = search needs
 
 refused-requires : tie.Need-refused-requires
 refused-requires c κs = search needs
@@ -20,21 +20,21 @@ refused-requires c κs = search needs
 returns : tie.Need-returns
 unfolding refusal too-small short-samples short-offsets short-map short-scratch short
 returns c =
-    let e = sym (c .before .before .refuse .ensures) in
+    let e = sym (c .before .before .refuse-direct .ensures) in
     refused-yields _ _ _ e (c .before .if1 .taken) _ (c .refused .ensures)
 
 mul-n : tie.Need-mul-n
-mul-n c = omega (arith, room _ _ _ _ _ _ _ (c .before .refuse .ensures) (c .if1 .left) .few)
+mul-n c = omega (arith, room _ _ _ _ _ _ _ (c .before .refuse-direct .ensures) (c .if1 .left) .few)
 
 slice-relend-prefix-decode-checked : tie.Need-slice-relend-prefix-decode-checked
-slice-relend-prefix-decode-checked c = room _ _ _ _ _ _ _ (c .before .refuse .ensures) (c .if1 .left) .samples-enough
+slice-relend-prefix-decode-checked c = room _ _ _ _ _ _ _ (c .before .refuse-direct .ensures) (c .if1 .left) .samples-enough
 
 slice-aggregate-decode-checked : tie.Need-slice-aggregate-decode-checked
-slice-aggregate-decode-checked c = sym (length-take-le _ _ (room _ _ _ _ _ _ _ (c .before .before .refuse .ensures) (c .before .if1 .left) .samples-enough))
+slice-aggregate-decode-checked c = sym (length-take-le _ _ (room _ _ _ _ _ _ _ (c .before .before .refuse-direct .ensures) (c .before .if1 .left) .samples-enough))
 
 decode-checked-requires : tie.Need-decode-checked-requires
 decode-checked-requires c κs =
-    let p = room _ _ _ _ _ _ _ (c .before .before .refuse .ensures) (c .before .if1 .left) in
+    let p = room _ _ _ _ _ _ _ (c .before .before .refuse-direct .ensures) (c .before .if1 .left) in
     record { width = p .wide; height = p .high; offsets-enough = long-enough _ _ (p .offsets-enough); samples-lent = length-take-le _ _ (p .samples-enough); map-lent = inr refl }
 
 same-length : tie.Need-same-length
@@ -43,7 +43,7 @@ same-length c = search needs
 returns-2 : tie.Need-returns-2
 unfolding refusal too-small short-samples short-offsets short-map short-scratch short
 returns-2 c =
-    let ok = sym (c .before .before .before .before .before .refuse .ensures) ∙ c .before .before .before .before .if1 .left in
+    let ok = sym (c .before .before .before .before .before .refuse-direct .ensures) ∙ c .before .before .before .before .if1 .left in
     let d = c .before .before .decode-checked .ensures in
     record {
       answered = checked-answer _ refl _ ok _ (d .0);
@@ -55,7 +55,7 @@ pub decode-v0-clean-spec : {M : Type 1} → statement M
 decode-v0-clean-spec =
     tie.close
     (tie.spec
-    refuse-requires
+    refuse-direct-requires
     refused-requires
     returns
     mul-n

@@ -11,8 +11,8 @@ use borrow.Author.Needs.{needs}
 use Rattle.samsung.proofs.clean.decode_v0_clean_map.Statement.{statement}
 use Rattle.samsung.proofs.clean.decode_v0_clean_map.Tie as tie
 
-refuse-requires : tie.Need-refuse-requires
-refuse-requires c κs = search needs
+refuse-direct-requires : tie.Need-refuse-direct-requires
+refuse-direct-requires c κs = search needs
 
 refused-requires : tie.Need-refused-requires
 refused-requires c κs = search needs
@@ -20,21 +20,21 @@ refused-requires c κs = search needs
 returns : tie.Need-returns
 unfolding refusal too-small short-samples short-offsets short-map short-scratch short
 returns c =
-    let e = sym (c .before .before .refuse .ensures) in
+    let e = sym (c .before .before .refuse-direct .ensures) in
     refused-yields _ _ _ e (c .before .if1 .taken) _ (c .refused .ensures)
 
 mul-n : tie.Need-mul-n
-mul-n c = omega (arith, room _ _ _ _ _ _ _ (c .before .refuse .ensures) (c .if1 .left) .few)
+mul-n c = omega (arith, room _ _ _ _ _ _ _ (c .before .refuse-direct .ensures) (c .if1 .left) .few)
 
 slice-relend-prefix-decode-checked : tie.Need-slice-relend-prefix-decode-checked
-slice-relend-prefix-decode-checked c = room _ _ _ _ _ _ _ (c .before .refuse .ensures) (c .if1 .left) .samples-enough
+slice-relend-prefix-decode-checked c = room _ _ _ _ _ _ _ (c .before .refuse-direct .ensures) (c .if1 .left) .samples-enough
 
 slice-aggregate-decode-checked : tie.Need-slice-aggregate-decode-checked
-slice-aggregate-decode-checked c = sym (length-take-le _ _ (room _ _ _ _ _ _ _ (c .before .before .refuse .ensures) (c .before .if1 .left) .samples-enough))
+slice-aggregate-decode-checked c = sym (length-take-le _ _ (room _ _ _ _ _ _ _ (c .before .before .refuse-direct .ensures) (c .before .if1 .left) .samples-enough))
 
 decode-checked-requires : tie.Need-decode-checked-requires
 decode-checked-requires c κs =
-    let p = room _ _ _ _ _ _ _ (c .before .before .refuse .ensures) (c .before .if1 .left) in
+    let p = room _ _ _ _ _ _ _ (c .before .before .refuse-direct .ensures) (c .before .if1 .left) in
     record { width = p .wide; height = p .high; offsets-enough = long-enough _ _ (p .offsets-enough); samples-lent = length-take-le _ _ (p .samples-enough); map-lent = inr refl }
 
 same-length : tie.Need-same-length
@@ -50,7 +50,7 @@ else2 c = c .before .before .before .before
 returns-2 : tie.Need-returns-2
 unfolding refusal too-small short-samples short-offsets short-map short-scratch short
 returns-2 c =
-    let ok = sym (else1 (c .before) .before .refuse .ensures) ∙ else1 (c .before) .if1 .left in
+    let ok = sym (else1 (c .before) .before .refuse-direct .ensures) ∙ else1 (c .before) .if1 .left in
     let d = c .before .before .before .before .decode-checked .ensures in
     record {
       answered = checked-answer _ refl _ ok _ (d .0);
@@ -59,10 +59,10 @@ returns-2 c =
     }
 
 slice-relend-prefix-mark-all : tie.Need-slice-relend-prefix-mark-all
-slice-relend-prefix-mark-all c = long-enough _ _ (room _ _ _ _ _ _ _ (else1 (c .before) .before .refuse .ensures) (else1 (c .before) .if1 .left) .map-enough)
+slice-relend-prefix-mark-all c = long-enough _ _ (room _ _ _ _ _ _ _ (else1 (c .before) .before .refuse-direct .ensures) (else1 (c .before) .if1 .left) .map-enough)
 
 slice-aggregate-mark-all : tie.Need-slice-aggregate-mark-all
-slice-aggregate-mark-all c = sym (length-take-le _ _ (long-enough _ _ (room _ _ _ _ _ _ _ (else1 (c .before .before) .before .refuse .ensures) (else1 (c .before .before) .if1 .left) .map-enough)))
+slice-aggregate-mark-all c = sym (length-take-le _ _ (long-enough _ _ (room _ _ _ _ _ _ _ (else1 (c .before .before) .before .refuse-direct .ensures) (else1 (c .before .before) .if1 .left) .map-enough)))
 
 mark-all-requires : tie.Need-mark-all-requires
 mark-all-requires c κs = search needs
@@ -76,7 +76,7 @@ same-length-3 c = search needs
 returns-3 : tie.Need-returns-3
 unfolding refusal too-small short-samples short-offsets short-map short-scratch short
 returns-3 c =
-    let ok = sym (else1 (else2 c .before) .before .refuse .ensures) ∙ else1 (else2 c .before) .if1 .left in
+    let ok = sym (else1 (else2 c .before) .before .refuse-direct .ensures) ∙ else1 (else2 c .before) .if1 .left in
     let d = else2 c .before .before .before .before .decode-checked .ensures in
     record {
       answered = checked-answer _ refl _ ok _ (d .0);
@@ -88,7 +88,7 @@ pub decode-v0-clean-map-spec : {M : Type 1} → statement M
 decode-v0-clean-map-spec =
     tie.close
     (tie.spec
-    refuse-requires
+    refuse-direct-requires
     refused-requires
     returns
     mul-n

@@ -11,8 +11,8 @@ use Rattle.samsung.proofs.EntryLaws.{refused-yields, passed-answer, pas
 use Rattle.samsung.proofs.direct.decode_v0_reference.Statement.{statement}
 use Rattle.samsung.proofs.direct.decode_v0_reference.Tie as tie
 
-refuse-requires : tie.Need-refuse-requires
-refuse-requires c κs = search needs
+refuse-direct-requires : tie.Need-refuse-direct-requires
+refuse-direct-requires c κs = search needs
 
 refused-requires : tie.Need-refused-requires
 refused-requires c κs = search needs
@@ -20,24 +20,24 @@ refused-requires c κs = search needs
 returns : tie.Need-returns
 unfolding refusal too-small short-samples short-offsets short-map short-scratch short
 returns c =
-    let e = sym (c .before .before .refuse .ensures) in
+    let e = sym (c .before .before .refuse-direct .ensures) in
     refused-yields _ _ _ e (c .before .if1 .taken) _ (c .refused .ensures)
 
 mul-n : tie.Need-mul-n
-mul-n c = omega (arith, room _ _ _ _ _ _ _ (c .before .refuse .ensures) (c .if1 .left) .few)
+mul-n c = omega (arith, room _ _ _ _ _ _ _ (c .before .refuse-direct .ensures) (c .if1 .left) .few)
 
 slice-relend-prefix-decode-frame : tie.Need-slice-relend-prefix-decode-frame
-slice-relend-prefix-decode-frame c = room _ _ _ _ _ _ _ (c .before .refuse .ensures) (c .if1 .left) .samples-enough
+slice-relend-prefix-decode-frame c = room _ _ _ _ _ _ _ (c .before .refuse-direct .ensures) (c .if1 .left) .samples-enough
 
 slice-aggregate-decode-frame : tie.Need-slice-aggregate-decode-frame
-slice-aggregate-decode-frame c = sym (length-take-le _ _ (room _ _ _ _ _ _ _ (c .before .before .refuse .ensures) (c .before .if1 .left) .samples-enough))
+slice-aggregate-decode-frame c = sym (length-take-le _ _ (room _ _ _ _ _ _ _ (c .before .before .refuse-direct .ensures) (c .before .if1 .left) .samples-enough))
 
 slice-aggregate-decode-frame-2 : tie.Need-slice-aggregate-decode-frame-2
 slice-aggregate-decode-frame-2 c = search needs
 
 decode-frame-requires : tie.Need-decode-frame-requires
 decode-frame-requires c κs =
-    let p = room _ _ _ _ _ _ _ (c .before .before .before .refuse .ensures) (c .before .before .if1 .left) in
+    let p = room _ _ _ _ _ _ _ (c .before .before .before .refuse-direct .ensures) (c .before .before .if1 .left) in
     record { width = p .wide; height = p .high; offsets-enough = long-enough _ _ (p .offsets-enough); samples-lent = length-take-le _ _ (p .samples-enough); map-lent = inr refl }
 
 done-with-requires : tie.Need-done-with-requires
@@ -53,7 +53,7 @@ else1 c = c .before .before .before .before .before
 returns-2 : tie.Need-returns-2
 unfolding refusal too-small short-samples short-offsets short-map short-scratch short frame-samples stream-answer
 returns-2 c =
-    let ok = sym (else1 (c .before .before) .before .refuse .ensures) ∙ else1 (c .before .before) .if1 .left in
+    let ok = sym (else1 (c .before .before) .before .refuse-direct .ensures) ∙ else1 (c .before .before) .if1 .left in
     let d = c .before .before .before .before .decode-frame .ensures in
     record { answered = passed-answer _ _ ok _ (c .done-with .ensures ∙ ap done-with (d .0)); samples = passed-samples _ _ ok _ _ (d .1 .0); map = refl; scratch = refl }
 
@@ -61,7 +61,7 @@ pub decode-v0-reference-spec : {M : Type 1} → statement M
 decode-v0-reference-spec =
     tie.close
     (tie.spec
-    refuse-requires
+    refuse-direct-requires
     refused-requires
     returns
     mul-n

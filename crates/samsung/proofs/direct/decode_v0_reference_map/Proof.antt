@@ -11,8 +11,8 @@ use Rattle.samsung.proofs.EntryLaws.{refused-yields, passed-answer, pas
 use Rattle.samsung.proofs.direct.decode_v0_reference_map.Statement.{statement}
 use Rattle.samsung.proofs.direct.decode_v0_reference_map.Tie as tie
 
-refuse-requires : tie.Need-refuse-requires
-refuse-requires c κs = search needs
+refuse-direct-requires : tie.Need-refuse-direct-requires
+refuse-direct-requires c κs = search needs
 
 refused-requires : tie.Need-refused-requires
 refused-requires c κs = search needs
@@ -20,27 +20,27 @@ refused-requires c κs = search needs
 returns : tie.Need-returns
 unfolding refusal too-small short-samples short-offsets short-map short-scratch short
 returns c =
-    let e = sym (c .before .before .refuse .ensures) in
+    let e = sym (c .before .before .refuse-direct .ensures) in
     refused-yields _ _ _ e (c .before .if1 .taken) _ (c .refused .ensures)
 
 mul-n : tie.Need-mul-n
-mul-n c = omega (arith, room _ _ _ _ _ _ _ (c .before .refuse .ensures) (c .if1 .left) .few)
+mul-n c = omega (arith, room _ _ _ _ _ _ _ (c .before .refuse-direct .ensures) (c .if1 .left) .few)
 
 slice-relend-prefix-decode-marked : tie.Need-slice-relend-prefix-decode-marked
-slice-relend-prefix-decode-marked c = room _ _ _ _ _ _ _ (c .before .refuse .ensures) (c .if1 .left) .samples-enough
+slice-relend-prefix-decode-marked c = room _ _ _ _ _ _ _ (c .before .refuse-direct .ensures) (c .if1 .left) .samples-enough
 
 slice-aggregate-decode-marked : tie.Need-slice-aggregate-decode-marked
-slice-aggregate-decode-marked c = sym (length-take-le _ _ (room _ _ _ _ _ _ _ (c .before .before .refuse .ensures) (c .before .if1 .left) .samples-enough))
+slice-aggregate-decode-marked c = sym (length-take-le _ _ (room _ _ _ _ _ _ _ (c .before .before .refuse-direct .ensures) (c .before .if1 .left) .samples-enough))
 
 slice-relend-prefix-decode-marked-2 : tie.Need-slice-relend-prefix-decode-marked-2
-slice-relend-prefix-decode-marked-2 c = long-enough _ _ (room _ _ _ _ _ _ _ (c .before .before .refuse .ensures) (c .before .if1 .left) .map-enough)
+slice-relend-prefix-decode-marked-2 c = long-enough _ _ (room _ _ _ _ _ _ _ (c .before .before .refuse-direct .ensures) (c .before .if1 .left) .map-enough)
 
 slice-aggregate-decode-marked-2 : tie.Need-slice-aggregate-decode-marked-2
-slice-aggregate-decode-marked-2 c = sym (length-take-le _ _ (long-enough _ _ (room _ _ _ _ _ _ _ (c .before .before .before .refuse .ensures) (c .before .before .if1 .left) .map-enough)))
+slice-aggregate-decode-marked-2 c = sym (length-take-le _ _ (long-enough _ _ (room _ _ _ _ _ _ _ (c .before .before .before .refuse-direct .ensures) (c .before .before .if1 .left) .map-enough)))
 
 decode-marked-requires : tie.Need-decode-marked-requires
 decode-marked-requires c κs =
-    let p = room _ _ _ _ _ _ _ (c .before .before .before .refuse .ensures) (c .before .before .if1 .left) in
+    let p = room _ _ _ _ _ _ _ (c .before .before .before .refuse-direct .ensures) (c .before .before .if1 .left) in
     let m = length-take-le _ _ (long-enough _ _ (p .map-enough)) in
     (record { width = p .wide; height = p .high; offsets-enough = long-enough _ _ (p .offsets-enough); samples-lent = length-take-le _ _ (p .samples-enough); map-lent = inl m }, m)
 
@@ -61,7 +61,7 @@ returns-2 : tie.Need-returns-2
 unfolding refusal too-small short-samples short-offsets short-map short-scratch short frame-samples frame-marks stream-answer
 returns-2 c =
     let b = else1 (c .before .before .before) in
-    let ok = sym (b .before .refuse .ensures) ∙ b .if1 .left in
+    let ok = sym (b .before .refuse-direct .ensures) ∙ b .if1 .left in
     let d = c .before .before .before .before .before .decode-marked .ensures in
     record { answered = passed-answer _ _ ok _ (c .done-with .ensures ∙ ap done-with (d .0)); samples = passed-samples _ _ ok _ _ (d .1 .0); map = passed-map _ _ ok _ _ (d .1 .1); scratch = refl }
 
@@ -69,7 +69,7 @@ pub decode-v0-reference-map-spec : {M : Type 1} → statement M
 decode-v0-reference-map-spec =
     tie.close
     (tie.spec
-    refuse-requires
+    refuse-direct-requires
     refused-requires
     returns
     mul-n

@@ -11,8 +11,8 @@ use Rattle.bands.proofs.Calls.{list-passed, refusal-plain, refusal-list, refuse
 use Rattle.samsung.proofs.in_bands.decode_v0_bands.Statement.{statement}
 use Rattle.samsung.proofs.in_bands.decode_v0_bands.Tie as tie
 
-refuse-requires : tie.Need-refuse-requires
-refuse-requires c κs = search needs
+refuse-two-phase-requires : tie.Need-refuse-two-phase-requires
+refuse-two-phase-requires c κs = search needs
 
 refused-requires : tie.Need-refused-requires
 refused-requires c κs = search needs
@@ -21,10 +21,10 @@ returns : tie.Need-returns
 unfolding refusal too-small short-samples short-offsets short-map short-scratch short
 returns c =
     let n = c .before .if1 .taken in
-    refused-yields _ _ (refusal-plain _ _ (sym (c .before .before .refuse .ensures)) n) n _ (c .refused .ensures)
+    refused-yields _ _ (refusal-plain _ _ (sym (c .before .before .refuse-two-phase .ensures)) n) n _ (c .refused .ensures)
 
 refuse-steps-requires : tie.Need-refuse-steps-requires
-refuse-steps-requires c κs = room _ _ _ _ _ _ _ (c .before .refuse .ensures) (c .if1 .left) .wide
+refuse-steps-requires c κs = room _ _ _ _ _ _ _ (c .before .refuse-two-phase .ensures) (c .if1 .left) .wide
 
 refused-requires-2 : tie.Need-refused-requires-2
 refused-requires-2 c κs = search needs
@@ -33,21 +33,21 @@ returns-2 : tie.Need-returns-2
 unfolding refusal too-small short-samples short-offsets short-map short-scratch short
 returns-2 c =
     let n = c .before .if2 .taken in
-    let ok = sym (c .before .before .before .before .refuse .ensures) ∙ c .before .before .before .if1 .left in
+    let ok = sym (c .before .before .before .before .refuse-two-phase .ensures) ∙ c .before .before .before .if1 .left in
     refused-yields _ _ (refusal-list _ ok ∙ sym (c .before .before .refuse-steps .ensures)) n _ (c .refused2 .ensures)
 
 mul-n : tie.Need-mul-n
-mul-n c = omega (arith, room _ _ _ _ _ _ _ (c .before .before .before .refuse .ensures) (c .before .before .if1 .left) .few)
+mul-n c = omega (arith, room _ _ _ _ _ _ _ (c .before .before .before .refuse-two-phase .ensures) (c .before .before .if1 .left) .few)
 
 slice-relend-prefix-decode-frame : tie.Need-slice-relend-prefix-decode-frame
-slice-relend-prefix-decode-frame c = room _ _ _ _ _ _ _ (c .before .before .before .refuse .ensures) (c .before .before .if1 .left) .samples-enough
+slice-relend-prefix-decode-frame c = room _ _ _ _ _ _ _ (c .before .before .before .refuse-two-phase .ensures) (c .before .before .if1 .left) .samples-enough
 
 slice-aggregate-decode-frame : tie.Need-slice-aggregate-decode-frame
-slice-aggregate-decode-frame c = sym (length-take-le _ _ (room _ _ _ _ _ _ _ (c .before .before .before .before .refuse .ensures) (c .before .before .before .if1 .left) .samples-enough))
+slice-aggregate-decode-frame c = sym (length-take-le _ _ (room _ _ _ _ _ _ _ (c .before .before .before .before .refuse-two-phase .ensures) (c .before .before .before .if1 .left) .samples-enough))
 
 decode-frame-requires : tie.Need-decode-frame-requires
 decode-frame-requires c κs =
-    let p = room _ _ _ _ _ _ _ (c .before .before .before .before .before .refuse .ensures) (c .before .before .before .before .if1 .left) in
+    let p = room _ _ _ _ _ _ _ (c .before .before .before .before .before .refuse-two-phase .ensures) (c .before .before .before .before .if1 .left) in
     let l = list-passed _ _ (sym (c .before .before .before .refuse-steps .ensures) ∙ c .before .before .if2 .left) in
     record { width = p .wide; height = p .high; offsets-enough = long-enough _ _ (p .offsets-enough); samples-lent = length-take-le _ _ (p .samples-enough); scratch-lent = long-enough _ _ (p .scratch-enough); cut-fits = l .0; list-good = l .1 }
 
@@ -68,7 +68,7 @@ returns-3 : tie.Need-returns-3
 unfolding refusal too-small short-samples short-offsets short-map short-scratch short
 returns-3 c =
     let b = else2 (c .before .before .before) in
-    let plain = sym (b .before .before .before .refuse .ensures) ∙ b .before .before .if1 .left in
+    let plain = sym (b .before .before .before .refuse-two-phase .ensures) ∙ b .before .before .if1 .left in
     let ok = refusal-list _ plain ∙ sym (b .before .refuse-steps .ensures) ∙ b .if2 .left in
     let d = c .before .before .before .before .before .decode-frame .ensures in
     done-yields _ ok _ (c .done .ensures) _ _ (d .0) (d .1)
@@ -77,7 +77,7 @@ pub decode-v0-bands-spec : {M : Type 1} → statement M
 decode-v0-bands-spec =
     tie.close
     (tie.spec
-    refuse-requires
+    refuse-two-phase-requires
     refused-requires
     returns
     refuse-steps-requires

@@ -11,8 +11,8 @@ use Rattle.samsung.proofs.EntryLaws.{refused-yields, passed-answer, pas
 use Rattle.samsung.proofs.two_phase.decode_v0.Statement.{statement}
 use Rattle.samsung.proofs.two_phase.decode_v0.Tie as tie
 
-refuse-requires : tie.Need-refuse-requires
-refuse-requires c κs = search needs
+refuse-two-phase-requires : tie.Need-refuse-two-phase-requires
+refuse-two-phase-requires c κs = search needs
 
 refused-requires : tie.Need-refused-requires
 refused-requires c κs = search needs
@@ -20,21 +20,21 @@ refused-requires c κs = search needs
 returns : tie.Need-returns
 unfolding refusal too-small short-samples short-offsets short-map short-scratch short
 returns c =
-    let e = sym (c .before .before .refuse .ensures) in
+    let e = sym (c .before .before .refuse-two-phase .ensures) in
     refused-yields _ _ _ e (c .before .if1 .taken) _ (c .refused .ensures)
 
 mul-n : tie.Need-mul-n
-mul-n c = omega (arith, room _ _ _ _ _ _ _ (c .before .refuse .ensures) (c .if1 .left) .few)
+mul-n c = omega (arith, room _ _ _ _ _ _ _ (c .before .refuse-two-phase .ensures) (c .if1 .left) .few)
 
 slice-relend-prefix-decode-frame : tie.Need-slice-relend-prefix-decode-frame
-slice-relend-prefix-decode-frame c = room _ _ _ _ _ _ _ (c .before .refuse .ensures) (c .if1 .left) .samples-enough
+slice-relend-prefix-decode-frame c = room _ _ _ _ _ _ _ (c .before .refuse-two-phase .ensures) (c .if1 .left) .samples-enough
 
 slice-aggregate-decode-frame : tie.Need-slice-aggregate-decode-frame
-slice-aggregate-decode-frame c = sym (length-take-le _ _ (room _ _ _ _ _ _ _ (c .before .before .refuse .ensures) (c .before .if1 .left) .samples-enough))
+slice-aggregate-decode-frame c = sym (length-take-le _ _ (room _ _ _ _ _ _ _ (c .before .before .refuse-two-phase .ensures) (c .before .if1 .left) .samples-enough))
 
 decode-frame-requires : tie.Need-decode-frame-requires
 decode-frame-requires c κs =
-    let p = room _ _ _ _ _ _ _ (c .before .before .before .refuse .ensures) (c .before .before .if1 .left) in
+    let p = room _ _ _ _ _ _ _ (c .before .before .before .refuse-two-phase .ensures) (c .before .before .if1 .left) in
     record { frame = record { width = p .wide; height = p .high; offsets-enough = long-enough _ _ (p .offsets-enough); samples-lent = length-take-le _ _ (p .samples-enough); map-lent = inr refl }; directions-lent = long-enough _ _ (p .scratch-enough) }
 
 done-requires : tie.Need-done-requires
@@ -54,7 +54,7 @@ returns-2 : tie.Need-returns-2
 unfolding refusal too-small short-samples short-offsets short-map short-scratch short frame-samples frame-scratch stream-answer
 returns-2 c =
     let b = else1 (c .before .before .before) in
-    let ok = sym (b .before .refuse .ensures) ∙ b .if1 .left in
+    let ok = sym (b .before .refuse-two-phase .ensures) ∙ b .if1 .left in
     let d = c .before .before .before .before .before .decode-frame .ensures in
     record { answered = passed-answer _ _ ok _ (c .done .ensures); samples = passed-samples _ _ ok _ _ (d .0); map = refl; scratch = passed-scratch _ _ ok _ _ (d .1) }
 
@@ -62,7 +62,7 @@ pub decode-v0-spec : {M : Type 1} → statement M
 decode-v0-spec =
     tie.close
     (tie.spec
-    refuse-requires
+    refuse-two-phase-requires
     refused-requires
     returns
     mul-n
