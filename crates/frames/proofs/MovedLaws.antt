@@ -44,12 +44,13 @@ room z read written k e q =
     }
 
 module _ (w h : ℕ) (from to : List ℕ) (k : ℕ) (e : k ≡ refusal (size w h) (length from) (length to)) where
-  pub refused-answer : (r : Answer) → r ≡ refused k → r ≡ answer w h from to
-  refused-answer r q = q ∙ ap refused e
-
-  pub refused-after : (moved : Size → List ℕ → List ℕ) → (k ≡ 0 → ⊥) → to ≡ after moved w h from to
+  refused-after : (moved : Size → List ℕ → List ℕ) → (k ≡ 0 → ⊥) → to ≡ after moved w h from to
   unfolding after
   refused-after moved n = rw (← e) (by-test (eqb k 0) (λ q. rw q (absurd (n (eqb-true k 0 q)))) (λ q. rw q))
+
+  -- A refusal leaves all as it was.
+  pub refused-moved : (moved : Size → List ℕ → List ℕ) → (k ≡ 0 → ⊥) → (r : Answer) → r ≡ refused k → (r ≡ answer w h from to) × (to ≡ after moved w h from to)
+  refused-moved moved n r q = (q ∙ ap refused e, refused-after moved n)
 
   module _ (ok : k ≡ 0) where
     pub lent : Lends (size w h) (take (w * h) from) (take (w * h) to)
@@ -57,9 +58,11 @@ module _ (w h : ℕ) (from to : List ℕ) (k : ℕ) (e : k ≡ refusal (size w h
         let r = room (size w h) (length from) (length to) k e ok in
         record { within = r .within; read = length-take-le (w * h) from (r .read-enough); written = length-take-le (w * h) to (r .written-enough) }
 
-    pub passed-answer : (r : Answer) → r ≡ done → r ≡ answer w h from to
-    passed-answer r q = q ∙ ap refused (sym ok ∙ e)
-
-    pub passed-after : (moved : Size → List ℕ → List ℕ) (new : List ℕ) → new ≡ moved (size w h) (take (w * h) from) → new ++ drop (w * h) to ≡ after moved w h from to
+    passed-after : (moved : Size → List ℕ → List ℕ) (new : List ℕ) → new ≡ moved (size w h) (take (w * h) from) → new ++ drop (w * h) to ≡ after moved w h from to
     unfolding after
     passed-after moved new q = rw (← e, ok, q)
+
+    -- And else the first samples are what the planes' function makes of them.
+    pub passed-moved : (moved : Size → List ℕ → List ℕ) (r : Answer) → r ≡ done → (new : List ℕ) → new ≡ moved (size w h) (take (w * h) from)
+        → (r ≡ answer w h from to) × (new ++ drop (w * h) to ≡ after moved w h from to)
+    passed-moved moved r q new p = (q ∙ ap refused (sym ok ∙ e), passed-after moved new p)

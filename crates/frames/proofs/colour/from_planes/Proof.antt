@@ -4,7 +4,7 @@ use native.Mathlib.Omega.{arith}
 use borrow.Author.Needs.{needs}
 use lib.Seq.{length-take-le}
 use Rattle.planes.specs.Planes.{from-planes}
-use Rattle.frames.proofs.MovedLaws.{room, refused-answer, refused-after, lent, passed-answer, passed-after}
+use Rattle.frames.proofs.MovedLaws.{room, refused-moved, lent, passed-moved}
 use Rattle.frames.proofs.colour.from_planes.Statement.{statement}
 use Rattle.frames.proofs.colour.from_planes.Tie as tie
 
@@ -22,12 +22,7 @@ abbrev else1 : tie.After-slice-known2 → tie.Else1
 else1 c = c .before .before .before .before .before
 
 returns : tie.Need-returns
-returns c =
-    let e = c .before .before .refuse .ensures in
-    let a = at-start (c .before .before) .args in (
-      refused-answer (a .width) (a .height) (a .planes .now) (a .samples .now) _ e _ (c .refused .ensures),
-      refused-after (a .width) (a .height) (a .planes .now) (a .samples .now) _ e from-planes (c .before .if1 .taken),
-    )
+returns c = let a = at-start (c .before .before) .args in refused-moved (a .width) (a .height) (a .planes .now) (a .samples .now) _ (c .before .before .refuse .ensures) from-planes (c .before .if1 .taken) _ (c .refused .ensures)
 
 mul-n : tie.Need-mul-n
 mul-n c = let r = room _ _ _ _ (c .before .refuse .ensures) (c .if1 .left) in omega arith
@@ -53,14 +48,7 @@ same-length : tie.Need-same-length
 same-length c = search needs
 
 returns-2 : tie.Need-returns-2
-returns-2 c =
-    let b = else1 (c .before) in
-    let a = at-start (b .before) .args in
-    let e = b .before .refuse .ensures in
-    let ok = b .if1 .left in (
-      passed-answer (a .width) (a .height) (a .planes .now) (a .samples .now) _ e ok _ (c .done .ensures),
-      passed-after (a .width) (a .height) (a .planes .now) (a .samples .now) _ e ok from-planes _ (c .before .before .before .from-planes .ensures),
-    )
+returns-2 c = let b = else1 (c .before) in let a = at-start (b .before) .args in passed-moved (a .width) (a .height) (a .planes .now) (a .samples .now) _ (b .before .refuse .ensures) (b .if1 .left) from-planes _ (c .done .ensures) _ (c .before .before .before .from-planes .ensures)
 
 pub from-planes-spec : {M : Type 1} → statement M
 from-planes-spec =

@@ -40,16 +40,20 @@ add-i c = search needs
 loop-less : tie.Need-loop-less Inv-loop μ-loop
 loop-less c = omega arith
 
+-- The entry, from the loop.
+abbrev at-start : tie.At-loop Inv-loop μ-loop → tie.Start Inv-loop μ-loop
+at-start c = c .before .before .before
+
 loop-again : tie.Need-loop-again Inv-loop μ-loop
 loop-again c =
     let l = c .before .before .before .before .loop in
-    let s = c .before .before .before .before .before .before .before in
+    let s = at-start (c .before .before .before .before) in
     (omega arith, l .inv .1 ∙ same-on (s .args .frame .now) (s .args .meant .now) (l .i) (l .alike) (c .still-same .result) (s .pre) (omega arith) (c .still-same .ensures))
 
 returns : tie.Need-returns Inv-loop μ-loop
 returns c =
     let l = c .before .loop in
-    let s = c .before .before .before .before in
+    let s = at-start (c .before) in
     sym (l .inv .1 ∙ same-gone (s .args .frame .now) (s .args .meant .now) (l .i) (l .alike) (s .pre) (omega arith))
 
 pub is-same-spec : {M : Type 1} → statement M
