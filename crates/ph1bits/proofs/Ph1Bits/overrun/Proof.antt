@@ -24,7 +24,7 @@ use denote.Laws.{Is, shows}
 use denote.Memory.{partAt}
 use denote.Plain.{bool-makes}
 use denote.Builtin.{bool}
-use denote.Ref.{RefT, ShrRef, ptr-vals, shr-tells}
+use denote.Ref.{ShrRef, ptr-vals, shr-tells}
 use denote.Steps.{looks, shuts, owned, peeks, nothing}
 use denote.Struct.Steps.{spelt}
 use denote.Struct.Laws as LL
@@ -36,44 +36,35 @@ use denote.Triple.Walked.{says, Stays, stay-none-ref, walkOf, AllGo, goes-none-r
 use denote.Exit.{yes}
 use Rattle.ph1bits.specs.declared.Ph1Bits.{Ph1Bits}
 use Rattle.ph1bits.proofs.Ph1Bits.Laws as T′
-use Rattle.ph1bits.proofs.Lent.{α, B, behind, D, L, mach, wt}
+use Rattle.ph1bits.proofs.Lent.{α, B, behind, D, L, mach, lent, passed, wt}
 use Rattle.ph1bits.proofs.Ph1Bits.overrun.Key.{name as #overrun}
 use Rattle.ph1bits.proofs.Ph1Bits.overrun as overrun
 use Rattle.ph1bits.proofs.Ph1Bits.overrun.Statement as stated
 use Rattle.ph1bits.proofs.Ph1Bits.overrun.Code as code
 
-abbrev Arg : Type 0
-Arg = RefT Ph1Bits × Unit {0}
-
 abbrev stayed : Stays (overrun.ended .signature .params) (overrun.ended .kept)
 stayed = (stay-none-ref (0 ∷ []) tt behind yes, tt)
 
 module _ {M : Type 1} (𝓤 : URA M) (H : Heap 𝓤) (A : Atoms 𝓤) (W : Given 𝓤 H A) (mem : Memory → SProp 𝓤) (run : Routine → Fun 𝓤) (κ κ′ : Lft) (q q′ : Share) (bounds : AllOutlive 2 (overrun.signature .outlives) (κ, (κ′, tt))) (b o : ℕ) (γ : GName) (h : Ph1Bits) where
-  abbrev x : Arg
-  x = (record { ptr = (b, o); name = γ; now = h }, tt)
-
-  abbrev at : List Val × Unit {0}
-  at = (vptr b o ∷ [], tt)
-
   -- whether a word was missing
   abbrev missing : Bool
   missing = not (eqb (h .state .filler) 0)
 
   abbrev Post : Val → SProp 𝓤
-  Post = walkOf 𝓤 H A overrun.ended stayed (overrun.clauses 𝓤 H A mem run) .post (((κ, (κ′, tt)), (q, (q′, tt)), bounds, x, at), tt)
+  Post = walkOf 𝓤 H A overrun.ended stayed (overrun.clauses 𝓤 H A mem run) .post (((κ, (κ′, tt)), (q, (q′, tt)), bounds, lent b o γ h, passed b o), tt)
 
   exits : ent 𝓤 (sep 𝓤 (A .lft κ q) (sep 𝓤 (sep 𝓤 (A .lft κ′ q′) (emp 𝓤)) (sep 𝓤 (A .res γ (B κ′ .coded .code h)) (A .shr-bor κ (λ s. partAt (B κ′) s h b o)))))
       (Post (vbool missing))
   exits =
       qed W (‵ (flft κ q) ∷ (‵ (flft κ′ q′) ⊛ ‵ ftrue) ∷ ‵ (fres γ (B κ′ .coded .code h)) ∷ ‵ (fshr-bor κ (λ s. partAt (B κ′) s h b o)) ∷ []) ∵
-      suffices ! _ (ends-at 𝓤 H A overrun.ended stayed (overrun.clauses 𝓤 H A mem run) W (((κ, (κ′, tt)), (q, (q′, tt)), bounds, x, at), tt) (vbool missing) missing (tt, tt) (tt, tt)) $ says ! refl $
+      suffices ! _ (ends-at 𝓤 H A overrun.ended stayed (overrun.clauses 𝓤 H A mem run) W (((κ, (κ′, tt)), (q, (q′, tt)), bounds, lent b o γ h, passed b o), tt) (vbool missing) missing (tt, tt) (tt, tt)) $ says ! refl $
       join ! $ frame ! $ feqI ! (List Val) (vptr b o ∷ []) (vptr b o ∷ []) refl $ fjoin3 ! $ nothing ! $ move ! (1 ∷ 0 ∷ []) $ fjoin ! $ frame ! $
       owned ! bool (Is bool) (bool-makes 𝓤 H A W) missing _ refl $ done !
 
   module _ (C : Calls 𝓤 H) (Λ : Loops 𝓤 H) where
-    walk : ent 𝓤 (onEntry 𝓤 H A overrun.signature (κ, (κ′, tt)) (q, (q′, tt)) x at) (WpFn 𝓤 H C Λ code.function (vptr b o ∷ []) Post)
+    walk : ent 𝓤 (onEntry 𝓤 H A overrun.signature (κ, (κ′, tt)) (q, (q′, tt)) (lent b o γ h) (passed b o)) (WpFn 𝓤 H C Λ code.function (vptr b o ∷ []) Post)
     walk =
-        qed W ((‵ (flft κ q) ⊛ ‵ (flft κ′ q′) ⊛ ‵ ftrue) ∷ ‵ (owns (ShrRef (named 0) κ (B κ′) ∷ []) x at) ∷ []) ∵ enter ! C Λ code.function (vptr b o ∷ []) _ $
+        qed W ((‵ (flft κ q) ⊛ ‵ (flft κ′ q′) ⊛ ‵ ftrue) ∷ ‵ (owns (ShrRef (named 0) κ (B κ′) ∷ []) (lent b o γ h) (passed b o)) ∷ []) ∵ enter ! C Λ code.function (vptr b o ∷ []) _ $
         alloc1 ! (λ l₀. alloc1 ! (λ l₁. alloc1 ! (λ l₂. alloc0 ! $ params1 ! $ pass1 ! (init ! 2 refl (tt, tt)) $ pass0 ! $
         move ! (7 ∷ []) $ fsplit ! $ fsplit3 ! $ drop ! $ move ! (9 ∷ []) $ split ! $ move ! (3 ∷ 0 ∷ []) $ looks ! tt (B κ′) (Is (B κ′)) (shows 𝓤 H A (B κ′)) (LL.vals (D κ′) (L κ′)) (LL.tells (D κ′) (L κ′)) ((LL.copy (D κ′) (T′.the-copy (α κ′))) 𝓤 H A W) h b o (λ s vs.
         spelt ! (B κ′) (Is (B κ′)) (shows 𝓤 H A (B κ′)) (LL.vals (D κ′) (L κ′)) (LL.tells (D κ′) (L κ′)) s h vs b o $ move ! (1 ∷ []) $ peeks ! (B κ′) (Is (B κ′)) (shows 𝓤 H A (B κ′)) h (mach h ∷ []) (λ g. move ! (1 ∷ 0 ∷ []) $
