@@ -14,8 +14,8 @@ use borrow.Author.Tests.{leb-true, lt-ltb, le-ltb, le-leb, lt-leb, eq-eqb, ne-eq
 use Rattle.bands.specs.Bands.{Cut, cut, sized, fits, blocks-per-band, step-count, step-band, step-block, ready, after, in-turn, none-done, good}
 use Rattle.bands.specs.Call.{list-refusal}
 use Rattle.bands.proofs.AnySequence.{fitting}
-use Rattle.bands.proofs.Counters.{both, some-block}
-use Rattle.rules.proofs.Tests.{by-test}
+use Rattle.bands.proofs.Counters.{some-block}
+use Rattle.rules.proofs.Tests.{by-test, both}
 
 -- ── A cut ──
 
@@ -128,7 +128,7 @@ module _ (w h k b : ℕ) (wide : w ≤ 16_384) (fit : fits (cut (sized w h) k b)
   unfolding fits
   bands-most =
       let x = both (leb 1 b && eqb (b % 16) 0 && leb 1 k) (leb k (min 64 (max 1 ((h - 2) / 2)))) fit in
-      let y = leb-true k (min 64 (max 1 ((h - 2) / 2))) (x .two) in
+      let y = leb-true k (min 64 (max 1 ((h - 2) / 2))) (x .1) in
       omega arith
 
   module _ (blocks : ℕ) (is : blocks ≡ blocks-per-band (cut (sized w h) k b)) where

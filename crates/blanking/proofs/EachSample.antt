@@ -35,7 +35,21 @@ blanked-at : (fill : Fill) (v w n : ℕ) (f m : List ℕ) (i : ℕ) → i < n * 
     → getD (blank-rows fill w n f m) i 0 ≡ cond (marked (getD m i 0)) v (getD f i 0)
 unfolding blank-rows
 blanked-at fill v w zero f m i h l p = absurd (omega (arith, zero-mul w))
-blanked-at fill v w (suc n) f m i h l p = go (ltb i w) refl (λ j k q. blanked-at fill v w n (drop w f) (drop w m) j k (omega (arith, length-drop w f)) q)
+blanked-at fill v w (suc n) f m i h l p =
+    by-test (ltb i w)
+    (λ e. let k = ltb-true i w e in
+    List·getD-append row rest 0 i (omega (arith, wide))
+    ∙ blank-row-get fill (take w f) (take w m) i (omega (arith, length-take-le w f (omega arith)))
+    ∙ ap₂ (λ b x. cond (marked b) (fill (take w f) (take w m) i) x) (getD-take w m i 0 k) (getD-take w f i 0 k)
+    ∙ filled (marked (getD m i 0)) refl k)
+    (λ e. let k = ltb-false i w e in
+    let at : i ≡ length row + (i - w) = omega (arith, wide) in
+    let back : w + (i - w) ≡ i = omega arith in
+    let of-map : getD (drop w m) (i - w) 0 ≡ getD m i 0 = getD-drop w m (i - w) 0 ∙ ap (λ j. getD m j 0) back in
+    let of-frame : getD (drop w f) (i - w) 0 ≡ getD f i 0 = getD-drop w f (i - w) 0 ∙ ap (λ j. getD f j 0) back in
+    ap (λ j. getD (row ++ rest) j 0) at ∙ getD-append-add row rest (i - w) 0
+    ∙ blanked-at fill v w n (drop w f) (drop w m) (i - w) (omega arith) (omega (arith, length-drop w f)) (λ q. p (ap marked (sym of-map) ∙ q))
+    ∙ ap₂ (λ b x. cond (marked b) v x) of-map of-frame)
   where
     row : List ℕ
     row = blank-row fill (take w f) (take w m)
@@ -49,26 +63,6 @@ blanked-at fill v w (suc n) f m i h l p = go (ltb i w) refl (λ j k q. blanked-a
     filled : (t : Bool) → marked (getD m i 0) ≡ t → i < w → cond t (fill (take w f) (take w m) i) (getD f i 0) ≡ cond t v (getD f i 0)
     filled true e k = p e (take w f) (take w m) i
     filled false e k = refl
-
-    go : (t : Bool) → ltb i w ≡ t
-        → ((j : ℕ) → j < n * w → (marked (getD (drop w m) j 0) ≡ true → (row map : List ℕ) (c : ℕ) → fill row map c ≡ v)
-        → getD rest j 0 ≡ cond (marked (getD (drop w m) j 0)) v (getD (drop w f) j 0))
-        → getD (row ++ rest) i 0 ≡ cond (marked (getD m i 0)) v (getD f i 0)
-    go true e again =
-        let k = ltb-true i w e in
-        List·getD-append row rest 0 i (omega (arith, wide))
-        ∙ blank-row-get fill (take w f) (take w m) i (omega (arith, length-take-le w f (omega arith)))
-        ∙ ap₂ (λ b x. cond (marked b) (fill (take w f) (take w m) i) x) (getD-take w m i 0 k) (getD-take w f i 0 k)
-        ∙ filled (marked (getD m i 0)) refl k
-    go false e again =
-        let k = ltb-false i w e in
-        let at : i ≡ length row + (i - w) = omega (arith, wide) in
-        let back : w + (i - w) ≡ i = omega arith in
-        let of-map : getD (drop w m) (i - w) 0 ≡ getD m i 0 = getD-drop w m (i - w) 0 ∙ ap (λ j. getD m j 0) back in
-        let of-frame : getD (drop w f) (i - w) 0 ≡ getD f i 0 = getD-drop w f (i - w) 0 ∙ ap (λ j. getD f j 0) back in
-        ap (λ j. getD (row ++ rest) j 0) at ∙ getD-append-add row rest (i - w) 0
-        ∙ again (i - w) (omega arith) (λ q. p (ap marked (sym of-map) ∙ q))
-        ∙ ap₂ (λ b x. cond (marked b) v x) of-map of-frame
 
 module _ (z : Size) (f m : List ℕ) (l : length f ≡ cells z) (i : ℕ) (h : i < cells z) where
   below : i < z .height * z .width
@@ -112,11 +106,7 @@ all-tabulate (suc n) i f p = more (p i) (all-tabulate n (suc i) f p)
 module _ (fill : Fill) (fits : Fits fill) where
   row-below : (row map : List ℕ) → Small row → Small (blank-row fill row map)
   unfolding blank-row
-  row-below row map s = all-tabulate (length row) 0 _ (λ c. go (marked (getD map c 0)) c (all-get (λ x. x < 65_536) s c 0 (lit< tt)))
-    where
-      go : (t : Bool) (c : ℕ) → getD row c 0 < 65_536 → cond t (fill row map c) (getD row c 0) < 65_536
-      go true c k = fits row map s c
-      go false c k = k
+  row-below row map s = all-tabulate (length row) 0 _ (λ c. by-test (marked (getD map c 0)) (λ e. rw e (fits row map s c)) (λ e. rw e (all-get (λ x. x < 65_536) s c 0 (lit< tt))))
 
   pub blank-rows-below : (w n : ℕ) (f m : List ℕ) → Small f → Small (blank-rows fill w n f m)
   unfolding blank-rows

@@ -75,12 +75,9 @@ module _ (b : Blanks) (done : Done b) where
 
   passed : refusal (b .call) ≡ 0
   unfolding blank-answer
-  passed = go (eqb (refusal (b .call)) 0) refl (sym (ap (λ r. r .answer .number) (b .yields .answered)) ∙ done)
-    where
-      go : (t : Bool) → eqb (refusal (b .call)) 0 ≡ t
-          → cond t (blanked-done (count (marks-of (b .call))) (length (found (b .call)))) (refused (refusal (b .call))) .answer .number ≡ 0 → refusal (b .call) ≡ 0
-      go true e q = eqb-true (refusal (b .call)) 0 e
-      go false e q = q
+  passed =
+      let q = sym (ap (λ r. r .answer .number) (b .yields .answered)) ∙ done in
+      by-test (eqb (refusal (b .call)) 0) (λ e. eqb-true (refusal (b .call)) 0 e) (λ e. rw e at q)
 
   -- Its buffers are long enough.
   enough : (n ≤ length (b .call .samples)) × (n ≤ length (b .call .map))

@@ -63,11 +63,7 @@ stretch-gone m i h = rw (drop-of-length-le m {i = i} h)
 pub stretch-most : (m : List ℕ) → stretch m ≤ length m
 unfolding stretch
 stretch-most [] = omega arith
-stretch-most (b ∷ m) = go (marked b) (stretch-most m)
-  where
-    go : (t : Bool) → stretch m ≤ length m → cond t (suc (stretch m)) 0 ≤ suc (length m)
-    go true l = omega arith
-    go false l = omega arith
+stretch-most (b ∷ m) = by-test (marked b) (λ e. rw e (omega (arith, stretch-most m))) (λ e. rw e (omega arith))
 
 -- A list begins with marked bytes as far as its stretch goes.
 pub stretch-marked : (m : List ℕ) (i : ℕ) → i < stretch m → marked (getD m i 0) ≡ true

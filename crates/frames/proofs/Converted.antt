@@ -38,21 +38,12 @@ module _ (source offsets : List ℕ) (w h : ℕ) (samples map stream : List ℕ)
 
   pub passed : (r : Written) (s m t : List ℕ) → Yields c r s m t → r .answer .number ≡ 0 → Passed
   unfolding if-decoded late-answer
-  passed r s m t y zero = go (eqb (early c) 0) refl (sym (ap (λ x. x .answer .number) (y .answered)) ∙ zero)
-    where
-      k : ℕ
-      k = late size (frame-of c) (marks-of c) (length stream)
-
-      answered : Bool → Written
-      answered b = cond b (written (length (stream-for size (frame-of c)))) (refused k)
-
-      inner : (b : Bool) → eqb k 0 ≡ b → answered b .answer .number ≡ 0 → k ≡ 0
-      inner true e q = eqb-true k 0 e
-      inner false e q = q
-
-      go : (b : Bool) → eqb (early c) 0 ≡ b → cond b (answered (eqb k 0)) (refused (early c)) .answer .number ≡ 0 → Passed
-      go true e q = record { early-none = eqb-true (early c) 0 e; late-none = inner (eqb k 0) refl q }
-      go false e q = absurd (eqb-false (early c) 0 e q)
+  passed r s m t y zero =
+      let k = late size (frame-of c) (marks-of c) (length stream) in
+      let q = sym (ap (λ x. x .answer .number) (y .answered)) ∙ zero in
+      by-test (eqb (early c) 0)
+      (λ e. record { early-none = eqb-true (early c) 0 e; late-none = by-test (eqb k 0) (λ f. eqb-true k 0 f) (λ f. rw (e, f) at q) })
+      (λ e. absurd (eqb-false (early c) 0 e (rw e at q)))
 
   -- The tests before decoding.
   early-tests : (k : ℕ) → cond (eqb k 0) (cond {A = ℕ} (eqb (w % 16) 0) 0 15) k ≡ 0 → (k ≡ 0) × (w % 16 ≡ 0)

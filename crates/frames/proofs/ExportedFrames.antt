@@ -25,6 +25,7 @@ use Rattle.writers.proofs.Rows.{offsets-length}
 use Rattle.frames.specs.declared.export.Exported.{Exported}
 use Rattle.frames.specs.Export.{Export, write, if-blanked, export-answer, stream-after, offsets-after, Yields}
 use Rattle.frames.proofs.ExportLaws.{number-is}
+use Rattle.rules.proofs.Tests.{by-test}
 
 -- A call of the export that has returned: what it was handed, answered and left.
 pub record Exports : Type 0 where
@@ -70,13 +71,12 @@ module _ (e : Exports) (done : e .answered .answer .number ≡ 0) where
   -- It blanked, and then it wrote.
   both : (Blank.refusal (e .export .blank) ≡ 0) × (Write.write-refusal (write (e .export)) ≡ 0)
   unfolding export-answer if-blanked
-  both = go (eqb (Blank.refusal (e .export .blank)) 0) refl (sym (ap (λ r. r .answer .number) (e .yields .answered)) ∙ done)
-    where
-      go : (t : Bool) → eqb (Blank.refusal (e .export .blank)) 0 ≡ t
-          → cond {A = Answer} t (Write.write-answer (write (e .export)) .answer) (Blank.blank-answer (e .export .blank) .answer) .number ≡ 0
-          → (Blank.refusal (e .export .blank) ≡ 0) × (Write.write-refusal (write (e .export)) ≡ 0)
-      go true t q = (eqb-true (Blank.refusal (e .export .blank)) 0 t, done-passed (write (e .export)) q)
-      go false t q = let zero : Blank.refusal (e .export .blank) ≡ 0 = sym (number-is (e .export .blank)) ∙ q in absurd (eqb-false (Blank.refusal (e .export .blank)) 0 t zero)
+  both =
+      let b = e .export .blank in
+      let q = sym (ap (λ r. r .answer .number) (e .yields .answered)) ∙ done in
+      by-test (eqb (Blank.refusal b) 0)
+      (λ t. (eqb-true (Blank.refusal b) 0 t, done-passed (write (e .export)) (rw t at q)))
+      (λ t. absurd (eqb-false (Blank.refusal b) 0 t (sym (number-is b) ∙ rw t at q)))
 
   pub blank-done : Done (blanks e)
   blank-done = number-is (e .export .blank) ∙ both .0

@@ -28,6 +28,7 @@ use Rattle.packed.specs.Proposal.{Proposal, proposal, frame-of, before, scratch
 use Rattle.packed.specs.Proposal as Proposals
 use Rattle.packed.proofs.Exactly.{Begun, begun, frame, scratch-is}
 use Rattle.frames.proofs.WriterLaws as Writer
+use Rattle.rules.proofs.Tests.{by-test}
 
 -- ── Two frames compared ──
 
@@ -38,19 +39,11 @@ unfolding same
 same-on f g i t next e l q =
     let one : i + 1 ≡ suc i = omega arith in
     let m : i < length g = omega arith in
-    rw (one, q, drop-cons f i 0 l, drop-cons g i 0 m) (go t (eqb (getD f i 0) (getD g i 0)) (same (drop (suc i) f) (drop (suc i) g)))
-  where
-    go : (t u v : Bool) → (t && (u && v)) ≡ ((t && u) && v)
-    go true u v = refl
-    go false u v = refl
+    rw (one, q, drop-cons f i 0 l, drop-cons g i 0 m) (by-test t (λ k. rw k) (λ k. rw k))
 
 pub same-gone : (f g : List ℕ) (i : ℕ) (t : Bool) → length f ≡ length g → length f ≤ i → (t && same (drop i f) (drop i g)) ≡ t
 unfolding same
-same-gone f g i t e l = rw (drop-of-length-le f {i = i} l, drop-of-length-le g {i = i} (omega arith)) (go t)
-  where
-    go : (t : Bool) → (t && true) ≡ t
-    go true = refl
-    go false = refl
+same-gone f g i t e l = rw (drop-of-length-le f {i = i} l, drop-of-length-le g {i = i} (omega arith)) (by-test t (λ k. rw k) (λ k. rw k))
 
 -- ── Before decoding ──
 

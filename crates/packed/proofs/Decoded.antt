@@ -25,6 +25,7 @@ use Rattle.profile.proofs.Calls.{taken-done}
 use Rattle.profile.proofs.Verdicts.{Clean, clean-map}
 use Rattle.packed.specs.Proposal.{Proposal, frame-of, asked, before, answer}
 use Rattle.packed.proofs.Exactly.{Begun, begun, Accepted, frame-is}
+use Rattle.rules.proofs.Tests.{by-test}
 
 zero-at : (n i : ℕ) → _≡_ {A = ℕ} (getD (replicate n 0) i 0) 0
 zero-at zero i = refl
@@ -43,19 +44,15 @@ clean-same s offsets z c f g e e′ low low′ =
 -- The answer is the same whatever the scratch held.
 pub answer-alone : (p : Proposal) (f g : List ℕ) → length f ≡ length g → Samples f → Samples g → answer p f ≡ answer p g
 unfolding answer
-answer-alone p f g e low low′ = go (eqb (before p (length f) .number) 0) refl
-  where
-    n : ℕ
-    n = cells (p .size)
-
-    go : (t : Bool) → eqb (before p (length f) .number) 0 ≡ t → answer p f ≡ answer p g
-    go true q =
-        let b = begun p (length f) (eqb-true _ 0 q) in
-        let b′ : Begun p (length g) = rw e at b in
-        let frames = clean-same (p .stream) (p .offsets) (p .size) (b .clean) (take n f) (take n g)
-        (length-take-le n f (b .scratch-enough)) (length-take-le n g (b′ .scratch-enough)) (all-take (λ v. v < 65_536) n low) (all-take (λ v. v < 65_536) n low′) in
-        rw (frame-is p f b, frame-is p g b′, frames, e)
-    go false q = rw (q, ← e, q)
+answer-alone p f g e low low′ =
+    by-test (eqb (before p (length f) .number) 0)
+    (λ q. let n = cells (p .size) in
+    let b = begun p (length f) (eqb-true _ 0 q) in
+    let b′ : Begun p (length g) = rw e at b in
+    let frames = clean-same (p .stream) (p .offsets) (p .size) (b .clean) (take n f) (take n g)
+    (length-take-le n f (b .scratch-enough)) (length-take-le n g (b′ .scratch-enough)) (all-take (λ v. v < 65_536) n low) (all-take (λ v. v < 65_536) n low′) in
+    rw (frame-is p f b, frame-is p g b′, frames, e))
+    (λ q. rw (q, ← e, q))
 
 -- ── What is taken is decoded back ──
 

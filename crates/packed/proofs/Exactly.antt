@@ -16,7 +16,7 @@ use Rattle.rules.specs.V0.{decoded}
 use Rattle.rules.specs.Answer as Plain
 use Rattle.rules.specs.Answer.{done, refused, too-large, short-samples, short-offsets, lent}
 use Rattle.rules.proofs.Cells.{All, nil, more}
-use Rattle.rules.proofs.Tests.{clash, neither}
+use Rattle.rules.proofs.Tests.{clash, neither, both}
 use Rattle.rules.proofs.V0Cells.{decoded-length}
 use Rattle.profile.specs.Profile.{verdict}
 use Rattle.profile.proofs.Verdicts.{Clean, accepted-clean, clean-accepted}
@@ -84,11 +84,7 @@ unfolding same
 same-equal [] [] e = refl
 same-equal [] (b ∷ g) e = absurd (clash e refl)
 same-equal (a ∷ f) [] e = absurd (clash e refl)
-same-equal (a ∷ f) (b ∷ g) e = go (eqb a b) refl (λ q. same-equal f g q) e
-  where
-    go : (t : Bool) → eqb a b ≡ t → (same f g ≡ true → f ≡ g) → t && same f g ≡ true → a ∷ f ≡ b ∷ g
-    go true p rest e = ap₂ (λ x xs. x ∷ xs) (eqb-true a b p) (rest e)
-    go false p rest e = absurd (clash e refl)
+same-equal (a ∷ f) (b ∷ g) e = let q = both (eqb a b) (same f g) e in ap₂ (λ x xs. x ∷ xs) (eqb-true a b (q .0)) (same-equal f g (q .1))
 
 equal-same : (f : List ℕ) → same f f ≡ true
 unfolding same

@@ -26,6 +26,7 @@ use Rattle.packed.specs.Proposal.{Proposal, frame-of, asked, found, befo
 use Rattle.packed.proofs.Exactly.{Accepted, done-accepted, accepted-done}
 use Rattle.packed.proofs.Written.{written-accepted}
 use Rattle.packed.proofs.Decoded.{asked-of, answered-done, samples-back, map-back, clean-done}
+use Rattle.rules.proofs.Tests.{by-test}
 
 -- ── The statements ──
 
@@ -173,9 +174,5 @@ step c = record { found = c .scratch; left = c .left; below = λ b. rw (c .yield
           yields = record { answered = refl; samples = refl; map = refl; scratch = refl };
         }
 
-    go : (t : Bool) → Samples (c .scratch) → Samples (cond t (plain .left .samples) (c .scratch))
-    go true b = left-below plain b
-    go false b = b
-
     kept : Samples (c .scratch) → Samples (scratch-after (c .proposal) (c .scratch))
-    kept b = go (eqb (before (c .proposal) (length (c .scratch)) .number) 0) b
+    kept b = by-test (eqb (before (c .proposal) (length (c .scratch)) .number) 0) (λ e. rw e (left-below plain b)) (λ e. rw e b)

@@ -143,7 +143,7 @@ module _ (s : List ℕ) (z : Size) (row : ℕ) (pick : ℕ → ℕ) (low : (col 
   upward-spot : (n col : ℕ) (st : V0Row) → blocks-fault s z row n col st ≡ 17 → Spot n col (V0.blocks s (row * z .width) (V0.predictor z row) n col st .blocks)
   unfolding blocks-fault V0.blocks
   upward-spot zero col st e = absurd (never 16 (sym e))
-  upward-spot (suc n) col st e = go (eqb fault 0) (λ q. upward-spot n (col + 16) next q) e
+  upward-spot (suc n) col st e = by-test (eqb fault 0) (λ t. further (upward-spot n (col + 16) next (rw t at e))) (λ t. at-once (rw t at e))
     where
       first : ℕ
       first = row * z .width
@@ -163,10 +163,8 @@ module _ (s : List ℕ) (z : Size) (row : ℕ) (pick : ℕ → ℕ) (low : (col 
       rest : List V0.Block
       rest = V0.blocks s first (V0.predictor z row) n (col + 16) next .blocks
 
-      go : (t : Bool) → (blocks-fault s z row n (col + 16) next ≡ 17 → Spot n (col + 16) rest)
-          → cond t (blocks-fault s z row n (col + 16) next) fault ≡ 17 → Spot (suc n) col (here ∷ rest)
-      go true later e =
-          let p = later e in
+      further : Spot n (col + 16) rest → Spot (suc n) col (here ∷ rest)
+      further p =
           let at = p .block-col in
           record {
             block-col = at;
@@ -175,7 +173,9 @@ module _ (s : List ℕ) (z : Size) (row : ℕ) (pick : ℕ → ℕ) (low : (col 
             col-is = omega (arith, p .col-is);
             left = more (block-elsewhere s first (V0.predictor z row) (place-of at) col st (λ l. omega (arith, p .col-is))) (p .left);
           }
-      go false later e =
+
+      at-once : fault ≡ 17 → Spot (suc n) col (here ∷ rest)
+      at-once e =
           let up = upward row h _ e .1 in
           record {
             block-col = col;

@@ -3,7 +3,7 @@
 use Prim.Native.Nat.{ℕ, zero, suc, _+_, _*_, _≤_, _<_, min}
 use mathlib.Core.Bool.{Bool, true, false, cond, not, _&&_}
 use mathlib.Core.Path.{_≡_, refl, sym, ap, ap₂, _∙_}
-use mathlib.Core.Logic.{_≢_}
+use mathlib.Core.Logic.{_≢_, by-cases}
 use mathlib.Core.List.{List, [], _∷_}
 use native.Mathlib.Omega.{arith}
 use lib.Dec.{ltb, leb, eqb}
@@ -178,41 +178,24 @@ module _ (s offsets : List ℕ) (z : Size) where
   pub none-rows : (n row : ℕ) → rows-verdict s offsets z n row .number ≡ 0 → (r : ℕ) → row ≤ r → r < row + n → fault-of r ≡ 0
   unfolding rows-verdict
   none-rows zero row e r l u = absurd (omega arith)
-  none-rows (suc n) row e r l u = go (eqb (fault-of row) 0) refl (λ q m. none-rows n (suc row) q r m (omega arith)) e
-    where
-      go : (t : Bool) → eqb (fault-of row) 0 ≡ t → (rows-verdict s offsets z n (suc row) .number ≡ 0 → suc row ≤ r → fault-of r ≡ 0)
-          → cond t (rows-verdict s offsets z n (suc row)) (fault-at row (fault-of row)) .number ≡ 0 → fault-of r ≡ 0
-      go true q rest e = here (ℕ-discrete r row)
-        where
-          here : Dec (r ≡ row) → fault-of r ≡ 0
-          here (yes p) = rw p (eqb-true (fault-of row) 0 q)
-          here (no p) = rest e (omega arith)
-      go false q rest e = absurd (eqb-false (fault-of row) 0 q e)
+  none-rows (suc n) row e r l u =
+      by-test (eqb (fault-of row) 0)
+      (λ q. by-cases (ℕ-discrete r row) (λ p. rw p (eqb-true (fault-of row) 0 q)) (λ p. none-rows n (suc row) (rw q at e) r (omega arith) (omega arith)))
+      (λ q. absurd (eqb-false (fault-of row) 0 q (rw q at e)))
 
   pub rows-first : (n row : ℕ) → rows-verdict s offsets z n row .number ≢ 0 → First n row (rows-verdict s offsets z n row)
   unfolding rows-verdict
   rows-first zero row h = absurd (h refl)
-  rows-first (suc n) row h = go (eqb (fault-of row) 0) refl (λ q. rows-first n (suc row) q) h
-    where
-      go : (t : Bool) → eqb (fault-of row) 0 ≡ t
-          → (rows-verdict s offsets z n (suc row) .number ≢ 0 → First n (suc row) (rows-verdict s offsets z n (suc row)))
-          → cond t (rows-verdict s offsets z n (suc row)) (fault-at row (fault-of row)) .number ≢ 0
-          → First (suc n) row (cond t (rows-verdict s offsets z n (suc row)) (fault-at row (fault-of row)))
-      go true q rest h =
-          let f = rest h in
-          record {
-            row-from = omega (arith, f .row-from);
-            row-below = omega (arith, f .row-below);
-            before = λ r l u. earlier f r l u (ℕ-discrete r row);
-            here = f .here;
-          }
-        where
-          earlier : First n (suc row) (rows-verdict s offsets z n (suc row)) → (r : ℕ) → row ≤ r → r < rows-verdict s offsets z n (suc row) .row
-              → Dec (r ≡ row) → fault-of r ≡ 0
-          earlier f r l u (yes p) = rw p (eqb-true (fault-of row) 0 q)
-          earlier f r l u (no p) = f .before r (omega arith) u
-      go false q rest h =
-          record { row-from = omega arith; row-below = omega arith; before = λ r l u. absurd (omega arith); here = refl }
+  rows-first (suc n) row h =
+      by-test (eqb (fault-of row) 0)
+      (λ q. rw q (let f = rows-first n (suc row) (rw q at h) in
+      record {
+        row-from = omega (arith, f .row-from);
+        row-below = omega (arith, f .row-below);
+        before = λ r l u. by-cases (ℕ-discrete r row) (λ p. rw p (eqb-true (fault-of row) 0 q)) (λ p. f .before r (omega arith) u);
+        here = f .here;
+      }))
+      (λ q. rw q (record { row-from = omega arith; row-below = omega arith; before = λ r l u. absurd (omega arith); here = refl }))
 
 -- ── Missing words ──
 

@@ -20,16 +20,12 @@ use Rattle.writers.proofs.Decoded.{OfV0, again, done-passed, answered-done, sam
 use Rattle.razvolk.proofs.Isolation.{Export, exported}
 use Rattle.razvolk.proofs.writer.razvolk_write_v0.Kinds as writer-kinds
 use Rattle.razvolk.proofs.writer.razvolk_write_v0.Reads as writer-reads
+use Rattle.rules.proofs.Tests.{by-test}
 
 -- A decoder that answers 0 was refused by no test.
 not-refused : (a : Ask) (l : Lent) → answer a l .number ≡ 0 → refusal a l ≡ 0
 unfolding answer
-not-refused a l = go (eqb (refusal a l) 0) refl
-  where
-    go : (t : Bool) → eqb (refusal a l) 0 ≡ t
-        → cond {A = Answer} t (stream-answer (a .decoder) (a .stream) (a .offsets) (a .size)) (refused (refusal a l)) .number ≡ 0 → refusal a l ≡ 0
-    go true e q = eqb-true (refusal a l) 0 e
-    go false e q = q
+not-refused a l q = by-test (eqb (refusal a l) 0) (λ e. eqb-true (refusal a l) 0 e) (λ e. rw e at q)
 
 -- A call of the writer that has returned: its width and height, and the samples, the stream and the offsets as it found them.
 abbrev pub Writes : Type 0

@@ -46,16 +46,11 @@ counted-one n false l = omega arith
 pub read-counts : (s : List ℕ) (b : Bits) (n : ℕ) → b .filler ≤ most-filler
     → read s b n .bits .filler ≡ min (b .filler + missing-of s (fetches b n)) most-filler
 unfolding fetches missing-of
-read-counts s b n l = go (leb (min n 32) (held b)) refl
-  where
-    go : (t : Bool) → leb (min n 32) (held b) ≡ t → read s b n .bits .filler ≡ min (b .filler + missing-of s (cond t [] (b .pos ∷ []))) most-filler
-    go true e = rw (read-held s b n (leb-true _ _ e)) (omega arith)
-    go false e =
-        rw (read-next s b n (leb-false _ _ e), missing-is s (b .pos)) (counted-one (b .filler) (past-end s (b .pos)) l ∙ one (past-end s (b .pos)))
-      where
-        one : (t : Bool) → min (b .filler + cond t 1 0) most-filler ≡ min (b .filler + (cond t 1 0 + 0)) most-filler
-        one true = refl
-        one false = refl
+read-counts s b n l =
+    by-test (leb (min n 32) (held b))
+    (λ e. rw (read-held s b n (leb-true _ _ e), e) (omega arith))
+    (λ e. let one : cond (past-end s (b .pos)) 1 0 ≡ cond (past-end s (b .pos)) 1 0 + 0 = omega arith in
+    rw (read-next s b n (leb-false _ _ e), missing-is s (b .pos), e) (counted-one (b .filler) (past-end s (b .pos)) l ∙ ap (λ (k : ℕ). min (b .filler + k) most-filler) one))
 
 -- ── A run ──
 

@@ -188,11 +188,7 @@ v2-apply-low : {bs : List V2.Block} → All V2Clear bs → {f : List ℕ} → Al
 unfolding V2.apply V2.write V2.block-cells
 v2-apply-low nil h = h
 v2-apply-low (more {a = b} e es) {f} h =
-    v2-apply-low es (go (b .filler) e (sets-low 16 0 (b .place) (λ i. V2.base-cell v2-marks f (b .base i)) (λ i. base-low h (b .base i)) h))
-  where
-    go : (t : Bool) → t ≡ false → {g : List ℕ} → All Low g → All Low (cond t (change-cells (v2-marks .filled) 0 16 (b .place) g) g)
-    go true q l = absurd (clash refl q)
-    go false q l = l
+    v2-apply-low es (rw e (sets-low 16 0 (b .place) (λ i. V2.base-cell v2-marks f (b .base i)) (λ i. base-low h (b .base i)) h))
 
 -- Accepted V2 has no byte with 2 ..
 pub v2-no-filler : (s : List ℕ) (z : Size) → V2.read-frame s z .answer .number ≡ 0 → All Low (v2-map s z)

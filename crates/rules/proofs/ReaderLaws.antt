@@ -254,16 +254,20 @@ module _ (s : List ℕ) (st : Bits) (a b : ℕ) (fit : a + b ≤ 32) where
 
   -- Where a word is fetched, it must be one of 32 bits.
   pub read-split-first : (held st < a + b → fetched s (st .pos) .value < 2 ^ 32) → read s st (a + b) .value / 2 ^ b ≡ read s st a .value
-  read-split-first w = go (leb (a + b) (held st)) refl (leb a (held st)) refl
+  read-split-first w =
+      by-test (leb (a + b) (held st))
+      (λ e. first-held (leb-true (a + b) (held st) e))
+      (λ e. by-test (leb a (held st))
+      (λ f. first-across (leb-true a (held st) f) (leb-false (a + b) (held st) e))
+      (λ f. first-next (leb-false a (held st) f)))
     where
-      go : (t : Bool) → leb (a + b) (held st) ≡ t → (u : Bool) → leb a (held st) ≡ u → read s st (a + b) .value / 2 ^ b ≡ read s st a .value
-      go true e u f =
-          let h = leb-true (a + b) (held st) e in
+      first-held : a + b ≤ held st → read s st (a + b) .value / 2 ^ b ≡ read s st a .value
+      first-held h =
           let c : held st - (a + b) + b ≡ held st - a = omega arith in
           rw (held-of s st (a + b) fit h, held-of s st a (omega arith) (omega arith), ← c) (split-first (st .word) (held st - (a + b)) a b)
-      go false e true f =
-          let h = leb-false (a + b) (held st) e in
-          let l = leb-true a (held st) f in
+
+      first-across : a ≤ held st → held st < a + b → read s st (a + b) .value / 2 ^ b ≡ read s st a .value
+      first-across l h =
           let c : held st + 32 - (a + b) + b ≡ 32 + (held st - a) = omega arith in
           rw (
             next-of s st (a + b) fit h,
@@ -272,8 +276,9 @@ module _ (s : List ℕ) (st : Bits) (a b : ℕ) (fit : a + b ≤ 32) where
             c,
             in-first (st .word) (fetched s (st .pos) .value) (held st - a) (w h),
           )
-      go false e false f =
-          let h = leb-false a (held st) f in
+
+      first-next : held st < a → read s st (a + b) .value / 2 ^ b ≡ read s st a .value
+      first-next h =
           let c : held st + 32 - (a + b) + b ≡ held st + 32 - a = omega arith in
           rw (next-of s st (a + b) fit (omega arith), next-of s st a (omega arith) h, ← c)
           (split-first (st .word * 2 ^ 32 + fetched s (st .pos) .value) (held st + 32 - (a + b)) a b)

@@ -263,27 +263,29 @@ stream-ending direct s offsets z = accepted refl
 stream-ending two-phase s offsets z = accepted refl
 stream-ending v2 s offsets z = v2-ending s z
 
+-- It is at most 8, and none of 1 to 4.
+ending-most : {height : ℕ} {x : Answer} → Ending height x → x .number ≤ 8
+ending-most (accepted e) = rw e (lit≤ tt)
+ending-most (stopped l m h) = m
+
+ending-late : {height : ℕ} {x : Answer} → Ending height x → 1 ≤ x .number → 5 ≤ x .number
+ending-late (accepted e) o = let q = rw e at o in absurd (omega arith)
+ending-late (stopped l m h) o = l
+
 module _ (a : Ask) (l : Lent) where
+  ending : Ending (a .size .height) (stream-answer (a .decoder) (a .stream) (a .offsets) (a .size))
+  ending = stream-ending (a .decoder) (a .stream) (a .offsets) (a .size)
+
   -- Every call is answered with done or one of 1 to 8.
   pub answer-most : answer a l .number ≤ 8
   unfolding answer
-  answer-most = go (eqb (refusal a l) 0) (stream-ending (a .decoder) (a .stream) (a .offsets) (a .size))
-    where
-      go : (t : Bool) {x : Answer} → Ending (a .size .height) x → cond t x (refused (refusal a l)) .number ≤ 8
-      go true (accepted e) = rw e (lit≤ tt)
-      go true (stopped l m h) = m
-      go false e = omega (arith, refusal-least a l .most)
+  answer-most = by-test (eqb (refusal a l) 0) (λ t. rw t (ending-most ending)) (λ t. rw t (omega (arith, refusal-least a l .most)))
 
   -- An answer of 1 to 4 is the refusal, with row 0 and no missing word.
   pub answer-early : 1 ≤ answer a l .number → answer a l .number ≤ 4 → answer a l ≡ refused (refusal a l)
   unfolding answer
-  answer-early = go (eqb (refusal a l) 0) (stream-ending (a .decoder) (a .stream) (a .offsets) (a .size))
-    where
-      go : (t : Bool) {x : Answer} → Ending (a .size .height) x
-          → (let y = cond t x (refused (refusal a l)) in 1 ≤ y .number → y .number ≤ 4 → y ≡ refused (refusal a l))
-      go true (accepted e) o f = absurd (let q = rw e at o in omega arith)
-      go true (stopped l m h) o f = absurd (omega arith)
-      go false e o f = refl
+  answer-early o f =
+      by-test (eqb (refusal a l) 0) (λ t. let late = ending-late ending (rw t at o) in let early = rw t at f in absurd (omega arith)) (λ t. rw t)
 
 -- ── Missing words ──
 

@@ -46,16 +46,10 @@ module _ (t : ℕ) where
   write-kept : (b : Block) {n : ℕ} {m a m′ a′ : List ℕ} → Kept n m a m′ a′
       → Kept n (write v2-marks b m) (write (sample-kind t) b a) (write v2-marks b m′) (write (sample-kind t) b a′)
   unfolding write block-cells
-  write-kept b {n} k =
-      go (b .filler)
-      (sets-kept 16 0 (b .place) _ _ _ _
-      (λ j e. let q = base-final k (b .base j) e in (q .0, ap (sample t (b .scale) (getD (b .differences) j (pos 0))) (q .1))) k)
-    where
-      go : (f : Bool) {x y x′ y′ : List ℕ} → Kept n x y x′ y′
-          → Kept n (cond f (change-cells with-filler 0 16 (b .place) x) x) (cond f (change-cells (λ v. v) 0 16 (b .place) y) y)
-          (cond f (change-cells with-filler 0 16 (b .place) x′) x′) (cond f (change-cells (λ v. v) 0 16 (b .place) y′) y′)
-      go true q = kept-filled q 16 (b .place)
-      go false q = q
+  write-kept b k =
+      let q = sets-kept 16 0 (b .place) _ _ _ _
+      (λ j e. let q = base-final k (b .base j) e in (q .0, ap (sample t (b .scale) (getD (b .differences) j (pos 0))) (q .1))) k in
+      by-test (b .filler) (λ e. rw e (kept-filled q 16 (b .place))) (λ e. rw e q)
 
 -- ── What blocks leave alone ──
 

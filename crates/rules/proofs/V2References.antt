@@ -26,14 +26,12 @@ use Rattle.rules.proofs.V2Places.{block-inside, further, reference-is, 
 -- A reference at position p, with the place that averaging reads, is at most row times width + 3.
 pub highest-reference : (w row col motion i p : ℕ) → 2 ≤ row → i < 16 → col + 16 ≤ w → reference w row col motion i ≡ pos p
     → p + further motion ≤ row * w + 3
-highest-reference w row col motion i p two l fits e = go (ltb r 5) refl (sym (reference-is w row col motion i) ∙ e)
-  where
-    r : ℕ
-    r = reference-5 w row col motion i
-
-    go : (t : Bool) → ltb r 5 ≡ t → cond t (negsuc (5 - suc r)) (pos (r - 5)) ≡ pos p → p + further motion ≤ row * w + 3
-    go true h q = let z : _≡_ {A = ℕ} 0 1 = cc in absurd (omega arith)
-    go false h q = let z : r - 5 ≡ p = cc in omega (arith, ltb-false r 5 h, reference-row w row col motion i two l fits)
+highest-reference w row col motion i p two l fits e =
+    let r = reference-5 w row col motion i in
+    let at : cond (ltb r 5) (negsuc (5 - suc r)) (pos (r - 5)) ≡ pos p = sym (reference-is w row col motion i) ∙ e in
+    by-test (ltb r 5)
+    (λ h. let q : negsuc (5 - suc r) ≡ pos p = rw h at at in let z : _≡_ {A = ℕ} 0 1 = cc in absurd (omega arith))
+    (λ h. let q : pos (r - 5) ≡ pos p = rw h at at in let z : r - 5 ≡ p = cc in omega (arith, ltb-false r 5 h, reference-row w row col motion i two l fits))
 
 -- ── The lowest ──
 

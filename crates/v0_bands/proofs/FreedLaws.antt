@@ -3,7 +3,7 @@
 use Prim.Native.Nat.{ℕ, zero, suc, _+_, _-_, _*_, _/_, _%_, _≤_, _<_}
 use mathlib.Core.Bool.{Bool, true, false, cond}
 use mathlib.Core.Path.{_≡_, refl, sym, ap, _∙_}
-use mathlib.Core.Logic.{_≢_}
+use mathlib.Core.Logic.{_≢_, by-cases}
 use mathlib.Core.List.{List}
 use native.Mathlib.Omega.{arith}
 use native.Mathlib.Nat.{mul-assoc, mul-le-mul-right, suc-mul, zero-mul, le-div-iff-mul-le}
@@ -17,11 +17,12 @@ use Rattle.rules.specs.Phases.{sample-stage}
 use Rattle.rules.proofs.V0Cells.{exchange-length}
 use Rattle.bands.specs.Bands.{Cut, late-rows, fits, band-start, blocks-per-band, step-count, step-band, step-block, after, in-turn, none-done, good, predict-band, do-step, do-steps}
 use Rattle.bands.proofs.Finished.{still}
-use Rattle.bands.proofs.Counters.{both, zeros, Stands, stands, done-after, Turns, end, next, turns, good-full}
+use Rattle.bands.proofs.Counters.{zeros, Stands, stands, done-after, Turns, end, next, turns, good-full}
 use Rattle.bands.proofs.AnySequence.{same-cells, Band-ready, Band-left, band-left, Fitting, fitting, start-zero, start-last, start-up, Bands-done, step-ready, step-done, none-done-yet, reach, good-done}
 use Rattle.v0_bands.specs.Freed.{exchange-part, freed-rows, freed-columns, exchange-freed, steps-freed}
 use Rattle.v0_bands.proofs.PartLaws.{Partner, near, at, one-row, one-column, Exchanged, part-exchanged, whole-exchanged}
 use Rattle.v0_bands.proofs.PartLaws as Part
+use Rattle.rules.proofs.Tests.{by-test, both}
 
 -- ── What is freed ──
 
@@ -44,21 +45,15 @@ module _ (c : Cut) (fit : Fitting c) where
   rows-last = rw (eq-eqb (c .bands) (c .bands) refl)
 
   pub rows-up : (k l : ℕ) → k ≤ l → l ≤ c .bands → freed-rows c k ≤ freed-rows c l
-  rows-up k l q m = go (ℕ-discrete k (c .bands)) (ℕ-discrete l (c .bands))
-    where
-      go : Dec (k ≡ c .bands) → Dec (l ≡ c .bands) → freed-rows c k ≤ freed-rows c l
-      go (yes e) d = let z : k ≡ l = omega arith in rw z (omega arith)
-      go (no e) (yes e′) =
-          let u = start-up c fit k (c .bands) (omega arith) in
-          rw (e′, rows-is k (omega arith), rows-last) (omega (arith, start-last c fit))
-      go (no e) (no e′) = let u = start-up c fit k l q in rw (rows-is k (omega arith), rows-is l (omega arith)) (omega arith)
+  rows-up k l q m =
+      by-cases (ℕ-discrete k (c .bands))
+      (λ e. let z : k ≡ l = omega arith in rw z (omega arith))
+      (λ e. by-cases (ℕ-discrete l (c .bands))
+      (λ f. let u = start-up c fit k (c .bands) (omega arith) in rw (f, rows-is k (omega arith), rows-last) (omega (arith, start-last c fit)))
+      (λ f. let u = start-up c fit k l q in rw (rows-is k (omega arith), rows-is l (omega arith)) (omega arith)))
 
   pub rows-even : (k : ℕ) → k ≤ c .bands → freed-rows c k % 2 ≡ 0
-  rows-even k l = go (ℕ-discrete k (c .bands))
-    where
-      go : Dec (k ≡ c .bands) → freed-rows c k % 2 ≡ 0
-      go (yes e) = rw (e, rows-last) (omega arith)
-      go (no e) = rw (rows-is k (omega arith)) (omega arith)
+  rows-even k l = by-cases (ℕ-discrete k (c .bands)) (λ e. rw (e, rows-last) (omega arith)) (λ e. rw (rows-is k (omega arith)) (omega arith))
 
   pub rows-most : (k : ℕ) → k ≤ c .bands → freed-rows c k ≤ h / 2 * 2
   rows-most k l = let z = rows-up k (c .bands) l (omega arith) in omega (arith, rows-last)
@@ -70,11 +65,8 @@ module _ (c : Cut) (fit : Fitting c) where
     to : r < freed-rows c (suc k)
 
   frees-up : (k k′ r : ℕ) → Frees k′ r → freed-rows c k ≤ r → k ≤ c .bands → k ≤ k′
-  frees-up k k′ r p l lk = go (decLt k′ k)
-    where
-      go : Dec (k′ < k) → k ≤ k′
-      go (yes q) = let z = rows-up (suc k′) k q lk in let y = p .to in absurd (omega arith)
-      go (no q) = omega arith
+  frees-up k k′ r p l lk =
+      by-cases (decLt k′ k) (λ q. let z = rows-up (suc k′) k q lk in let y = p .to in absurd (omega arith)) (λ q. omega arith)
 
   frees-one : (k k′ r : ℕ) → Frees k r → Frees k′ r → k′ ≡ k
   frees-one k k′ r p p′ =
@@ -97,11 +89,8 @@ module _ (c : Cut) (fit : Fitting c) where
   freeing zero r l q =
       let z = fit .some-band in
       absurd (omega (arith, rows-is 0 (omega arith), start-zero c fit))
-  freeing (suc n) r l q = go (decLt r (freed-rows c n)) (λ m. freeing n r (omega arith) m)
-    where
-      go : Dec (r < freed-rows c n) → (r < freed-rows c n → (k : ℕ) × Frees k r) → (k : ℕ) × Frees k r
-      go (yes m) rest = rest m
-      go (no m) rest = (n, record { low = l; from = omega arith; to = q })
+  freeing (suc n) r l q =
+      by-cases (decLt r (freed-rows c n)) (λ m. freeing n r (omega arith) m) (λ m. (n, record { low = l; from = omega arith; to = q }))
 
   multiple : (j : ℕ) → j * b % 2 ≡ 0
   multiple j =
@@ -118,38 +107,22 @@ module _ (c : Cut) (fit : Fitting c) where
   unfolding freed-columns
   columns-end j l = rw (le-ltb (j * b) w l)
 
-  pub columns-up : (i j : ℕ) → i ≤ j → freed-columns c i ≤ freed-columns c j
-  columns-up i j l = go (decLt (i * b) w) (decLt (j * b) w)
-    where
-      m : i * b ≤ j * b
-      m = mul-le-mul-right b l
+  pub columns-most : (j : ℕ) → freed-columns c j ≤ w / 2 * 2
+  columns-most j = by-cases (decLt (j * b) w) (λ p. rw (columns-is j p) (omega arith)) (λ p. rw (columns-end j (omega arith)) (omega arith))
 
-      go : Dec (i * b < w) → Dec (j * b < w) → freed-columns c i ≤ freed-columns c j
-      go (yes p) (yes q) = rw (columns-is i p, columns-is j q) (omega (arith, m))
-      go (yes p) (no q) = rw (columns-is i p, columns-end j (omega arith)) (omega arith)
-      go (no p) (yes q) = absurd (omega (arith, m))
-      go (no p) (no q) = rw (columns-end i (omega arith), columns-end j (omega arith)) (omega arith)
+  pub columns-up : (i j : ℕ) → i ≤ j → freed-columns c i ≤ freed-columns c j
+  columns-up i j l =
+      let m : i * b ≤ j * b = mul-le-mul-right b l in
+      by-cases (decLt (j * b) w)
+      (λ q. let p : i * b < w = omega arith in rw (columns-is i p, columns-is j q) (omega arith))
+      (λ q. rw (columns-end j (omega arith)) (columns-most i))
 
   pub columns-even : (j : ℕ) → freed-columns c j % 2 ≡ 0
-  columns-even j = go (decLt (j * b) w)
-    where
-      go : Dec (j * b < w) → freed-columns c j % 2 ≡ 0
-      go (yes p) = rw (columns-is j p) (omega (arith, multiple j))
-      go (no p) = rw (columns-end j (omega arith)) (omega arith)
-
-  pub columns-most : (j : ℕ) → freed-columns c j ≤ w / 2 * 2
-  columns-most j = go (decLt (j * b) w)
-    where
-      go : Dec (j * b < w) → freed-columns c j ≤ w / 2 * 2
-      go (yes p) = rw (columns-is j p) (omega arith)
-      go (no p) = rw (columns-end j (omega arith)) (omega arith)
+  columns-even j = by-cases (decLt (j * b) w) (λ p. rw (columns-is j p) (omega (arith, multiple j))) (λ p. rw (columns-end j (omega arith)) (omega arith))
 
   columns-zero : freed-columns c 0 ≡ 0
-  columns-zero = go (decLt (0 * b) w)
-    where
-      go : Dec (0 * b < w) → freed-columns c 0 ≡ 0
-      go (yes p) = columns-is 0 p ∙ omega (arith, zero-mul b)
-      go (no p) = columns-end 0 (omega arith) ∙ omega (arith, zero-mul b)
+  columns-zero =
+      by-cases (decLt (0 * b) w) (λ p. columns-is 0 p ∙ omega (arith, zero-mul b)) (λ p. columns-end 0 (omega arith) ∙ omega (arith, zero-mul b))
 
   -- Where there are blocks there are late rows.
   pub some-late : 0 < blocks-per-band c → late-rows (c .size) ≢ 0
@@ -159,14 +132,12 @@ module _ (c : Cut) (fit : Fitting c) where
   -- A block begins within the row.
   pub begins : (j : ℕ) → j < blocks-per-band c → j * b < w
   unfolding blocks-per-band
-  begins j l = go (eqb (late-rows (c .size)) 0) l
-    where
-      go : (t : Bool) → j < cond t 0 ((w + (b - 1)) / b) → j * b < w
-      go true q = absurd (omega arith)
-      go false q =
-          let z : suc j * b ≤ w + (b - 1) = le-div-iff-mul-le (fit .some-column) .0 q in
-          let y = fit .some-column in
-          omega (arith, suc-mul j b)
+  begins j l =
+      by-test (eqb (late-rows (c .size)) 0)
+      (λ e. let q = rw e at l in absurd (omega arith))
+      (λ e. let z : suc j * b ≤ w + (b - 1) = le-div-iff-mul-le (fit .some-column) .0 (rw e at l) in
+      let y = fit .some-column in
+      omega (arith, suc-mul j b))
 
   -- ── The frames ──
 
@@ -407,7 +378,7 @@ steps-exchanged c e late ds bytes f len steps ok =
     plain-room = good-done sample-stage c fit ds f bytes steps ok len .room
 
     m : Mirrors c fit (done-after c (none-done c) steps) v (steps-freed c ds steps f)
-    m = steps-mirror c fit ds f bytes (turns c (none-done c) steps (both (eqb (length steps) (step-count c)) (in-turn c (none-done c) steps) ok .two)) f f
+    m = steps-mirror c fit ds f bytes (turns c (none-done c) steps (both (eqb (length steps) (step-count c)) (in-turn c (none-done c) steps) ok .1)) f f
         (none-done-yet sample-stage c fit ds f bytes len) (mirrors-begun c fit f len)
 
     x : Exchanged (c .size .width) 0 (c .size .height / 2) 0 (c .size .width / 2) v (exchange sample-kind (c .size) v)

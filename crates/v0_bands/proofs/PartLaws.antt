@@ -1,7 +1,7 @@
 -- The exchange of a part of a frame, cell by cell: inside it each cell comes from its partner's place, and all else stays.
 use Prim.Native.Nat.{ℕ, zero, suc, _+_, _*_, _/_, _%_, _≤_, _<_}
 use mathlib.Core.Path.{_≡_, refl, ap, _∙_}
-use mathlib.Core.Logic.{_≢_}
+use mathlib.Core.Logic.{_≢_, by-cases}
 use mathlib.Core.List.{List}
 use native.Mathlib.Omega.{arith}
 use native.Mathlib.Nat.{mul-le-mul-right, suc-mul}
@@ -40,11 +40,7 @@ module _ (w : ℕ) where
 
   -- A place has one row and one column.
   pub one-row : (r s d e : ℕ) → d < w → e < w → r * w + d ≡ s * w + e → r ≡ s
-  one-row r s d e ld le q = go (ℕ-discrete r s)
-    where
-      go : Dec (r ≡ s) → r ≡ s
-      go (yes z) = z
-      go (no z) = absurd (apart w r s d e z ld le q)
+  one-row r s d e ld le q = by-cases (ℕ-discrete r s) (λ z. z) (λ z. absurd (apart w r s d e z ld le q))
 
   pub one-column : (r s d e : ℕ) → d < w → e < w → r * w + d ≡ s * w + e → d ≡ e
   one-column r s d e ld le q = let z : r * w ≡ s * w = ap (λ x. x * w) (one-row r s d e ld le q) in omega arith

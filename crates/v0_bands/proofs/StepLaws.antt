@@ -14,11 +14,12 @@ use Rattle.rules.specs.Phases.{Stage, sample-stage, predict-blocks}
 use Rattle.bands.specs.Bands.{Cut, cut, sized, late-rows, blocks-per-band, step-count, in-turn, none-done, good, block-directions, predict-band, do-step}
 use Rattle.bands.proofs.AnySequence.{Fitting, fitting, start-up, start-last}
 use Rattle.bands.proofs.CheckLaws.{bands-most}
-use Rattle.bands.proofs.Counters.{both, some-block, stands, Turns, end, next, turns}
+use Rattle.bands.proofs.Counters.{some-block, stands, Turns, end, next, turns}
 use Rattle.v0_two_phase.specs.Lent.{LateRow}
 use Rattle.v0_bands.specs.Freed.{exchange-freed, steps-freed}
 use Rattle.v0_bands.specs.Lent.{BandLent, StepLent, StepsLent}
 use Rattle.v0_bands.proofs.FreedLaws.{some-late, begins}
+use Rattle.rules.proofs.Tests.{both}
 
 -- ── A block of a band ──
 
@@ -121,7 +122,7 @@ module _ {w h k b : ℕ} {steps f dirs : List ℕ} (p : StepsLent w h k b steps 
   unfolding good
   step-low =
       let e = both (eqb (length steps) (step-count (cut (sized w h) k b))) (in-turn (cut (sized w h) k b) (none-done (cut (sized w h) k b)) steps) (p .list-good) in
-      turns-low (cut (sized w h) k b) (turns (cut (sized w h) k b) (none-done (cut (sized w h) k b)) steps (e .two)) i l
+      turns-low (cut (sized w h) k b) (turns (cut (sized w h) k b) (none-done (cut (sized w h) k b)) steps (e .1)) i l
 
   fit : Fitting (cut (sized w h) k b)
   fit = fitting (cut (sized w h) k b) (p .cut-fits)

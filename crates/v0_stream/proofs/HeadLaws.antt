@@ -25,6 +25,7 @@ use Rattle.rules.specs.declared.reader.Four.{Four}
 use Rattle.rules.specs.declared.v0.V0Row.{V0Row}
 use Rattle.rules.specs.declared.v0.V0Length.{V0Length}
 use Rattle.v0_stream.specs.Lengths.{stepped, Below, Within, furthest}
+use Rattle.rules.proofs.Tests.{by-test}
 
 -- ── One length ──
 
@@ -97,14 +98,8 @@ stepped-near op l near =
 
 length-within : (s : List ℕ) (op : ℕ) (l : ℤ) (b : Bits) {n : ℕ} → 15 ≤ n → mag l ≤ n → mag (operated s op l b .length) ≤ suc n
 unfolding operated stepped
-length-within s op l b {n} h near = go (eqb op 3)
-  where
-    g : Got
-    g = read s b 4
-
-    go : (t : Bool) → mag (cond {A = V0Length} t (record { length = pos (g .value); bits = g .bits }) (record { length = stepped op l; bits = b }) .length) ≤ suc n
-    go true = omega (arith, read-below s b 4)
-    go false = stepped-near op l near
+length-within s op l b h near =
+    by-test (eqb op 3) (λ e. rw e (omega (arith, read-below s b 4))) (λ e. rw e (stepped-near op l near))
 
 -- ── Four of them ──
 

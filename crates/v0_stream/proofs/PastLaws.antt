@@ -20,6 +20,7 @@ use Rattle.v0_stream.specs.Block.{whole-block}
 use Rattle.v0_stream.specs.PastEnd.{PastEnd, ones-after, block-of-ones}
 use Rattle.v0_stream.proofs.HeadLaws.{four-of}
 use Rattle.v0_stream.proofs.BlockLaws.{Reading, reading-begun, reading-four, read-all, whole-read}
+use Rattle.rules.proofs.Tests.{by-test}
 
 -- ── One read ──
 
@@ -99,7 +100,7 @@ module _ (s : List ℕ) (b : Bits) (x : PastEnd s b) where
 
   pub read-ones : (k n : ℕ) → n ≤ 32 → k + n ≤ 265 → read s (ones-after b k) n ≡ record { value = 2 ^ n - 1; bits = ones-after b (k + n) }
   unfolding ones-after counted
-  read-ones k n few near = go (leb n count) refl
+  read-ones k n few near = by-test (leb n count) (λ t. by-held (leb-true n count t)) (λ t. by-next (leb-false n count t))
     where
       words : ℕ
       words = (k - b .count + 31) / 32
@@ -122,23 +123,21 @@ module _ (s : List ℕ) (b : Bits) (x : PastEnd s b) where
       missing : fetched s (b .pos + 4 * words) ≡ record { value = 0xffff_ffff; missing = true }
       missing = let h = x .past in fetched-missing s (b .pos + 4 * words) (omega arith)
 
-      go : (t : Bool) → leb n count ≡ t → read s state n ≡ record { value = 2 ^ n - 1; bits = ones-after b (k + n) }
-      go true t =
-          let h : n ≤ count = leb-true n count t in
+      by-held : n ≤ count → read s state n ≡ record { value = 2 ^ n - 1; bits = ones-after b (k + n) }
+      by-held h =
           let e = words-enough (b .count) k in
           let w : (k + n - b .count + 31) / 32 ≡ words = same-words (b .count) k n (x .few) (omega arith) in
           let c : count - n ≡ b .count + 32 * words - (k + n) = omega arith in
           rw (read-held s state n (omega (arith, holds)), cap, holds, cut-32 n (count - n) (omega (arith, less)), w, c)
-      go false t = by-next (leb-false n count t)
-        where
-          by-next : count < n → read s state n ≡ record { value = 2 ^ n - 1; bits = ones-after b (k + n) }
-          by-next h =
-              let fetches : held state < min n 32 = rw (holds, cap) h in
-              let w : (k + n - b .count + 31) / 32 ≡ words + 1 = next-word (b .count) k n (x .few) few (omega (arith, words-enough (b .count) k)) in
-              let c : count + 32 - n ≡ b .count + 32 * (words + 1) - (k + n) = count-next (b .count) k n words (words-enough (b .count) k) in
-              let p : (b .pos + 4 * words + 4) % 2 ^ 64 ≡ b .pos + 4 * (words + 1) = place-next (b .pos) words (x .far) (rw w at (nine-words (b .count) (k + n) near)) in
-              let m : min (min (b .filler + words) most-filler + 1) most-filler ≡ min (b .filler + (words + 1)) most-filler = one-more (b .filler) words most-filler in
-              rw (read-next s state n fetches, cap, holds, missing, cut-64 n (count + 32 - n) (cut-fits n count few less), w, c, p, m)
+
+      by-next : count < n → read s state n ≡ record { value = 2 ^ n - 1; bits = ones-after b (k + n) }
+      by-next h =
+          let fetches : held state < min n 32 = rw (holds, cap) h in
+          let w : (k + n - b .count + 31) / 32 ≡ words + 1 = next-word (b .count) k n (x .few) few (omega (arith, words-enough (b .count) k)) in
+          let c : count + 32 - n ≡ b .count + 32 * (words + 1) - (k + n) = count-next (b .count) k n words (words-enough (b .count) k) in
+          let p : (b .pos + 4 * words + 4) % 2 ^ 64 ≡ b .pos + 4 * (words + 1) = place-next (b .pos) words (x .far) (rw w at (nine-words (b .count) (k + n) near)) in
+          let m : min (min (b .filler + words) most-filler + 1) most-filler ≡ min (b .filler + (words + 1)) most-filler = one-more (b .filler) words most-filler in
+          rw (read-next s state n fetches, cap, holds, missing, cut-64 n (count + 32 - n) (cut-fits n count few less), w, c, p, m)
 
   -- ── A block ──
 

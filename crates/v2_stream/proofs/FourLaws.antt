@@ -14,7 +14,7 @@ use Rattle.rules.specs.Reader.{signed, read-signed}
 use Rattle.rules.specs.V2.{position, differences-from}
 use Rattle.rules.specs.declared.reader.Bits.{Bits}
 use Rattle.rules.proofs.ReaderLaws.{read-signed-is}
-use Rattle.rules.proofs.Tests.{both}
+use Rattle.rules.proofs.Tests.{both, by-test}
 use Rattle.window.specs.Window.{bits-from, state-at, Three, Window, Stands}
 use Rattle.window.proofs.WindowLaws.{fields-top, read-at, three-at}
 use Rattle.v2_stream.specs.Four.{FourAt, Short, short}
@@ -114,11 +114,7 @@ every-other row j i k l = go (eqb (row % 2) 0) (j / 2) (j % 2) (omega arith) (om
 
 pub first-below : (row j : ℕ) → j < 4 → position row (4 * j) + 6 < 16
 unfolding position
-first-below row j h = go (eqb (row % 2) 0)
-  where
-    go : (t : Bool) → cond t (2 * (4 * j % 8) + 4 * j / 8) (2 * (4 * j % 8) + 1 - 4 * j / 8) + 6 < 16
-    go true = omega arith
-    go false = omega arith
+first-below row j h = by-test (eqb (row % 2) 0) (λ e. rw e (omega arith)) (λ e. rw e (omega arith))
 
 -- The loop over four windows, before length number j: the differences from number 4 j on, by the state that stands before bit q,
 -- come to what all sixteen come to.

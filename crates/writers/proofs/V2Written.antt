@@ -77,21 +77,17 @@ module _ (row : ℕ) (ls : List ℕ) (d : ℕ → ℕ) (P : ℕ → ℤ → Type
   unfolding placed
   placed-have zero k l vs i q unwritten = unwritten (λ j a b. absurd (omega arith))
   placed-have (suc n) k l vs i q unwritten =
-      placed-have n (suc k) (omega arith) (set vs p v) i (rw (length-set vs p v) q) (λ none. go (ℕ-discrete i p) none)
+      placed-have n (suc k) (omega arith) (set vs p v) i (rw (length-set vs p v) q)
+      (λ none. by-cases (ℕ-discrete i p)
+      (λ e. subst (λ x. P x (getD (set vs p v) x (pos 0))) (sym e) (rw (getD-set-same vs p v (pos 0) (rw (← e) q)) (own k (omega arith))))
+      (λ e. rw (getD-set-other vs p i v (pos 0) e)
+      (unwritten (λ j a b. by-cases (ℕ-discrete j k) (λ r. rw r (λ x. e (sym x))) (λ r. none j (omega arith) (omega arith))))))
     where
       p : ℕ
       p = position row k
 
       v : ℤ
       v = signed (getD ls (k / 4) 0) (d k % 2 ^ getD ls (k / 4) 0)
-
-      go : Dec (i ≡ p) → ((j : ℕ) → suc k ≤ j → j < suc k + n → position row j ≢ i) → P i (getD (set vs p v) i (pos 0))
-      go (yes e) none = subst (λ x. P x (getD (set vs p v) x (pos 0))) (sym e) (rw (getD-set-same vs p v (pos 0) (rw (← e) q)) (own k (omega arith)))
-      go (no e) none = rw (getD-set-other vs p i v (pos 0) e) (unwritten (λ j a b. at j a b (ℕ-discrete j k)))
-        where
-          at : (j : ℕ) → k ≤ j → j < k + suc n → Dec (j ≡ k) → position row j ≢ i
-          at j a b (yes r) = rw r (λ x. e (sym x))
-          at j a b (no r) = none j (omega arith) (omega arith)
 
 -- Every position of a block is some difference's.
 positions-all : (row i : ℕ) → i < 16 → ((j : ℕ) → 0 ≤ j → j < 16 → position row j ≢ i) → ⊥
@@ -147,11 +143,7 @@ module _ (w h : ℕ) (g : List ℕ) (small : All (λ a. a < 16_384) g) (row : �
 
   base-small : (col i : ℕ) → base-of w g row col i < 16_384
   unfolding base-of
-  base-small col i = go (eqb col 0) (get-small (row * w + col - 2 + i % 2))
-    where
-      go : (t : Bool) {x : ℕ} → x < 16_384 → cond t 0 x < 16_384
-      go true l = lit< tt
-      go false l = l
+  base-small col i = by-test (eqb col 0) (λ e. rw e (lit< tt)) (λ e. rw e (get-small (row * w + col - 2 + i % 2)))
 
   -- A base is the same in any frame that agrees with the written one before the block.
   base-same : (col i : ℕ) (f : List ℕ) → col % 16 ≡ 0 → Same (row * w + col) f g
