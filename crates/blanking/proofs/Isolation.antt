@@ -82,15 +82,15 @@ module _ (b : Blanks) (done : Done b) where
   -- Its buffers are long enough.
   enough : (n ≤ length (b .call .samples)) × (n ≤ length (b .call .map))
   unfolding refusal
-  enough = go (too-large (b .call .size)) (ltb (length (b .call .samples)) n) refl (ltb (length (b .call .map)) n) refl passed
-    where
-      go : (t1 t3 : Bool) → ltb (length (b .call .samples)) n ≡ t3 → (t4 : Bool) → ltb (length (b .call .map)) n ≡ t4
-          → cond {A = ℕ} t1 1 (cond t3 3 (cond t4 4 (cond (bad-map (marks-of (b .call))) 14 (cond (short-runs (b .call)) 13 0)))) ≡ 0
-          → (n ≤ length (b .call .samples)) × (n ≤ length (b .call .map))
-      go true t3 p t4 q e = absurd (omega arith)
-      go false true p t4 q e = absurd (omega arith)
-      go false false p true q e = absurd (omega arith)
-      go false false p false q e = (ltb-false (length (b .call .samples)) n p, ltb-false (length (b .call .map)) n q)
+  enough =
+      let e = passed in
+      by-test (too-large (b .call .size))
+      (λ t. let x : 1 ≡ 0 = rw t at e in absurd (omega arith))
+      (λ t. by-test (ltb (length (b .call .samples)) n)
+      (λ p. let x : 3 ≡ 0 = rw (t, p) at e in absurd (omega arith))
+      (λ p. by-test (ltb (length (b .call .map)) n)
+      (λ q. let x : 4 ≡ 0 = rw (t, p, q) at e in absurd (omega arith))
+      (λ q. (ltb-false (length (b .call .samples)) n p, ltb-false (length (b .call .map)) n q))))
 
   frame-length : length (frame-of (b .call)) ≡ n
   frame-length = length-take-le n (b .call .samples) (enough .0)

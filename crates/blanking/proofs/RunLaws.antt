@@ -69,12 +69,9 @@ stretch-most (b ∷ m) = by-test (marked b) (λ e. rw e (omega (arith, stretch-m
 pub stretch-marked : (m : List ℕ) (i : ℕ) → i < stretch m → marked (getD m i 0) ≡ true
 unfolding stretch
 stretch-marked [] i h = absurd (omega arith)
-stretch-marked (b ∷ m) i h = go i (marked b) refl h (λ j k. stretch-marked m j k)
-  where
-    go : (i : ℕ) (t : Bool) → marked b ≡ t → i < cond t (suc (stretch m)) 0 → ((j : ℕ) → j < stretch m → marked (getD m j 0) ≡ true) → marked (getD (b ∷ m) i 0) ≡ true
-    go zero true e k again = e
-    go (suc i) true e k again = again i (omega arith)
-    go i false e k again = absurd (omega arith)
+stretch-marked (b ∷ m) zero h = by-test (marked b) (λ e. e) (λ e. let k = rw e at h in absurd (omega arith))
+stretch-marked (b ∷ m) (suc i) h =
+    by-test (marked b) (λ e. let k = rw e at h in stretch-marked m i (omega arith)) (λ e. let k = rw e at h in absurd (omega arith))
 
 -- Inside a run none starts before its end.
 runs-joined : (row c : ℕ) (m : List ℕ) → runs-from row true c m ≡ runs-from row false (c + stretch m) (drop (stretch m) m)

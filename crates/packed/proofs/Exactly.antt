@@ -16,7 +16,7 @@ use Rattle.rules.specs.V0.{decoded}
 use Rattle.rules.specs.Answer as Plain
 use Rattle.rules.specs.Answer.{done, refused, too-large, short-samples, short-offsets, lent}
 use Rattle.rules.proofs.Cells.{All, nil, more}
-use Rattle.rules.proofs.Tests.{clash, neither, both}
+use Rattle.rules.proofs.Tests.{clash, neither, both, by-test}
 use Rattle.rules.proofs.V0Cells.{decoded-length}
 use Rattle.profile.specs.Profile.{verdict}
 use Rattle.profile.proofs.Verdicts.{Clean, accepted-clean, clean-accepted}
@@ -55,23 +55,21 @@ early-zero false false false false e = (refl, (refl, (refl, refl)))
 
 before-zero : (k : ℕ) (v : Answer) (t : Bool) → cond (eqb k 0) (cond (eqb (v .number) 0) (cond t (refused 21) done) v) (refused k) .number ≡ 0
     → (k ≡ 0) × ((v .number ≡ 0) × (t ≡ false))
-before-zero k v t = go (eqb k 0) refl (eqb (v .number) 0) refl t
-  where
-    go : (a : Bool) → eqb k 0 ≡ a → (b : Bool) → eqb (v .number) 0 ≡ b → (t : Bool)
-        → cond a (cond b (cond t (refused 21) done) v) (refused k) .number ≡ 0 → (k ≡ 0) × ((v .number ≡ 0) × (t ≡ false))
-    go true p true q true e = absurd (let x : 21 ≡ 0 = e in omega arith)
-    go true p true q false e = (eqb-true k 0 p, (eqb-true (v .number) 0 q, refl))
-    go true p false q t e = absurd (eqb-false (v .number) 0 q e)
-    go false p b q t e = absurd (eqb-false k 0 p e)
+before-zero k v t e =
+    by-test (eqb k 0)
+    (λ p. by-test (eqb (v .number) 0)
+    (λ q. by-test t
+    (λ r. let x : 21 ≡ 0 = rw (p, q, r) at e in absurd (omega arith))
+    (λ r. (eqb-true k 0 p, (eqb-true (v .number) 0 q, r))))
+    (λ q. absurd (eqb-false (v .number) 0 q (rw (p, q) at e))))
+    (λ p. absurd (eqb-false k 0 p (rw p at e)))
 
 answer-zero : (first : Answer) (t : Bool) → cond (eqb (first .number) 0) (cond t done (refused 20)) first .number ≡ 0
     → (first .number ≡ 0) × (t ≡ true)
-answer-zero first t = go (eqb (first .number) 0) refl t
-  where
-    go : (a : Bool) → eqb (first .number) 0 ≡ a → (t : Bool) → cond a (cond t done (refused 20)) first .number ≡ 0 → (first .number ≡ 0) × (t ≡ true)
-    go true p true e = (eqb-true (first .number) 0 p, refl)
-    go true p false e = absurd (let x : 20 ≡ 0 = e in omega arith)
-    go false p t e = absurd (eqb-false (first .number) 0 p e)
+answer-zero first t e =
+    by-test (eqb (first .number) 0)
+    (λ p. by-test t (λ r. (eqb-true (first .number) 0 p, r)) (λ r. let x : 20 ≡ 0 = rw (p, r) at e in absurd (omega arith)))
+    (λ p. absurd (eqb-false (first .number) 0 p (rw p at e)))
 
 dim-not-bright : {f : List ℕ} → All (λ a. a < 16_384) f → too-bright f ≡ false
 unfolding any-above
