@@ -24,7 +24,7 @@ use Rattle.v0_cells.proofs.CellLaws.{product, apply-empty, ops-walk, Le
 
 -- ── The source of a sample ──
 
-rows-most : (w c : ℕ) → rows-up c * w ≤ 2 * w
+pub rows-most : (w c : ℕ) → rows-up c * w ≤ 2 * w
 rows-most w c = mul-le-mul-right w (omega arith)
 
 module _ (w base c : ℕ) (above : 2 * w ≤ base) (fits : Low base) (l : c < 16) where

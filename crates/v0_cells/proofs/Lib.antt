@@ -1,4 +1,5 @@
 pub mod CellLaws
 pub mod StagedLaws
 pub mod InnerLaws
+pub mod FourLaws
 pub mod ExchangeLaws

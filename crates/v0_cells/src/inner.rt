@@ -1,10 +1,11 @@
 // An inner block: from row 2 on, after column 0 and inside its row nothing is skipped. Its residuals, all by value, are added to the
 // predictors in the order of the stream.
 ghost use mathlib.Core.Bool.{true, false, cond};
+ghost use mathlib.Core.List.{[], _∷_};
 ghost use mathlib.Core.Path.{_≡_};
 ghost use Prim.Native.Nat.{_+_, _*_, _%_, _≤_, _<_};
 ghost use lib.Dec.{eqb};
-ghost use lib.ListN.{length, getD, replicate};
+ghost use lib.ListN.{length, getD, set, replicate};
 ghost use Rattle.rules.specs.V0 as V0;
 ghost use Rattle.rules.specs.Map.{v0-marks};
 ghost use Rattle.v0_cells.specs.Places.{Whole, Inner, Inside, Low};
@@ -36,6 +37,35 @@ pub fn put_inner(out: &mut [u16], w: usize, base: usize, up: bool, residuals: [u
         out[base + c] = std::num::wrapping_add_u16(out[p], residuals[k]);
         k += 1;
     }
+}
+
+// How far the sources of every other sample lie from one another: as far as the samples, or all are one.
+fn source_step(up: bool) -> usize
+    ensures { λ r. ⌜ (r ≡ cond up 2 0) × (r ≤ 2) ⌝ }
+{
+    if up { 2 } else { 0 }
+}
+
+// A sample is its source and its residual.
+fn put_sum(out: &mut [u16], to: usize, from: usize, residual: u16)
+    requires { ⌜ (to < length (now out)) × (from < length (now out)) ⌝ }
+    ensures { λ _. ⌜ now (out .exit) ≡ set (now (out .entry)) to ((getD (now (out .entry)) from 0 + residual) % 65_536) ⌝ }
+{
+    out[to] = std::num::wrapping_add_u16(out[from], residual);
+}
+
+// Four samples of a block at `base`, in column `first` and every other one after it.
+pub fn put_four(out: &mut [u16], w: usize, base: usize, up: bool, first: usize, four: [u16; 4])
+    requires { ⌜ Inside w base (now out) × (Low base × (first + 6 < 16)) ⌝ }
+    ensures { λ _. ⌜ now (out .exit) ≡ V0.apply V0.sample-kind (inner-ops w base up (first ∷ (first + 2) ∷ (first + 4) ∷ (first + 6) ∷ []) (getD four 0 0 ∷ getD four 1 0 ∷ getD four 2 0 ∷ getD four 3 0 ∷ [])) (now (out .entry)) ⌝ }
+{
+    let from = source(w, base, up, first);
+    let step = source_step(up);
+    let to = base + first;
+    put_sum(out, to, from, four[0]);
+    put_sum(out, to + 2, from + step, four[1]);
+    put_sum(out, to + 4, from + 2 * step, four[2]);
+    put_sum(out, to + 6, from + 3 * step, four[3]);
 }
 
 // Of two marks the one for a column: even columns take the first, odd ones the second.
