@@ -14,6 +14,7 @@ use Rattle.rules.specs.V0.{order, fresh-row, blocks-in}
 use Rattle.rules.specs.Phases.{BlockRecord, block-records, row-records, store-samples, store-blocks, direction}
 use Rattle.rules.specs.declared.v0.V0Row.{V0Row}
 use Rattle.v0_stream.specs.Block.{with-residuals, whole-block}
+use Rattle.v0_stream.specs.ByWindow.{joined}
 use Rattle.v0_stream.specs.Lengths.{Within, furthest}
 use Rattle.v0_stream.specs.declared.block.ReadBlock.{ReadBlock}
 use Rattle.v0_stream.proofs.HeadLaws.{fresh-within, head-within}
@@ -53,6 +54,45 @@ module _ (w col : ℕ) (vs : List ℕ) where
   storing-done f₀ f k l sixteen g =
       let e : k ≡ 16 = omega (arith, g .below) in
       let g′ : Storing w col vs f₀ f 16 = rw e at g in g′ .cells-are
+
+-- ── A block's residuals by fours ──
+
+module _ (w col : ℕ) where
+  store-one : (c i v : ℕ) (cs vs f : List ℕ) → i ≡ col + c → i < w
+      → store-samples 0 w col (c ∷ cs) (v ∷ vs) f ≡ store-samples 0 w col cs vs (set f i v)
+  unfolding store-samples
+  store-one c i v cs vs f e l =
+      let first : 0 + col + c ≡ i = omega arith in rw (first, ← e, lt-ltb i w l)
+
+  store-none : (f : List ℕ) → store-samples 0 w col [] [] f ≡ f
+  unfolding store-samples
+  store-none f = refl
+
+  store-fours : (c i : ℕ) (r cs vs f f′ : List ℕ) → i ≡ col + c → i + 6 < w
+      → f′ ≡ set (set (set (set f i (getD r 0 0)) (i + 2) (getD r 1 0)) (i + 4) (getD r 2 0)) (i + 6) (getD r 3 0)
+      → store-samples 0 w col (c ∷ (c + 2) ∷ (c + 4) ∷ (c + 6) ∷ cs) (getD r 0 0 ∷ getD r 1 0 ∷ getD r 2 0 ∷ getD r 3 0 ∷ vs) f
+      ≡ store-samples 0 w col cs vs f′
+  store-fours c i r cs vs f f′ e l stored =
+      store-one c i _ _ _ f e (omega arith)
+      ∙ store-one (c + 2) (i + 2) _ _ _ _ (omega arith) (omega arith)
+      ∙ store-one (c + 4) (i + 4) _ _ _ _ (omega arith) (omega arith)
+      ∙ store-one (c + 6) (i + 6) _ _ _ _ (omega arith) l
+      ∙ ap (store-samples 0 w col cs vs) (sym stored)
+
+  -- Four groups in a row are the block's.
+  pub fours-stored : (a b c d f₀ f₁ f₂ f₃ f₄ : List ℕ) → col + 16 ≤ w
+      → f₁ ≡ set (set (set (set f₀ col (getD a 0 0)) (col + 2) (getD a 1 0)) (col + 4) (getD a 2 0)) (col + 6) (getD a 3 0)
+      → f₂ ≡ set (set (set (set f₁ (col + 8) (getD b 0 0)) (col + 8 + 2) (getD b 1 0)) (col + 8 + 4) (getD b 2 0)) (col + 8 + 6) (getD b 3 0)
+      → f₃ ≡ set (set (set (set f₂ (col + 1) (getD c 0 0)) (col + 1 + 2) (getD c 1 0)) (col + 1 + 4) (getD c 2 0)) (col + 1 + 6) (getD c 3 0)
+      → f₄ ≡ set (set (set (set f₃ (col + 9) (getD d 0 0)) (col + 9 + 2) (getD d 1 0)) (col + 9 + 4) (getD d 2 0)) (col + 9 + 6) (getD d 3 0)
+      → f₄ ≡ store-samples 0 w col order (joined a b c d) f₀
+  fours-stored a b c d f₀ f₁ f₂ f₃ f₄ l e₁ e₂ e₃ e₄ =
+      sym
+      (store-fours 0 col a _ _ f₀ f₁ (omega arith) (omega arith) e₁
+      ∙ store-fours 8 (col + 8) b _ _ f₁ f₂ refl (omega arith) e₂
+      ∙ store-fours 1 (col + 1) c _ _ f₂ f₃ refl (omega arith) e₃
+      ∙ store-fours 9 (col + 9) d _ _ f₃ f₄ refl (omega arith) e₄
+      ∙ store-none f₄)
 
 -- ── A row's blocks ──
 

@@ -4,7 +4,7 @@ ghost use mathlib.Core.Bool.{cond};
 ghost use mathlib.Core.List.{_++_, map};
 ghost use Prim.Native.Nat.{_+_, _-_, _≤_, _<_};
 ghost use lib.Dec.{ltb};
-ghost use lib.ListN.{length, set, drop};
+ghost use lib.ListN.{length, getD, set, drop};
 ghost use Rattle.rules.specs.V0.{order, blocks-in};
 ghost use Rattle.rules.specs.Answer.{scratch-bytes};
 ghost use Rattle.rules.specs.Phases.{store-samples, store-blocks, row-records, direction, phase-one, scratch};
@@ -78,6 +78,17 @@ fn store_residuals(out: &mut [u16], width: usize, col: usize, residuals: [u16; 1
         return;
     }
     store_edge(out, width, col, residuals);
+}
+
+// Four residuals to column i of a row and every other one after it.
+fn store_four(out: &mut [u16], i: usize, four: [u16; 4])
+    requires { ⌜ (i + 6 < length (now out)) × (i < 16_384) ⌝ }
+    ensures { λ _. ⌜ now (out .exit) ≡ set (set (set (set (now (out .entry)) i (getD four 0 0)) (i + 2) (getD four 1 0)) (i + 4) (getD four 2 0)) (i + 6) (getD four 3 0) ⌝ }
+{
+    out[i] = four[0];
+    out[i + 2] = four[1];
+    out[i + 4] = four[2];
+    out[i + 6] = four[3];
 }
 
 // A block as `read_block` gives it whole, by windows where the record stands in the stream. Each decoder has its own: the compiler
