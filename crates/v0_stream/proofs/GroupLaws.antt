@@ -17,10 +17,10 @@ use Rattle.rules.specs.declared.reader.Bits.{Bits}
 use Rattle.rules.specs.declared.v0.V0Row.{V0Row}
 use Rattle.rules.specs.declared.v0.V0Head.{V0Head}
 use Rattle.rules.proofs.ReaderLaws.{signed-low, signed-high}
-use Rattle.window.specs.Window.{bits-from, state-at, values-at, span, none, also, Window, Stands}
-use Rattle.window.proofs.WindowLaws.{fields-at, fields-top, pair-top, three-at}
+use Rattle.window.specs.Window.{bits-from, state-at, values-at, span, none, also, Window}
+use Rattle.window.proofs.WindowLaws.{fields-at, fields-end, pair-top, three-at}
 use Rattle.v0_stream.specs.Block.{with-residuals, whole-block}
-use Rattle.v0_stream.specs.ByWindow.{residual, Room, HeadAt, Group, joined}
+use Rattle.v0_stream.specs.ByWindow.{residual, Opened, Group, joined}
 use Rattle.v0_stream.specs.declared.by_window.WindowHead.{WindowHead}
 use Rattle.v0_stream.proofs.BlockLaws.{bits-few-enough, Reading, reading-begun, reading-four, read-all, whole-read}
 
@@ -85,24 +85,16 @@ low-made x n p w few ep ew =
 pub window-words : (s : List ℕ) (base q v : ℕ) → Window s base q v → (m : ℕ) → m ≤ 64 → (j : ℕ) → q ≤ j * 32 → j * 32 < q + m → word-at s (base + j * 4) < 2 ^ 32
 window-words s base q v w m few j l h = three-at s base (q / 32) j (w .words) (omega arith) (omega arith)
 
--- What `four_at` makes of a window.
-pub four-made : (s : List ℕ) (base q n v p₀ p₁ p₂ p₃ r₀ r₁ r₂ r₃ : ℕ) → n ≤ 16 → Window s base q v
-    → p₀ ≡ 2 ^ ((64 - 4 * n) % 64) → p₁ ≡ 2 ^ n → p₂ ≡ 2 ^ n → p₃ ≡ 2 ^ n
-    → r₀ ≡ residual n (v / p₀ / p₁ / p₂ / p₃ % 2 ^ n) → r₁ ≡ residual n (v / p₀ / p₁ / p₂ % 2 ^ n)
-    → r₂ ≡ residual n (v / p₀ / p₁ % 2 ^ n) → r₃ ≡ residual n (v / p₀ % 2 ^ n) → Group s base q n (r₀ ∷ r₁ ∷ r₂ ∷ r₃ ∷ [])
-unfolding bits-from
-four-made s base q zero v p₀ p₁ p₂ p₃ r₀ r₁ r₂ r₃ few w e₀ e₁ e₂ e₃ f₀ f₁ f₂ f₃ =
-    let z : (x : ℕ) → x % 2 ^ 0 ≡ 0 = λ x. omega (arith, mod-lt x (pow-pos 0)) in
+-- What `four_at` makes of the window that ends with them.
+pub four-made : (s : List ℕ) (base q n v p₁ p₂ p₃ r₀ r₁ r₂ r₃ : ℕ) → n ≤ 16 → 64 ≤ q → Window s base (q + 4 * n - 64) v → p₁ ≡ 2 ^ n → p₂ ≡ 2 ^ n → p₃ ≡ 2 ^ n
+    → r₀ ≡ residual n (v / p₁ / p₂ / p₃ % 2 ^ n) → r₁ ≡ residual n (v / p₁ / p₂ % 2 ^ n)
+    → r₂ ≡ residual n (v / p₁ % 2 ^ n) → r₃ ≡ residual n (v % 2 ^ n) → Group s base q n (r₀ ∷ r₁ ∷ r₂ ∷ r₃ ∷ [])
+four-made s base q n v p₁ p₂ p₃ r₀ r₁ r₂ r₃ few late w e₁ e₂ e₃ f₀ f₁ f₂ f₃ =
+    let start : q + 4 * n - 64 + (64 - 4 * n) ≡ q = omega arith in
+    let t = rw start at (fields-end s base (q + 4 * n - 64) v w n (64 - 4 * n) (omega arith)) in
     record {
-      whole = window-words s base q v w 0 (omega arith);
-      are = rw (f₀, f₁, f₂, f₃, z (v / p₀ / p₁ / p₂ / p₃), z (v / p₀ / p₁ / p₂), z (v / p₀ / p₁), z (v / p₀));
-    }
-four-made s base q (suc m) v p₀ p₁ p₂ p₃ r₀ r₁ r₂ r₃ few w e₀ e₁ e₂ e₃ f₀ f₁ f₂ f₃ =
-    let c : (64 - 4 * suc m) % 64 ≡ 64 - 4 * suc m = omega arith in
-    let t = fields-top s base q v w (suc m) (64 - 4 * suc m) (omega arith) in
-    record {
-      whole = window-words s base q v w (4 * suc m) (omega arith);
-      are = rw (f₀, f₁, f₂, f₃, e₀, e₁, e₂, e₃, c, t .0, t .1 .0, t .1 .1 .0, t .1 .1 .1);
+      whole = λ j l h. window-words s base (q + 4 * n - 64) v w 64 (omega arith) j (omega arith) (omega arith);
+      are = rw (f₀, f₁, f₂, f₃, e₁, e₂, e₃, t .0, t .1 .0, t .1 .1 .0, t .1 .1 .1);
     }
 
 -- What `four_long_at` makes of two.
@@ -157,11 +149,9 @@ group-at s ls b₀ base q f vs j n a h en some there far x r =
 
 -- ── The block ──
 
--- A record that stands in the stream, the head there, and the bits of each residual.
+-- A state that stands in the stream, the head there, and the bits of each residual.
 pub record Planned (s : List ℕ) (st : V0Row) (h : WindowHead) (n₀ n₁ n₂ n₃ : ℕ) : Type 0 where
-  pub stands : Stands s (st .bits) 76
-  pub far : st .bits .pos - 4 + 76 < 2 ^ 64
-  pub head-at : HeadAt s (st .bits .pos - 4) (32 - st .bits .count) (st .lengths) h
+  pub opened : Opened s st h
   pub is₀ : n₀ ≡ length-bits (getD (h .lengths) 0 (pos 0))
   pub is₁ : n₁ ≡ length-bits (getD (h .lengths) 1 (pos 0))
   pub is₂ : n₂ ≡ length-bits (getD (h .lengths) 2 (pos 0))
@@ -181,49 +171,49 @@ module _ {s : List ℕ} {st : V0Row} {h : WindowHead} {n₀ n₁ n₂ n₃ : ℕ
   few₃ = omega (arith, x .is₃, bits-few-enough (getD (h .lengths) 3 (pos 0)))
 
   -- The head's end, and the bits of each residual.
-  pub near : (0 < h .q) × ((h .q ≤ 57) × ((n₀ ≤ 32) × ((n₁ ≤ 32) × ((n₂ ≤ 32) × (n₃ ≤ 32)))))
+  pub near : (64 < h .q) × ((h .q ≤ 121) × ((n₀ ≤ 32) × ((n₁ ≤ 32) × ((n₂ ≤ 32) × (n₃ ≤ 32)))))
   near =
-      let few = x .stands .few in
-      let some = x .head-at .some in
-      let soon = x .head-at .soon in
+      let few = x .opened .stands .few in
+      let some = x .opened .head-at .some in
+      let soon = x .opened .head-at .soon in
       (omega arith, (omega arith, (few₀, (few₁, (few₂, few₃)))))
 
   -- A window that begins at most 64 bits after the start of the fourth group.
-  pub room : (p : ℕ) → p ≤ 505 → st .bits .pos - 4 + p / 32 * 4 + 12 ≤ length s
-  room p l = let there = x .stands .there in omega arith
+  pub room : (p : ℕ) → p ≤ 569 → st .bits .pos - 12 + p / 32 * 4 + 12 ≤ length s
+  room p l = let there = x .opened .stands .there in omega arith
 
   -- The state after the block.
-  pub end-room : (p : ℕ) → p ≤ 569 → st .bits .pos - 4 + (p + 31) / 32 * 4 ≤ length s
-  end-room p l = let there = x .stands .there in omega arith
+  pub end-room : (p : ℕ) → p ≤ 633 → st .bits .pos - 12 + (p + 31) / 32 * 4 ≤ length s
+  end-room p l = let there = x .opened .stands .there in omega arith
 
 -- A block read by position: its four groups too.
 pub record ByPosition (s : List ℕ) (st : V0Row) (h : WindowHead) (n₀ n₁ n₂ n₃ : ℕ) (a b c d : List ℕ) : Type 0 where
   pub plan : Planned s st h n₀ n₁ n₂ n₃
-  pub first : Group s (st .bits .pos - 4) (h .q) n₀ a
-  pub second : Group s (st .bits .pos - 4) (h .q + 4 * n₀) n₁ b
-  pub third : Group s (st .bits .pos - 4) (h .q + 4 * n₀ + 4 * n₁) n₂ c
-  pub fourth : Group s (st .bits .pos - 4) (h .q + 4 * n₀ + 4 * n₁ + 4 * n₂) n₃ d
+  pub first : Group s (st .bits .pos - 12) (h .q) n₀ a
+  pub second : Group s (st .bits .pos - 12) (h .q + 4 * n₀) n₁ b
+  pub third : Group s (st .bits .pos - 12) (h .q + 4 * n₀ + 4 * n₁) n₂ c
+  pub fourth : Group s (st .bits .pos - 12) (h .q + 4 * n₀ + 4 * n₁ + 4 * n₂) n₃ d
 
 -- So it is the block that the record reads whole.
 pub block-made : (s : List ℕ) (st : V0Row) (h : WindowHead) (n₀ n₁ n₂ n₃ : ℕ) (a b c d : List ℕ) (after : Bits) (r : List ℕ) → ByPosition s st h n₀ n₁ n₂ n₃ a b c d
-    → after ≡ state-at s (st .bits .pos - 4) (h .q + 4 * n₀ + 4 * n₁ + 4 * n₂ + 4 * n₃) (st .bits .filler) → r ≡ joined a b c d
+    → after ≡ state-at s (st .bits .pos - 12) (h .q + 4 * n₀ + 4 * n₁ + 4 * n₂ + 4 * n₃) (st .bits .filler) → r ≡ joined a b c d
     → record { up = h .up; row = record { lengths = h .lengths; bits = after }; residuals = r } ≡ whole-block s st
 block-made s st h n₀ n₁ n₂ n₃ a b c d after r x ea er =
-    let base : ℕ = st .bits .pos - 4 in
+    let base : ℕ = st .bits .pos - 12 in
     let f : ℕ = st .bits .filler in
     let ls = h .lengths in
     let q : ℕ = h .q in
     let p = x .plan in
     let n = near p in
-    let there : base + 76 ≤ length s = p .stands .there in
-    let far : base + 76 < 2 ^ 64 = p .far in
+    let there : base + 84 ≤ length s = p .opened .stands .there in
+    let far : base + 84 < 2 ^ 64 = p .opened .stands .far in
     let y : V0Head = record { up = h .up; row = record { lengths = ls; bits = state-at s base q f } } in
     let r₀ = reading-begun s ls (state-at s base q f) (replicate 16 0) refl in
-    let r₁ = group-at s ls (state-at s base q f) base q f _ 0 n₀ a (omega arith) (p .is₀) (n .0) (omega arith) (omega arith) (x .first) r₀ in
+    let r₁ = group-at s ls (state-at s base q f) base q f _ 0 n₀ a (omega arith) (p .is₀) (omega arith) (omega arith) (omega arith) (x .first) r₀ in
     let r₂ = group-at s ls (state-at s base q f) base (q + 4 * n₀) f _ 1 n₁ b (omega arith) (p .is₁) (omega arith) (omega arith) (omega arith) (x .second) r₁ in
     let r₃ = group-at s ls (state-at s base q f) base (q + 4 * n₀ + 4 * n₁) f _ 2 n₂ c (omega arith) (p .is₂) (omega arith) (omega arith) (omega arith) (x .third) r₂ in
     let r₄ = group-at s ls (state-at s base q f) base (q + 4 * n₀ + 4 * n₁ + 4 * n₂) f _ 3 n₃ d (omega arith) (p .is₃) (omega arith) (omega arith) (omega arith) (x .fourth) r₃ in
-    let stood : record { lengths = st .lengths; bits = state-at s base (32 - st .bits .count) f } ≡ st
-    = ap (λ (z : Bits). record { lengths = st .lengths; bits = z }) (sym (p .stands .is)) in
-    let read : y ≡ head s st = sym (p .head-at .reads f) ∙ ap (head s) stood in
+    let stood : record { lengths = st .lengths; bits = state-at s base (96 - st .bits .count) f } ≡ st
+    = ap (λ (z : Bits). record { lengths = st .lengths; bits = z }) (sym (p .opened .stands .is)) in
+    let read : y ≡ head s st = sym (p .opened .head-at .reads f) ∙ ap (head s) stood in
     whole-read s st y _ read (rw (ea, er) (read-all s ls (state-at s base q f) _ _ 16 y (omega arith) refl refl r₄))

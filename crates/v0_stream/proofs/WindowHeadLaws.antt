@@ -24,6 +24,7 @@ use Rattle.v0_stream.specs.Lengths.{stepped, Within, furthest}
 use Rattle.v0_stream.specs.ByWindow.{Room, length-in, HeadAt}
 use Rattle.v0_stream.specs.declared.by_window.WindowLength.{WindowLength}
 use Rattle.v0_stream.specs.declared.by_window.WindowHead.{WindowHead}
+use Rattle.v0_stream.specs.declared.by_window.PlainHead.{PlainHead}
 use Rattle.v0_stream.proofs.HeadLaws.{stepped-near, length-read, length-stepped, lengths-made}
 use Rattle.v0_stream.proofs.GroupLaws.{four-is, window-words}
 
@@ -74,9 +75,8 @@ module _ (s : List ℕ) (base q v : ℕ) (room : Room s base q) (w : Window s ba
   reads : (f a n : ℕ) → n ≤ 4 → a + n ≤ 25 → Reads s base f (q + a) n
   reads f a n few near =
       let some : 0 < q = room .some in
-      let soon : q ≤ 32 = room .soon in
-      let there : base + 76 ≤ length s = room .there in
-      let far : base + 76 < 2 ^ 64 = room .far in
+      let there : base + q / 32 * 4 + 12 ≤ length s = room .there in
+      let far : base + q / 32 * 4 + 12 < 2 ^ 64 = room .far in
       read-at s base (q + a) n f (omega arith) (omega arith) (omega arith) (omega arith)
       (λ h. window-words s base q v w 64 (omega arith) ((q + a + 31) / 32) (omega arith) (omega arith))
 
@@ -110,9 +110,8 @@ module _ (s : List ℕ) (base q v : ℕ) (room : Room s base q) (w : Window s ba
       ≡ record { values = v / 2 ^ 61 % 4 ∷ v / 2 ^ 59 % 4 ∷ v / 2 ^ 57 % 4 ∷ v / 2 ^ 55 % 4 ∷ []; bits = state-at s base (q + 9) f }
   operations f =
       let some : 0 < q = room .some in
-      let soon : q ≤ 32 = room .soon in
-      let there : base + 76 ≤ length s = room .there in
-      let far : base + 76 < 2 ^ 64 = room .far in
+      let there : base + q / 32 * 4 + 12 ≤ length s = room .there in
+      let far : base + q / 32 * 4 + 12 < 2 ^ 64 = room .far in
       let e : q + 1 + 4 * 2 ≡ q + 9 = omega arith in
       let e₁ : q + 1 + 2 ≡ q + 3 = omega arith in
       let e₂ : q + 1 + 2 * 2 ≡ q + 5 = omega arith in
@@ -179,3 +178,7 @@ module _ (s : List ℕ) (base q v : ℕ) (room : Room s base q) (w : Window s ba
 -- How many bits a length of the code leaves.
 pub left-of : (v at left : ℕ) (l : ℤ) (x : WindowLength) → x ≡ length-in v at left l → (left - 4 ≤ x .left) × (x .left ≤ left)
 left-of v at left l x e = rw e (left-in v at left l)
+
+-- Where there is none, nothing is promised.
+pub no-head : (s : List ℕ) (base q : ℕ) (ls : List ℤ) (x : PlainHead) → x .plain ≡ false → x .plain ≡ true → HeadAt s base q ls (x .head)
+no-head s base q ls x e t = let z : _≡_ {A = ℕ} 0 1 = cc in absurd (omega arith)

@@ -10,17 +10,28 @@ use lib.IntN.{ℤ, pos}
 use lib.ListN.{length, getD}
 use Rattle.rules.specs.Reader.{word-at, signed, modulo}
 use Rattle.rules.specs.V0.{head}
+use Rattle.rules.specs.declared.reader.Bits.{Bits}
+use Rattle.rules.specs.declared.v0.V0Row.{V0Row}
 use Rattle.window.specs.Window.{bits-from, state-at}
 use Rattle.v0_stream.specs.Lengths.{stepped}
 use Rattle.v0_stream.specs.declared.by_window.WindowLength.{WindowLength}
 use Rattle.v0_stream.specs.declared.by_window.WindowHead.{WindowHead}
 
--- Bit q lies in the word at `base` or right after it, and the stream goes on for more than a block.
+-- A reader's state that stands in the stream with room for a block. It is the one before a bit, which is counted from two words before
+-- the one fetched last: so a window that ends in the block begins after that.
+pub record Standing (s : List ℕ) (b : Bits) : Type 0 where
+  pub fetched : 12 ≤ b .pos
+  pub few : b .count < 32
+  pub there : b .pos - 12 + 84 ≤ length s
+  pub far : b .pos - 12 + 84 < 2 ^ 64
+  pub is : b ≡ state-at s (b .pos - 12) (96 - b .count) (b .filler)
+
+-- Bit q lies in one of the first words from `base` on, and a window that begins there is in the stream.
 pub record Room (s : List ℕ) (base q : ℕ) : Type 0 where
   pub some : 0 < q
-  pub soon : q ≤ 32
-  pub there : base + 76 ≤ length s
-  pub far : base + 76 < 2 ^ 64
+  pub soon : q ≤ 96
+  pub there : base + q / 32 * 4 + 12 ≤ length s
+  pub far : base + q / 32 * 4 + 12 < 2 ^ 64
 
 -- ── The head ──
 
@@ -37,6 +48,11 @@ pub record HeadAt (s : List ℕ) (base q : ℕ) (ls : List ℤ) (h : WindowHead)
       ≡ record { up = h .up; row = record { lengths = h .lengths; bits = state-at s base (h .q) f } }
   pub some : q ≤ h .q
   pub soon : h .q ≤ q + 25
+
+-- A row's state that stands so, and the head that begins there.
+pub record Opened (s : List ℕ) (st : V0Row) (h : WindowHead) : Type 0 where
+  pub stands : Standing s (st .bits)
+  pub head-at : HeadAt s (st .bits .pos - 12) (96 - st .bits .count) (st .lengths) h
 
 -- ── Residuals ──
 

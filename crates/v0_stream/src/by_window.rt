@@ -1,14 +1,15 @@
 // A block by position, where the reader's record stands in the stream: its head out of one window, and four residuals of one length
 // out of one or two. Nothing here is read twice, and no branch asks whether a word is to be fetched.
-ghost use mathlib.Core.Bool.{cond};
+ghost use mathlib.Core.Bool.{true, false, cond, _&&_};
 ghost use mathlib.Core.List.{_++_};
 ghost use mathlib.Core.Path.{_≡_};
-ghost use Prim.Native.Nat.{_+_, _*_, _/_, _%_, _^_, _≤_, _<_};
+ghost use Prim.Native.Nat.{_+_, _-_, _*_, _/_, _%_, _^_, _≤_, _<_};
 ghost use lib.Dec.{eqb};
 ghost use lib.ListN.{length};
-ghost use lib.Signed.{mag};
+ghost use lib.IntN.{pos};
+ghost use lib.Signed.{mag, leZ};
 ghost use Rattle.v0_stream.specs.Block.{whole-block};
-ghost use Rattle.v0_stream.specs.ByWindow.{residual, Room, length-in, HeadAt, Group, joined};
+ghost use Rattle.v0_stream.specs.ByWindow.{residual, Standing, Room, length-in, HeadAt, Group};
 ghost use Rattle.v0_stream.specs.Lengths.{Within, furthest};
 use super::block::ReadBlock;
 use super::block::read_block;
@@ -18,10 +19,22 @@ use fields::field;
 use fields::power;
 use rules::Bits;
 use rules::V0Row;
+use window::stands;
 use window::window;
 
 // The bytes that have to be there from the word fetched last on: a block ends at most 569 bits after that word's start.
-pub const BLOCK_BYTES: usize = 76;
+const BLOCK_BYTES: usize = 76;
+
+// Whether a state stands in the stream with room for a block, and with two words before the one fetched last: a window that ends in
+// the block may begin in them. Where it says no, the record reads the block.
+pub fn stands_within(src: &[u8], bits: Bits) -> bool
+    ensures { λ r. ⌜ (r ≡ true → Standing (now (src .entry)) bits) ⌝ }
+{
+    if bits.pos < 12 {
+        return false;
+    }
+    stands(src, bits, BLOCK_BYTES)
+}
 
 // A length after its operation, and how many bits of a window are left after what the operation read.
 struct WindowLength {
@@ -75,6 +88,61 @@ pub fn window_head(src: &[u8], base: usize, q: usize, lengths: [i32; 4]) -> Wind
     }
 }
 
+// Whether a length is the number of its residuals' bits.
+fn is_plain(length: i32) -> bool
+    ensures { λ r. ⌜ r ≡ leZ (pos 0) length && leZ length (pos 32) ⌝ }
+{
+    0 <= length && length <= 32
+}
+
+// A head of plain lengths, or none.
+pub struct PlainHead {
+    pub plain: bool,
+    pub head: WindowHead,
+}
+
+fn no_head() -> PlainHead
+    ensures { λ r. ⌜ r .plain ≡ false ⌝ }
+{
+    let head = WindowHead {
+        up: false,
+        lengths: [0; 4],
+        q: 0,
+    };
+    PlainHead { plain: false, head }
+}
+
+// The same head, where its lengths are plain. The tests between them keep the compiler from making all four in one vector: that takes
+// it longer, and each block waits for the lengths of the one before. Where it gives none, the record reads the block.
+pub fn plain_head(src: &[u8], base: usize, q: usize, lengths: [i32; 4]) -> PlainHead
+    requires { ⌜ Room (now src) base q × Within furthest lengths ⌝ }
+    ensures { λ r. ⌜ (r .plain ≡ true → HeadAt (now (src .entry)) base q lengths (r .head)) ⌝ }
+{
+    let v = window(src, base, q);
+    let a = window_length(v, 61, 55, lengths[0]);
+    if !is_plain(a.length) {
+        return no_head();
+    }
+    let b = window_length(v, 59, a.left, lengths[1]);
+    if !is_plain(b.length) {
+        return no_head();
+    }
+    let c = window_length(v, 57, b.left, lengths[2]);
+    if !is_plain(c.length) {
+        return no_head();
+    }
+    let d = window_length(v, 55, c.left, lengths[3]);
+    if !is_plain(d.length) {
+        return no_head();
+    }
+    let head = WindowHead {
+        up: field(v, 63, 1) == 1,
+        lengths: [a.length, b.length, c.length, d.length],
+        q: q + (64 - d.left) as usize,
+    };
+    PlainHead { plain: true, head }
+}
+
 // The residual that the low n bits of x are. A sum, a remainder and a difference, with no test of the sign.
 fn low(x: u64, n: u32) -> u16
     requires { ⌜ n ≤ 32 ⌝ }
@@ -85,13 +153,12 @@ fn low(x: u64, n: u32) -> u16
     ((std::num::wrapping_add_u64(x, half) % top + 4_294_967_296 - half) % 65_536) as u16
 }
 
-// Four residuals of n bits from bit q on, out of one window.
+// Four residuals of n bits from bit q on, out of the window that ends with them: the last is its lowest n bits.
 pub fn four_at(src: &[u8], base: usize, q: usize, n: u32) -> [u16; 4]
-    requires { ⌜ (n ≤ 16) × (base + q / 32 * 4 + 12 ≤ length (now src)) ⌝ }
+    requires { ⌜ (n ≤ 16) × ((64 ≤ q) × ((q < 2 ^ 32) × (base + (q + 4 * n - 64) / 32 * 4 + 12 ≤ length (now src)))) ⌝ }
     ensures { λ r. ⌜ Group (now (src .entry)) base q n r ⌝ }
 {
-    let v = window(src, base, q);
-    let d = v / power((64 - 4 * n) % 64);
+    let d = window(src, base, q + 4 * n as usize - 64);
     let c = d / power(n);
     let b = c / power(n);
     let a = b / power(n);
@@ -110,30 +177,6 @@ pub fn four_long_at(src: &[u8], base: usize, q: usize, n: u32) -> [u16; 4]
         low(b, n),
         low(d / power(n), n),
         low(d, n),
-    ]
-}
-
-// The sixteen residuals of four groups.
-pub fn join(a: [u16; 4], b: [u16; 4], c: [u16; 4], d: [u16; 4]) -> [u16; 16]
-    ensures { λ r. ⌜ r ≡ joined a b c d ⌝ }
-{
-    [
-        a[0],
-        a[1],
-        a[2],
-        a[3],
-        b[0],
-        b[1],
-        b[2],
-        b[3],
-        c[0],
-        c[1],
-        c[2],
-        c[3],
-        d[0],
-        d[1],
-        d[2],
-        d[3],
     ]
 }
 

@@ -326,6 +326,27 @@ module _ (s : List ℕ) (base q v : ℕ) (w : Window s base q v) where
         ),
       )
 
+  -- The same of a window that ends with them.
+  pub fields-end : (n a : ℕ) → a + 4 * n ≡ 64
+      → (v / 2 ^ n / 2 ^ n / 2 ^ n % 2 ^ n ≡ bits-from s base (q + a) n)
+      × ((v / 2 ^ n / 2 ^ n % 2 ^ n ≡ bits-from s base (q + a + n) n)
+      × ((v / 2 ^ n % 2 ^ n ≡ bits-from s base (q + a + 2 * n) n) × (v % 2 ^ n ≡ bits-from s base (q + a + 3 * n) n)))
+  fields-end n a e =
+      let two : v / 2 ^ n / 2 ^ n ≡ v / 2 ^ (n + n) = shr-shr v n n in
+      let three : v / 2 ^ (n + n) / 2 ^ n ≡ v / 2 ^ (n + n + n) = shr-shr v (n + n) n in
+      let first : q + (a + n) ≡ q + a + n = omega arith in
+      let second : q + (a + 2 * n) ≡ q + a + 2 * n = omega arith in
+      let third : q + (a + 3 * n) ≡ q + a + 3 * n = omega arith in (
+        rw (two, three) (in-window s base q v a n (n + n + n) w (omega arith)),
+        (
+          rw two (in-window s base q v (a + n) n (n + n) w (omega arith) ∙ rw first),
+          (
+            in-window s base q v (a + 2 * n) n n w (omega arith) ∙ rw second,
+            ap (λ (x : ℕ). x % 2 ^ n) (sym (div-one v)) ∙ in-window s base q v (a + 3 * n) n 0 w (omega arith) ∙ rw third,
+          ),
+        ),
+      )
+
   -- The same of two fields.
   pub pair-top : (n c : ℕ) → 2 * n + c ≡ 64 → (v / 2 ^ c / 2 ^ n % 2 ^ n ≡ bits-from s base q n) × (v / 2 ^ c % 2 ^ n ≡ bits-from s base (q + n) n)
   pair-top n c e =
@@ -349,6 +370,14 @@ stands-is s b more e =
     let at : b .pos - 4 + 1 * 4 ≡ b .pos = omega arith in
     let c : 1 * 32 - (32 - b .count) ≡ b .count = omega arith in
     record { fetched = fetched; there = leb-true (b .pos - 4 + more) (length s) (ends .0); few = few; is = rw (n, at, c, word) }
+
+-- Counted from two words before.
+pub stands-back : (s : List ℕ) (b : Bits) (more : ℕ) → Stands s b more → 12 ≤ b .pos → b ≡ state-at s (b .pos - 12) (96 - b .count) (b .filler)
+stands-back s b more x h =
+    let few : b .count < 32 = x .few in
+    let at : b .pos - 12 + (96 - b .count + 31) / 32 * 4 ≡ b .pos - 4 + (32 - b .count + 31) / 32 * 4 = omega arith in
+    let c : (96 - b .count + 31) / 32 * 32 - (96 - b .count) ≡ (32 - b .count + 31) / 32 * 32 - (32 - b .count) = omega arith in
+    x .is ∙ sym (rw (at, c))
 
 -- What each test of `stands` decides, those before it having held.
 module _ (s : List ℕ) (b : Bits) (more : ℕ) where
