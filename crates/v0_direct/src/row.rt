@@ -1,14 +1,16 @@
 // A row: its blocks one after another, the inner ones in one go and the others by the literal rule.
 ghost use mathlib.Core.Bool.{true};
 ghost use mathlib.Core.Path.{_≡_};
-ghost use Prim.Native.Nat.{_+_, _^_, _<_};
+ghost use Prim.Native.Nat.{_+_, _*_, _^_, _<_};
 ghost use lib.ListN.{length};
 ghost use Rattle.rules.specs.V0 as V0;
 ghost use Rattle.rules.specs.Reader.{has-filler};
 ghost use Rattle.rules.specs.Frame.{cells, ended};
 ghost use Rattle.rules.specs.Map.{with-filler, v0-marks};
 ghost use Rattle.v0_stream.specs.Block.{whole-block};
+ghost use Rattle.v0_stream.specs.ByWindow.{Opened};
 ghost use Rattle.v0_stream.specs.Lengths.{Within, furthest};
+ghost use Rattle.v0_cells.specs.Inner.{inner-ops};
 ghost use Rattle.v0_cells.specs.Places.{Whole, InFrame, Inner};
 ghost use Rattle.v0_direct.specs.Lent.{InRow};
 ghost use Rattle.v0_direct.specs.Block.{block-ops, after-block};
@@ -18,17 +20,16 @@ use rules::Bits;
 use rules::Size;
 use rules::V0Row;
 use v0_cells::inner::mark_block;
+use v0_cells::inner::put_four;
 use v0_cells::inner::put_inner;
-use v0_stream::block::ReadBlock;
+use v0_stream::block::read_block;
 use v0_stream::block::read_block_head;
 use v0_stream::block::residual_length;
-use v0_stream::by_window::BLOCK_BYTES;
+use v0_stream::by_window::WindowHead;
 use v0_stream::by_window::four_at;
 use v0_stream::by_window::four_long_at;
-use v0_stream::by_window::join;
-use v0_stream::by_window::read_by_record;
+use v0_stream::by_window::stands_within;
 use v0_stream::by_window::window_head;
-use window::stands;
 use window::state_at;
 
 // Whether a block is an inner one.
@@ -45,59 +46,86 @@ pub fn is_inner(size: Size, row: usize, col: usize) -> bool
     col + V0Row::BLOCK <= size.width
 }
 
-// A block as `read_block` gives it whole, by windows where the record stands in the stream. Each decoder has its own: the compiler
-// keeps a block in registers only in a function that is called once.
-fn next_block(src: &[u8], row: V0Row) -> ReadBlock
-    requires { ⌜ Within furthest (row .lengths) ⌝ }
-    ensures { λ r. ⌜ r ≡ whole-block (now (src .entry)) row ⌝ }
+// The residuals after a head that was read by position. Each group is put as it is read, so that few registers hold a block; the four
+// ways stand written out, since the compiler calls a function that would join them.
+fn put_groups(
+    src: &[u8],
+    size: Size,
+    row: usize,
+    col: usize,
+    state: V0Row,
+    head: WindowHead,
+    out: &mut [u16],
+) -> Bits
+    requires { ⌜ Inner size row col × (Opened (now src) state head × (length (now out) ≡ cells size)) ⌝ }
+    ensures { λ r. ⌜ r ≡ whole-block (now (src .entry)) state .row .bits ⌝ }
+    ensures { λ _. ⌜ now (out .exit) ≡ V0.apply V0.sample-kind (inner-ops (size .width) (row * size .width + col) (head .up) V0.order (whole-block (now (src .entry)) state .residuals)) (now (out .entry)) ⌝ }
 {
-    let bits = row.bits;
-    let lengths = row.lengths;
-    if stands(src, bits, BLOCK_BYTES) {
-        let base = bits.pos as usize - 4;
-        let head = window_head(src, base, 32 - bits.count as usize, lengths);
-        let after = head.lengths;
-        let n0 = residual_length(after[0]);
-        let n1 = residual_length(after[1]);
-        let n2 = residual_length(after[2]);
-        let n3 = residual_length(after[3]);
-        let q0 = head.q;
-        let q1 = q0 + 4 * n0 as usize;
-        let q2 = q1 + 4 * n1 as usize;
-        let q3 = q2 + 4 * n2 as usize;
-        let a = if n0 <= 16 {
-            four_at(src, base, q0, n0)
-        } else {
-            four_long_at(src, base, q0, n0)
-        };
-        let b = if n1 <= 16 {
-            four_at(src, base, q1, n1)
-        } else {
-            four_long_at(src, base, q1, n1)
-        };
-        let c = if n2 <= 16 {
-            four_at(src, base, q2, n2)
-        } else {
-            four_long_at(src, base, q2, n2)
-        };
-        let d = if n3 <= 16 {
-            four_at(src, base, q3, n3)
-        } else {
-            four_long_at(src, base, q3, n3)
-        };
-        return ReadBlock {
-            up: head.up,
-            row: V0Row {
-                lengths: after,
-                bits: state_at(src, base, q3 + 4 * n3 as usize, bits.filler),
-            },
-            residuals: join(a, b, c, d),
-        };
-    }
-    read_by_record(src, lengths, bits)
+    let start = state.bits;
+    let base = start.pos as usize - 12;
+    let lengths = head.lengths;
+    let n0 = residual_length(lengths[0]);
+    let n1 = residual_length(lengths[1]);
+    let n2 = residual_length(lengths[2]);
+    let n3 = residual_length(lengths[3]);
+    let q0 = head.q;
+    let q1 = q0 + 4 * n0 as usize;
+    let q2 = q1 + 4 * n1 as usize;
+    let q3 = q2 + 4 * n2 as usize;
+    let w = size.width;
+    let at = row * w + col;
+    let a = if n0 <= 16 {
+        four_at(src, base, q0, n0)
+    } else {
+        four_long_at(src, base, q0, n0)
+    };
+    put_four(out, w, at, head.up, 0, a);
+    let b = if n1 <= 16 {
+        four_at(src, base, q1, n1)
+    } else {
+        four_long_at(src, base, q1, n1)
+    };
+    put_four(out, w, at, head.up, 8, b);
+    let c = if n2 <= 16 {
+        four_at(src, base, q2, n2)
+    } else {
+        four_long_at(src, base, q2, n2)
+    };
+    put_four(out, w, at, head.up, 1, c);
+    let d = if n3 <= 16 {
+        four_at(src, base, q3, n3)
+    } else {
+        four_long_at(src, base, q3, n3)
+    };
+    put_four(out, w, at, head.up, 9, d);
+    state_at(src, base, q3 + 4 * n3 as usize, start.filler)
 }
 
-// An inner block: from row 2 on, after column 0 and inside its row nothing is skipped, so that all residuals are read in one go.
+// An inner block by the record, whatever its state.
+fn decode_by_record(
+    src: &[u8],
+    size: Size,
+    row: usize,
+    col: usize,
+    state: V0Row,
+    out: &mut [u16],
+    map: &mut [u8],
+) -> V0Row
+    requires { ⌜ Inner size row col × (Within furthest (state .lengths) × ((length (now out) ≡ cells size) × Whole size (now map))) ⌝ }
+    ensures { λ r. ⌜ r ≡ after-block (now (src .entry)) size row col state ⌝ }
+    ensures { λ _. ⌜ now (out .exit) ≡ V0.apply V0.sample-kind (block-ops (now (src .entry)) size row col state .ops) (now (out .entry)) ⌝ }
+    ensures { λ _. ⌜ now (map .exit) ≡ V0.apply v0-marks (block-ops (now (src .entry)) size row col state .ops) (now (map .entry)) ⌝ }
+{
+    let x = read_block(src, state, true);
+    let residuals = x.residuals;
+    let w = size.width;
+    put_inner(out, w, row * w + col, x.up, residuals);
+    mark_block(map, size, row, col, x.up);
+    x.row
+}
+
+// An inner block: from row 2 on, after column 0 and inside its row nothing is skipped, so that all residuals are read in one go, by
+// windows where the record stands in the stream.
 fn decode_inner(
     src: &[u8],
     size: Size,
@@ -112,12 +140,20 @@ fn decode_inner(
     ensures { λ _. ⌜ now (out .exit) ≡ V0.apply V0.sample-kind (block-ops (now (src .entry)) size row col state .ops) (now (out .entry)) ⌝ }
     ensures { λ _. ⌜ now (map .exit) ≡ V0.apply v0-marks (block-ops (now (src .entry)) size row col state .ops) (now (map .entry)) ⌝ }
 {
-    let x = next_block(src, state);
-    let residuals = x.residuals;
-    let w = size.width;
-    put_inner(out, w, row * w + col, x.up, residuals);
-    mark_block(map, size, row, col, x.up);
-    x.row
+    let bits = state.bits;
+    let lengths = state.lengths;
+    if stands_within(src, bits) {
+        let base = bits.pos as usize - 12;
+        let head = window_head(src, base, 96 - bits.count as usize, lengths);
+        let end = put_groups(src, size, row, col, state, head, out);
+        mark_block(map, size, row, col, head.up);
+        let after = head.lengths;
+        return V0Row {
+            lengths: after,
+            bits: end,
+        };
+    }
+    decode_by_record(src, size, row, col, state, out, map)
 }
 
 // One block.

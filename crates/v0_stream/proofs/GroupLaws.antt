@@ -217,3 +217,15 @@ block-made s st h n₀ n₁ n₂ n₃ a b c d after r x ea er =
     = ap (λ (z : Bits). record { lengths = st .lengths; bits = z }) (sym (p .opened .stands .is)) in
     let read : y ≡ head s st = sym (p .opened .head-at .reads f) ∙ ap (head s) stood in
     whole-read s st y _ read (rw (ea, er) (read-all s ls (state-at s base q f) _ _ 16 y (omega arith) refl refl r₄))
+
+-- A head that stands in the stream is the block's own.
+pub opened-block : (s : List ℕ) (st : V0Row) (h : WindowHead) (b : Bits) → Opened s st h → b ≡ whole-block s st .row .bits
+    → record { up = h .up; row = record { lengths = h .lengths; bits = b }; residuals = whole-block s st .residuals } ≡ whole-block s st
+unfolding whole-block with-residuals
+opened-block s st h b x e =
+    let f : ℕ = st .bits .filler in
+    let stood : st ≡ record { lengths = st .lengths; bits = state-at s (st .bits .pos - 12) (96 - st .bits .count) f }
+    = ap (λ (z : Bits). record { lengths = st .lengths; bits = z }) (x .stands .is) in
+    let read : head s st ≡ record { up = h .up; row = record { lengths = h .lengths; bits = state-at s (st .bits .pos - 12) (h .q) f } }
+    = ap (head s) stood ∙ x .head-at .reads f in
+    rw (e, read)

@@ -1,23 +1,45 @@
--- Nothing is skipped, so that the block's operations are its residuals with their predictors.
+-- By windows it is the block that the record would read, group by group; where the state does not stand, the record reads it.
 use native.Mathlib.Omega.{arith}
 use denote.Ref.{now}
 use borrow.Author.Needs.{needs}
-use Rattle.v0_cells.proofs.InnerLaws.{inner-fits, inner-inside}
+use Rattle.v0_stream.specs.ByWindow.{Standing, Opened}
+use Rattle.v0_stream.proofs.GroupLaws.{opened-block}
 use Rattle.v0_direct.proofs.InnerLaws.{inner-state, inner-samples, inner-marks}
 use Rattle.v0_direct.proofs.row.decode_inner.Statement.{statement}
 use Rattle.v0_direct.proofs.row.decode_inner.Tie as tie
 
-next-block-requires : tie.Need-next-block-requires
-next-block-requires c κs = search needs
+-- Points on the way: the entry, and where the state is known to stand.
+abbrev start : tie.Then1 → tie.Start
+start c = c .before .before .before .before .before .before .before
 
-mul-put-inner : tie.Need-mul-put-inner
-mul-put-inner c = let a = c .before .before .before .before .before .before in record { fits = omega (arith, inner-fits (a .args .size) (a .args .row) (a .args .col) (a .pre .0)) }
+abbrev standing : tie.After-window-head → tie.Then1
+standing c = c .before .before
 
-add-put-inner : tie.Need-add-put-inner
-add-put-inner c = let a = c .before .before .before .before .before .before in record { fits = omega (arith, inner-fits (a .args .size) (a .args .row) (a .args .col) (a .pre .0)) }
+stood : (c : tie.Then1) → Standing (now (start c .args .src)) (start c .args .state .bits)
+stood c = c .before .stands-within .ensures (c .if1 .taken)
 
-put-inner-requires : tie.Need-put-inner-requires
-put-inner-requires c κs = let a = c .before .before .before .before .before .before in (inner-inside (a .args .size) (a .args .row) (a .args .col) (a .pre .0) (a .args .out .now) (a .pre .1 .1 .0), inner-fits (a .args .size) (a .args .row) (a .args .col) (a .pre .0))
+opened : (c : tie.After-window-head) → Opened (now (start (standing c) .args .src)) (start (standing c) .args .state) (c .window-head .result)
+opened c = record { stands = stood (standing c); head-at = c .window-head .ensures }
+
+stands-within-requires : tie.Need-stands-within-requires
+stands-within-requires c κs = search needs
+
+sub-base : tie.Need-sub-base
+sub-base c = stood c .fetched
+
+cast-window-head : tie.Need-cast-window-head
+cast-window-head c = search needs
+
+sub-window-head : tie.Need-sub-window-head
+sub-window-head c = let few = stood (c .before) .few in omega arith
+
+window-head-requires : tie.Need-window-head-requires
+window-head-requires c κs =
+    let x = stood (c .before) in let few = x .few in let there = x .there in let far = x .far in
+    (record { some = omega arith; soon = omega arith; there = omega arith; far = omega arith }, start (c .before) .pre .1 .0)
+
+put-groups-requires : tie.Need-put-groups-requires
+put-groups-requires c κs = let a = start (standing (c .before)) in (a .pre .0, (opened (c .before), a .pre .1 .1 .0))
 
 mark-block-requires : tie.Need-mark-block-requires
 mark-block-requires c κs = search needs
@@ -29,23 +51,45 @@ same-length-2 : tie.Need-same-length-2
 same-length-2 c = search needs
 
 returns : tie.Need-returns
-returns c = let a = c .before .before .before .before .before .before .before .before .before .before .before .before .before .before in let x = c .before .before .before .before .before .before .before .before .before .before .next-block in (
-  inner-state (now (a .args .src)) (a .args .size) (a .args .row) (a .args .col) (a .args .state) (a .pre .0) (x .result) (x .ensures),
-  (
-    inner-samples (now (a .args .src)) (a .args .size) (a .args .row) (a .args .col) (a .args .state) (a .pre .0) (x .result) (x .ensures) _ _ (c .before .before .before .before .before .before .before .put-inner .ensures),
-    inner-marks (now (a .args .src)) (a .args .size) (a .args .row) (a .args .col) (a .args .state) (a .pre .0) (x .result) (x .ensures) _ _ (c .before .before .before .mark-block .ensures),
-  ),
-)
+returns c =
+    let groups = c .before .before .before .before .before .before .before in
+    let h = groups .before .before in
+    let a = start (standing h) in
+    let x = opened-block (now (a .args .src)) (a .args .state) (h .window-head .result) _ (opened h) (groups .put-groups .ensures .0) in (
+      inner-state (now (a .args .src)) (a .args .size) (a .args .row) (a .args .col) (a .args .state) (a .pre .0) _ x,
+      (
+        inner-samples (now (a .args .src)) (a .args .size) (a .args .row) (a .args .col) (a .args .state) (a .pre .0) _ x _ _ (groups .put-groups .ensures .1),
+        inner-marks (now (a .args .src)) (a .args .size) (a .args .row) (a .args .col) (a .args .state) (a .pre .0) _ x _ _ (c .before .before .before .mark-block .ensures),
+      ),
+    )
+
+decode-by-record-requires : tie.Need-decode-by-record-requires
+decode-by-record-requires c κs = search needs
+
+same-length-3 : tie.Need-same-length-3
+same-length-3 c = search needs
+
+same-length-4 : tie.Need-same-length-4
+same-length-4 c = search needs
+
+returns-2 : tie.Need-returns-2
+returns-2 c = search needs
 
 pub decode-inner-spec : {M : Type 1} → statement M
 decode-inner-spec =
     tie.close
     (tie.spec
-    next-block-requires
-    mul-put-inner
-    add-put-inner
-    put-inner-requires
+    stands-within-requires
+    sub-base
+    cast-window-head
+    sub-window-head
+    window-head-requires
+    put-groups-requires
     mark-block-requires
     same-length
     same-length-2
-    returns)
+    returns
+    decode-by-record-requires
+    same-length-3
+    same-length-4
+    returns-2)

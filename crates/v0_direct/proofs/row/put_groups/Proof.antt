@@ -1,0 +1,225 @@
+-- Four groups by position are the residuals that the record reads whole; put one after another, they are the whole block.
+use mathlib.Core.Logic.{⊎-elim}
+use mathlib.Core.Path.{refl, sym, ap, subst, _∙_}
+use Prim.Native.Nat.{_+_, _*_}
+use native.Mathlib.Omega.{arith}
+use denote.Ref.{now}
+use lib.IntN.{pos}
+use lib.ListN.{getD}
+use mir.Syntax.{w32}
+use mir.ValLaws.{toZ-ofZ}
+use borrow.Author.Needs.{needs}
+use Rattle.rules.specs.V0.{sample-kind, apply, order}
+use Rattle.v0_stream.specs.ByWindow.{Group, joined}
+use Rattle.v0_stream.proofs.GroupLaws.{Planned, near, room, end-room, block-made}
+use Rattle.v0_cells.specs.Inner.{inner-ops}
+use Rattle.v0_cells.proofs.InnerLaws.{inner-fits, inner-inside}
+use Rattle.v0_cells.proofs.FourLaws.{fours-put}
+use Rattle.v0_direct.proofs.row.put_groups.Statement.{statement}
+use Rattle.v0_direct.proofs.row.put_groups.Tie as tie
+
+-- Points on the way: the entry, where the bits of each residual are known, and each group once it is put.
+abbrev start : tie.After-residual-length4 → tie.Start
+start c = c .before .before .before .before .before .before .before .before .before .before .before .before
+
+abbrev counted : tie.After-put-four → tie.After-residual-length4
+counted c = c .before .before .before
+
+abbrev first : tie.After-put-four2 → tie.After-put-four
+first c = c .before .before .before .before .before
+
+abbrev second : tie.After-put-four3 → tie.After-put-four2
+second c = c .before .before .before .before .before
+
+abbrev third : tie.After-put-four4 → tie.After-put-four3
+third c = c .before .before .before .before .before
+
+-- The bits of each residual, after a head that stands in the stream.
+planned : (c : tie.After-residual-length4) → (let a = start c .args in
+    Planned (now (a .src)) (a .state) (a .head) (c .before .before .before .before .before .before .residual-length .result) (c .before .before .before .before .residual-length2 .result) (c .before .before .residual-length3 .result) (c .residual-length4 .result))
+planned c =
+    let ls = start c .args .head .lengths in
+    let n₂ = c .before .before in
+    let n₁ = n₂ .before .before in
+    let n₀ = n₁ .before .before in
+    record {
+      opened = start c .pre .1 .0;
+      is₀ = rw (toZ-ofZ w32 (getD ls 0 (pos 0)) (record { sfits = n₀ .before .residual-length-arg .given })) at (n₀ .residual-length .ensures);
+      is₁ = rw (toZ-ofZ w32 (getD ls 1 (pos 0)) (record { sfits = n₁ .before .residual-length-arg2 .given })) at (n₁ .residual-length2 .ensures);
+      is₂ = rw (toZ-ofZ w32 (getD ls 2 (pos 0)) (record { sfits = n₂ .before .residual-length-arg3 .given })) at (n₂ .residual-length3 .ensures);
+      is₃ = rw (toZ-ofZ w32 (getD ls 3 (pos 0)) (record { sfits = c .before .residual-length-arg4 .given })) at (c .residual-length4 .ensures);
+    }
+
+sub-base : tie.Need-sub-base
+sub-base c = search needs
+
+array-copy-out-residual-length : tie.Need-array-copy-out-residual-length
+array-copy-out-residual-length c = search needs
+
+residual-length-requires : tie.Need-residual-length-requires
+residual-length-requires c κs = search needs
+
+array-copy-out-residual-length-2 : tie.Need-array-copy-out-residual-length-2
+array-copy-out-residual-length-2 c = search needs
+
+residual-length-requires-2 : tie.Need-residual-length-requires-2
+residual-length-requires-2 c κs = search needs
+
+array-copy-out-residual-length-3 : tie.Need-array-copy-out-residual-length-3
+array-copy-out-residual-length-3 c = search needs
+
+residual-length-requires-3 : tie.Need-residual-length-requires-3
+residual-length-requires-3 c κs = search needs
+
+array-copy-out-residual-length-4 : tie.Need-array-copy-out-residual-length-4
+array-copy-out-residual-length-4 c = search needs
+
+residual-length-requires-4 : tie.Need-residual-length-requires-4
+residual-length-requires-4 c κs = search needs
+
+cast-q1 : tie.Need-cast-q1
+cast-q1 c = search needs
+
+mul-q1 : tie.Need-mul-q1
+mul-q1 c = search needs
+
+add-q1 : tie.Need-add-q1
+add-q1 c = search needs
+
+cast-q2 : tie.Need-cast-q2
+cast-q2 c = search needs
+
+mul-q2 : tie.Need-mul-q2
+mul-q2 c = search needs
+
+add-q2 : tie.Need-add-q2
+add-q2 c = search needs
+
+cast-q3 : tie.Need-cast-q3
+cast-q3 c = search needs
+
+mul-q3 : tie.Need-mul-q3
+mul-q3 c = search needs
+
+add-q3 : tie.Need-add-q3
+add-q3 c = search needs
+
+mul-at : tie.Need-mul-at
+mul-at c = let a = start c in record { fits = omega (arith, inner-fits (a .args .size) (a .args .row) (a .args .col) (a .pre .0)) }
+
+add-at : tie.Need-add-at
+add-at c = let a = start c in record { fits = omega (arith, inner-fits (a .args .size) (a .args .row) (a .args .col) (a .pre .0)) }
+
+four-at-requires : tie.Need-four-at-requires
+four-at-requires c κs = let x = planned (c .before) in let n = near x in (search needs, (omega arith, (omega arith, room x _ (omega arith))))
+
+four-long-at-requires : tie.Need-four-long-at-requires
+four-long-at-requires c κs = let x = planned (c .before) in let n = near x in (omega arith, (omega arith, (omega arith, room x _ (omega arith))))
+
+put-four-requires : tie.Need-put-four-requires
+put-four-requires c κs = let a = start (c .before .before) in (inner-inside (a .args .size) (a .args .row) (a .args .col) (a .pre .0) _ (search needs), (inner-fits (a .args .size) (a .args .row) (a .args .col) (a .pre .0), omega arith))
+
+four-at-requires-2 : tie.Need-four-at-requires-2
+four-at-requires-2 c κs = let x = planned (counted (c .before .before .before)) in let n = near x in (search needs, (omega arith, (omega arith, room x _ (omega arith))))
+
+four-long-at-requires-2 : tie.Need-four-long-at-requires-2
+four-long-at-requires-2 c κs = let x = planned (counted (c .before .before .before)) in let n = near x in (omega arith, (omega arith, (omega arith, room x _ (omega arith))))
+
+put-four-requires-2 : tie.Need-put-four-requires-2
+put-four-requires-2 c κs = let a = start (counted (c .before .before .before .before)) in (inner-inside (a .args .size) (a .args .row) (a .args .col) (a .pre .0) _ (search needs), (inner-fits (a .args .size) (a .args .row) (a .args .col) (a .pre .0), omega arith))
+
+four-at-requires-3 : tie.Need-four-at-requires-3
+four-at-requires-3 c κs = let x = planned (counted (first (c .before .before .before))) in let n = near x in (search needs, (omega arith, (omega arith, room x _ (omega arith))))
+
+four-long-at-requires-3 : tie.Need-four-long-at-requires-3
+four-long-at-requires-3 c κs = let x = planned (counted (first (c .before .before .before))) in let n = near x in (omega arith, (omega arith, (omega arith, room x _ (omega arith))))
+
+put-four-requires-3 : tie.Need-put-four-requires-3
+put-four-requires-3 c κs = let a = start (counted (first (c .before .before .before .before))) in (inner-inside (a .args .size) (a .args .row) (a .args .col) (a .pre .0) _ (search needs), (inner-fits (a .args .size) (a .args .row) (a .args .col) (a .pre .0), omega arith))
+
+four-at-requires-4 : tie.Need-four-at-requires-4
+four-at-requires-4 c κs = let x = planned (counted (first (second (c .before .before .before)))) in let n = near x in (search needs, (omega arith, (omega arith, room x _ (omega arith))))
+
+four-long-at-requires-4 : tie.Need-four-long-at-requires-4
+four-long-at-requires-4 c κs = let x = planned (counted (first (second (c .before .before .before)))) in let n = near x in (omega arith, (omega arith, (omega arith, room x _ (omega arith))))
+
+put-four-requires-4 : tie.Need-put-four-requires-4
+put-four-requires-4 c κs = let a = start (counted (first (second (c .before .before .before .before)))) in (inner-inside (a .args .size) (a .args .row) (a .args .col) (a .pre .0) _ (search needs), (inner-fits (a .args .size) (a .args .row) (a .args .col) (a .pre .0), omega arith))
+
+cast-state-at : tie.Need-cast-state-at
+cast-state-at c = search needs
+
+mul-state-at : tie.Need-mul-state-at
+mul-state-at c = search needs
+
+add-state-at : tie.Need-add-state-at
+add-state-at c = let x = planned (counted (first (second (third (c .before .before))))) in let n = near x in record { fits = omega arith }
+
+state-at-requires : tie.Need-state-at-requires
+state-at-requires c κs = let x = planned (counted (first (second (third (c .before .before))))) in let n = near x in (omega arith, (omega arith, end-room x _ (omega arith)))
+
+same-length : tie.Need-same-length
+same-length c = search needs
+
+returns : tie.Need-returns
+returns c =
+    let p₄ = c .before .before .before in let p₃ = third p₄ in let p₂ = second p₃ in let p₁ = first p₂ in
+    let i₁ = p₁ .before .before in let i₂ = p₂ .before .before in let i₃ = p₃ .before .before in let i₄ = p₄ .before .before in
+    let a = start (counted p₁) .args in
+    let x = block-made (now (a .src)) (a .state) (a .head) _ _ _ _ (i₁ .if1 .a) (i₂ .if2 .b) (i₃ .if3 .c) (i₄ .if4 .d) _ _
+    (record {
+      plan = planned (counted p₁);
+      first = ⊎-elim (λ w. subst (Group _ _ _ _) (sym (w .2)) (w .1 .ensures)) (λ w. subst (Group _ _ _ _) (sym (w .2)) (w .1 .ensures)) (i₁ .if1 .came);
+      second = ⊎-elim (λ w. subst (Group _ _ _ _) (sym (w .2)) (w .1 .ensures)) (λ w. subst (Group _ _ _ _) (sym (w .2)) (w .1 .ensures)) (i₂ .if2 .came);
+      third = ⊎-elim (λ w. subst (Group _ _ _ _) (sym (w .2)) (w .1 .ensures)) (λ w. subst (Group _ _ _ _) (sym (w .2)) (w .1 .ensures)) (i₃ .if3 .came);
+      fourth = ⊎-elim (λ w. subst (Group _ _ _ _) (sym (w .2)) (w .1 .ensures)) (λ w. subst (Group _ _ _ _) (sym (w .2)) (w .1 .ensures)) (i₄ .if4 .came);
+    })
+    (c .state-at .ensures) refl in (
+      ap (λ y. y .row .bits) x,
+      fours-put sample-kind (a .size .width) (a .row * a .size .width + a .col) (a .head .up) (i₁ .if1 .a) (i₂ .if2 .b) (i₃ .if3 .c) (i₄ .if4 .d)
+          (now (a .out)) (p₁ .put-four .last .0) (p₂ .put-four2 .last .0) (p₃ .put-four3 .last .0) (p₄ .put-four4 .last .0) (p₁ .put-four .ensures) (p₂ .put-four2 .ensures) (p₃ .put-four3 .ensures) (p₄ .put-four4 .ensures)
+          ∙ ap (λ y. apply sample-kind (inner-ops (a .size .width) (a .row * a .size .width + a .col) (a .head .up) order (y .residuals)) (now (a .out))) x,
+    )
+
+pub put-groups-spec : {M : Type 1} → statement M
+put-groups-spec =
+    tie.close
+    (tie.spec
+    sub-base
+    array-copy-out-residual-length
+    residual-length-requires
+    array-copy-out-residual-length-2
+    residual-length-requires-2
+    array-copy-out-residual-length-3
+    residual-length-requires-3
+    array-copy-out-residual-length-4
+    residual-length-requires-4
+    cast-q1
+    mul-q1
+    add-q1
+    cast-q2
+    mul-q2
+    add-q2
+    cast-q3
+    mul-q3
+    add-q3
+    mul-at
+    add-at
+    four-at-requires
+    four-long-at-requires
+    put-four-requires
+    four-at-requires-2
+    four-long-at-requires-2
+    put-four-requires-2
+    four-at-requires-3
+    four-long-at-requires-3
+    put-four-requires-3
+    four-at-requires-4
+    four-long-at-requires-4
+    put-four-requires-4
+    cast-state-at
+    mul-state-at
+    add-state-at
+    state-at-requires
+    same-length
+    returns)
