@@ -12,12 +12,18 @@ use lib.Seq.{drop-cons, take-suc-set, append-snoc, drop-set-lt}
 use borrow.Author.Tests.{lt-ltb, le-ltb}
 use Rattle.rules.specs.V0.{order, fresh-row, blocks-in}
 use Rattle.rules.specs.Phases.{BlockRecord, block-records, row-records, store-samples, store-blocks, direction}
+use Rattle.rules.specs.declared.reader.Bits.{Bits}
 use Rattle.rules.specs.declared.v0.V0Row.{V0Row}
+use Rattle.window.specs.Window.{state-at}
 use Rattle.v0_stream.specs.Block.{with-residuals, whole-block}
 use Rattle.v0_stream.specs.ByWindow.{joined}
 use Rattle.v0_stream.specs.Lengths.{Within, furthest}
 use Rattle.v0_stream.specs.declared.block.ReadBlock.{ReadBlock}
-use Rattle.v0_stream.proofs.HeadLaws.{fresh-within, head-within}
+use Rattle.v0_stream.specs.declared.by_window.WindowHead.{WindowHead}
+use Rattle.v0_stream.proofs.BlockLaws.{block-within}
+use Rattle.v0_stream.proofs.GroupLaws.{ByPosition, block-made}
+use Rattle.v0_stream.proofs.HeadLaws.{fresh-within}
+use Rattle.v0_two_phase.specs.Parsed.{Parsed}
 
 -- ── A block's residuals ──
 
@@ -94,6 +100,30 @@ module _ (w col : ℕ) where
       ∙ store-fours 9 (col + 9) d _ _ f₃ f₄ refl (omega arith) e₄
       ∙ store-none f₄)
 
+  -- So it is where they were read by position: what the record reads of the block, and the state after it.
+  pub groups-stored : (s : List ℕ) (st : V0Row) (h : WindowHead) (n₀ n₁ n₂ n₃ : ℕ) (after : Bits) (a b c d f₀ f₁ f₂ f₃ f₄ : List ℕ) → col + 16 ≤ w
+      → ByPosition s st h n₀ n₁ n₂ n₃ a b c d
+      → after ≡ state-at s (st .bits .pos - 12) (h .q + 4 * n₀ + 4 * n₁ + 4 * n₂ + 4 * n₃) (st .bits .filler)
+      → f₁ ≡ set (set (set (set f₀ col (getD a 0 0)) (col + 2) (getD a 1 0)) (col + 4) (getD a 2 0)) (col + 6) (getD a 3 0)
+      → f₂ ≡ set (set (set (set f₁ (col + 8) (getD b 0 0)) (col + 8 + 2) (getD b 1 0)) (col + 8 + 4) (getD b 2 0)) (col + 8 + 6) (getD b 3 0)
+      → f₃ ≡ set (set (set (set f₂ (col + 1) (getD c 0 0)) (col + 1 + 2) (getD c 1 0)) (col + 1 + 4) (getD c 2 0)) (col + 1 + 6) (getD c 3 0)
+      → f₄ ≡ set (set (set (set f₃ (col + 9) (getD d 0 0)) (col + 9 + 2) (getD d 1 0)) (col + 9 + 4) (getD d 2 0)) (col + 9 + 6) (getD d 3 0)
+      → (after ≡ whole-block s st .row .bits) × (f₄ ≡ store-samples 0 w col order (whole-block s st .residuals) f₀)
+  groups-stored s st h n₀ n₁ n₂ n₃ after a b c d f₀ f₁ f₂ f₃ f₄ l x ea e₁ e₂ e₃ e₄ =
+      let made = block-made s st h n₀ n₁ n₂ n₃ a b c d after (joined a b c d) x ea refl in
+      (ap (λ r. r .row .bits) made, fours-stored a b c d f₀ f₁ f₂ f₃ f₄ l e₁ e₂ e₃ e₄ ∙ ap (λ r. store-samples 0 w col order (r .residuals) f₀) made)
+
+-- ── A block of a row ──
+
+-- A block is parsed once its residuals and its direction are stored.
+pub block-parsed : (s : List ℕ) (st : V0Row) (b : ReadBlock) (w k d : ℕ) (out out′ dirs : List ℕ) → b ≡ whole-block s st
+    → out′ ≡ store-samples 0 w (k * 16) order (b .residuals) out → d ≡ cond (b .up) 1 0 → Parsed s st w k out dirs (b .row) out′ (set dirs k d)
+block-parsed s st b w k d out out′ dirs e eo ed = record {
+  state = ap (λ r. r .row) e;
+  residuals = eo ∙ ap (λ r. store-samples 0 w (k * 16) order (r .residuals) out) e;
+  directions = ap (set dirs k) (ed ∙ ap (λ r. cond (r .up) 1 0) e);
+}
+
 -- ── A row's blocks ──
 
 left-suc : (n k : ℕ) → k < n → n - k ≡ suc (n - (k + 1))
@@ -126,42 +156,40 @@ module _ (s : List ℕ) (w n : ℕ) where
         rest-is = refl;
       }
 
-  blocks-left : (st : V0Row) (b : ReadBlock) (k : ℕ) → k < n → b ≡ whole-block s st
-      → block-records s (n - k) st ≡ record { up = b .up; residuals = b .residuals } ∷ block-records s (n - (k + 1)) (b .row)
+  blocks-left : (st : V0Row) (k : ℕ) → k < n → block-records s (n - k) st
+      ≡ record { up = whole-block s st .up; residuals = whole-block s st .residuals } ∷ block-records s (n - (k + 1)) (whole-block s st .row)
   unfolding block-records whole-block with-residuals
-  blocks-left st b k h e = rw (left-suc n k h, e)
+  blocks-left st k h = rw (left-suc n k h)
 
-  row-near : (st : V0Row) (b : ReadBlock) (k : ℕ) → b ≡ whole-block s st → Within (15 + k) (st .lengths) → Within (15 + (k + 1)) (b .row .lengths)
-  unfolding whole-block with-residuals
-  row-near st b k e near =
-      let more : 15 + (k + 1) ≡ suc (15 + k) = omega arith in
-      rw (more, e) (head-within s st (15 + k) (omega arith) near)
-
-  pub parsing-on : (st₀ st : V0Row) (out₀ out out′ dirs₀ dirs : List ℕ) (k d : ℕ) (b : ReadBlock) → k < n → n ≤ length dirs
-      → b ≡ whole-block s st → d ≡ cond (b .up) 1 0 → length out′ ≡ length out → out′ ≡ store-samples 0 w (k * 16) order (b .residuals) out
-      → Parsing s w n st₀ st out₀ out dirs₀ dirs k → Parsing s w n st₀ (b .row) out₀ out′ dirs₀ (set dirs k d) (k + 1)
+  pub parsing-on : (st₀ st st′ : V0Row) (out₀ out out′ dirs₀ dirs dirs′ : List ℕ) (k : ℕ) → k < n → n ≤ length dirs → length out′ ≡ length out
+      → Parsed s st w k out dirs st′ out′ dirs′ → Parsing s w n st₀ st out₀ out dirs₀ dirs k → Parsing s w n st₀ st′ out₀ out′ dirs₀ dirs′ (k + 1)
   unfolding store-blocks
-  parsing-on st₀ st out₀ out out′ dirs₀ dirs k d b h enough eb ed same eo g =
-      record {
+  parsing-on st₀ st st′ out₀ out out′ dirs₀ dirs dirs′ k h enough same x g =
+      let more : 15 + (k + 1) ≡ suc (15 + k) = omega arith in
+      rw (x .state, x .directions)
+      (record {
         below = omega arith;
         same-samples = same ∙ g .same-samples;
         same-dirs = length-set dirs k d ∙ g .same-dirs;
-        near = row-near st b k eb (g .near);
+        near = rw more (block-within s st (15 + k) (omega arith) (g .near));
         cells-are = sym samples-left ∙ g .cells-are;
         dirs-are = ap (λ xs. xs ++ map direction rest) taken ∙ append-snoc (take k dirs) d (map direction rest) ∙ sym dirs-left ∙ g .dirs-are;
         rest-is = drop-set-lt n dirs k d h ∙ g .rest-is;
-      }
+      })
     where
+      d : ℕ
+      d = cond (whole-block s st .up) 1 0
+
       rest : List BlockRecord
-      rest = block-records s (n - (k + 1)) (b .row)
+      rest = block-records s (n - (k + 1)) (whole-block s st .row)
 
       samples-left : store-blocks 0 w (k * 16) (block-records s (n - k) st) out ≡ store-blocks 0 w ((k + 1) * 16) rest out′
       samples-left =
           let next : (k + 1) * 16 ≡ k * 16 + 16 = omega arith in
-          rw (blocks-left st b k h eb, next, eo)
+          rw (blocks-left st k h, next, x .residuals)
 
       dirs-left : take k dirs ++ map direction (block-records s (n - k) st) ≡ take k dirs ++ (d ∷ map direction rest)
-      dirs-left = rw (blocks-left st b k h eb, ed)
+      dirs-left = rw (blocks-left st k h)
 
       taken : take (k + 1) (set dirs k d) ≡ take k dirs ++ (d ∷ [])
       taken = rw (add-one k) (take-suc-set dirs k d (omega arith))

@@ -9,20 +9,20 @@ ghost use Rattle.rules.specs.V0.{order, blocks-in};
 ghost use Rattle.rules.specs.Answer.{scratch-bytes};
 ghost use Rattle.rules.specs.Phases.{store-samples, store-blocks, row-records, direction, phase-one, scratch};
 ghost use Rattle.v0_stream.specs.Block.{whole-block};
-ghost use Rattle.v0_stream.specs.Lengths.{Within, furthest};
-ghost use Rattle.v0_two_phase.specs.Lent.{RowLent, PhaseLent};
+ghost use Rattle.v0_stream.specs.ByWindow.{Opened};
+ghost use Rattle.v0_two_phase.specs.Lent.{RowLent, BlockLent, PhaseLent};
+ghost use Rattle.v0_two_phase.specs.Parsed.{Parsed};
+use rules::Bits;
 use rules::Size;
 use rules::V0Row;
-use v0_stream::block::ReadBlock;
+use v0_stream::block::read_block;
 use v0_stream::block::residual_length;
-use v0_stream::by_window::BLOCK_BYTES;
+use v0_stream::by_window::WindowHead;
 use v0_stream::by_window::four_at;
 use v0_stream::by_window::four_long_at;
-use v0_stream::by_window::join;
-use v0_stream::by_window::read_by_record;
-use v0_stream::by_window::window_head;
+use v0_stream::by_window::plain_head;
+use v0_stream::by_window::stands_within;
 use v0_stream::order::stream_column;
-use window::stands;
 use window::state_at;
 
 // A block's direction as a byte.
@@ -91,56 +91,105 @@ fn store_four(out: &mut [u16], i: usize, four: [u16; 4])
     out[i + 6] = four[3];
 }
 
-// A block as `read_block` gives it whole, by windows where the record stands in the stream. Each decoder has its own: the compiler
-// keeps a block in registers only in a function that is called once.
-fn next_block(src: &[u8], row: V0Row) -> ReadBlock
-    requires { ⌜ Within furthest (row .lengths) ⌝ }
-    ensures { λ r. ⌜ r ≡ whole-block (now (src .entry)) row ⌝ }
+// The residuals after a head that was read by position, to the block at a column within its row. Each group is stored as it is read,
+// so that few registers hold a block; the four ways stand written out, since the compiler calls a function that would join them.
+fn store_groups(
+    src: &[u8],
+    row: V0Row,
+    head: WindowHead,
+    out: &mut [u16],
+    width: usize,
+    col: usize,
+) -> Bits
+    requires { ⌜ Opened (now src) row head × ((width ≤ length (now out)) × ((col + 16 ≤ width) × (width ≤ 16_384))) ⌝ }
+    ensures { λ r. ⌜ r ≡ whole-block (now (src .entry)) row .row .bits ⌝ }
+    ensures { λ _. ⌜ now (out .exit) ≡ store-samples 0 width col order (whole-block (now (src .entry)) row .residuals) (now (out .entry)) ⌝ }
+{
+    let start = row.bits;
+    let base = start.pos as usize - 12;
+    let lengths = head.lengths;
+    let n0 = residual_length(lengths[0]);
+    let n1 = residual_length(lengths[1]);
+    let n2 = residual_length(lengths[2]);
+    let n3 = residual_length(lengths[3]);
+    let q0 = head.q;
+    let q1 = q0 + 4 * n0 as usize;
+    let q2 = q1 + 4 * n1 as usize;
+    let q3 = q2 + 4 * n2 as usize;
+    let a = if n0 <= 16 {
+        four_at(src, base, q0, n0)
+    } else {
+        four_long_at(src, base, q0, n0)
+    };
+    store_four(out, col, a);
+    let b = if n1 <= 16 {
+        four_at(src, base, q1, n1)
+    } else {
+        four_long_at(src, base, q1, n1)
+    };
+    store_four(out, col + 8, b);
+    let c = if n2 <= 16 {
+        four_at(src, base, q2, n2)
+    } else {
+        four_long_at(src, base, q2, n2)
+    };
+    store_four(out, col + 1, c);
+    let d = if n3 <= 16 {
+        four_at(src, base, q3, n3)
+    } else {
+        four_long_at(src, base, q3, n3)
+    };
+    store_four(out, col + 9, d);
+    state_at(src, base, q3 + 4 * n3 as usize, start.filler)
+}
+
+// Block k of a row by the record, whatever its state.
+fn parse_by_record(
+    src: &[u8],
+    row: V0Row,
+    width: usize,
+    k: usize,
+    out: &mut [u16],
+    dirs: &mut [u8],
+) -> V0Row
+    requires { ⌜ BlockLent width k (row .lengths) (now out) (now dirs) ⌝ }
+    ensures { λ r. ⌜ Parsed (now (src .entry)) row width k (now (out .entry)) (now (dirs .entry)) r (now (out .exit)) (now (dirs .exit)) ⌝ }
+{
+    let block = read_block(src, row, true);
+    dirs[k] = direction_byte(block.up);
+    let residuals = block.residuals;
+    store_residuals(out, width, k * V0Row::BLOCK, residuals);
+    block.row
+}
+
+// Block k of a row: its residuals and its direction, by windows where it lies within the row, its lengths are plain, and the record
+// stands in the stream.
+fn parse_block(
+    src: &[u8],
+    row: V0Row,
+    width: usize,
+    k: usize,
+    out: &mut [u16],
+    dirs: &mut [u8],
+) -> V0Row
+    requires { ⌜ BlockLent width k (row .lengths) (now out) (now dirs) ⌝ }
+    ensures { λ r. ⌜ Parsed (now (src .entry)) row width k (now (out .entry)) (now (dirs .entry)) r (now (out .exit)) (now (dirs .exit)) ⌝ }
 {
     let bits = row.bits;
-    let lengths = row.lengths;
-    if stands(src, bits, BLOCK_BYTES) {
-        let base = bits.pos as usize - 4;
-        let head = window_head(src, base, 32 - bits.count as usize, lengths);
-        let after = head.lengths;
-        let n0 = residual_length(after[0]);
-        let n1 = residual_length(after[1]);
-        let n2 = residual_length(after[2]);
-        let n3 = residual_length(after[3]);
-        let q0 = head.q;
-        let q1 = q0 + 4 * n0 as usize;
-        let q2 = q1 + 4 * n1 as usize;
-        let q3 = q2 + 4 * n2 as usize;
-        let a = if n0 <= 16 {
-            four_at(src, base, q0, n0)
-        } else {
-            four_long_at(src, base, q0, n0)
-        };
-        let b = if n1 <= 16 {
-            four_at(src, base, q1, n1)
-        } else {
-            four_long_at(src, base, q1, n1)
-        };
-        let c = if n2 <= 16 {
-            four_at(src, base, q2, n2)
-        } else {
-            four_long_at(src, base, q2, n2)
-        };
-        let d = if n3 <= 16 {
-            four_at(src, base, q3, n3)
-        } else {
-            four_long_at(src, base, q3, n3)
-        };
-        return ReadBlock {
-            up: head.up,
-            row: V0Row {
-                lengths: after,
-                bits: state_at(src, base, q3 + 4 * n3 as usize, bits.filler),
-            },
-            residuals: join(a, b, c, d),
-        };
+    let before = row.lengths;
+    let col = k * V0Row::BLOCK;
+    if col + V0Row::BLOCK <= width && stands_within(src, bits) {
+        let base = bits.pos as usize - 12;
+        let x = plain_head(src, base, 96 - bits.count as usize, before);
+        if x.plain {
+            let head = x.head;
+            let end = store_groups(src, row, head, out, width, col);
+            dirs[k] = direction_byte(head.up);
+            let lengths = head.lengths;
+            return V0Row { lengths, bits: end };
+        }
     }
-    read_by_record(src, lengths, bits)
+    parse_by_record(src, row, width, k, out, dirs)
 }
 
 // A row from row 2 on, whose first sample is the first of `out`, and its first block's direction the first of `dirs`.
@@ -153,11 +202,7 @@ pub fn parse_v0_residuals(src: &[u8], offset: u32, width: usize, out: &mut [u16]
     let mut row = V0Row::fresh(2, offset);
     let mut k: usize = 0;
     while k < blocks {
-        let block = next_block(src, row);
-        dirs[k] = direction_byte(block.up);
-        let residuals = block.residuals;
-        store_residuals(out, width, k * V0Row::BLOCK, residuals);
-        row = block.row;
+        row = parse_block(src, row, width, k, &mut out[..], &mut dirs[..]);
         k += 1;
     }
 }

@@ -2,6 +2,7 @@
 use Prim.Native.Nat.{_-_}
 use native.Mathlib.Omega.{arith}
 use borrow.Author.Needs.{needs}
+use Rattle.v0_two_phase.specs.Lent.{RowLent}
 use Rattle.v0_two_phase.proofs.ResidualLaws.{Parsing, parsing-begun, near-enough, parsing-on, parsing-done}
 use Rattle.v0_two_phase.proofs.residuals.parse_v0_residuals.Statement.{statement}
 use Rattle.v0_two_phase.proofs.residuals.parse_v0_residuals.Tie as tie
@@ -12,6 +13,22 @@ Inv-loop src offset width out₀ dirs₀ blocks row₀ k₀ out dirs row k = Par
 abbrev μ-loop : tie.MeasureT-loop
 μ-loop src offset width out₀ dirs₀ blocks row₀ k₀ out dirs row k = blocks - k
 
+-- Points on the way: the entry, and the turn's start.
+abbrev start : tie.After-blocks-in Inv-loop μ-loop → tie.Start Inv-loop μ-loop
+start c = c .before .before .before .before
+
+abbrev entry : tie.At-loop Inv-loop μ-loop → tie.Start Inv-loop μ-loop
+entry c = start (c .before .before)
+
+abbrev at-loop : tie.After-parse-block Inv-loop μ-loop → tie.At-loop Inv-loop μ-loop
+at-loop c = c .before .before .before .before
+
+-- What the row was lent it has at each turn.
+lent : (c : tie.At-loop Inv-loop μ-loop) → RowLent (entry c .args .width) (c .loop .out) (c .loop .dirs)
+lent c =
+    let l = entry c .pre in let i = c .loop .inv in
+    record { width = l .width; samples-lent = omega (arith, i .same-samples, l .samples-lent); directions-lent = omega (arith, i .same-dirs, l .directions-lent) }
+
 blocks-in-requires : tie.Need-blocks-in-requires Inv-loop μ-loop
 blocks-in-requires c κs = search needs
 
@@ -21,20 +38,10 @@ fresh-requires c κs = search needs
 loop-holds : tie.Need-loop-holds Inv-loop μ-loop
 loop-holds c = parsing-begun _ _ _ _ _ _ _ (c .fresh .ensures)
 
-next-block-requires : tie.Need-next-block-requires Inv-loop μ-loop
-next-block-requires c κs = near-enough _ (c .before .loop .k) (omega arith) (c .before .loop .inv .near)
-
-direction-byte-requires : tie.Need-direction-byte-requires Inv-loop μ-loop
-direction-byte-requires c κs = search needs
-
-slice-write-dirs : tie.Need-slice-write-dirs Inv-loop μ-loop
-slice-write-dirs c = search needs
-
-mul-store-residuals : tie.Need-mul-store-residuals Inv-loop μ-loop
-mul-store-residuals c = search needs
-
-store-residuals-requires : tie.Need-store-residuals-requires Inv-loop μ-loop
-store-residuals-requires c κs = (omega (arith, c .before .before .before .before .before .loop .inv .same-samples, c .before .before .before .before .before .before .before .before .before .before .before .pre .samples-lent), omega arith)
+parse-block-requires : tie.Need-parse-block-requires Inv-loop μ-loop
+parse-block-requires c κs =
+    let x = c .before .before .before in
+    record { near = near-enough _ (x .loop .k) (omega arith) (x .loop .inv .near); row = lent x; block-in = search needs }
 
 add-k : tie.Need-add-k Inv-loop μ-loop
 add-k c = search needs
@@ -43,7 +50,10 @@ loop-less : tie.Need-loop-less Inv-loop μ-loop
 loop-less c = search needs
 
 loop-again : tie.Need-loop-again Inv-loop μ-loop
-loop-again c = parsing-on _ _ _ _ _ _ _ _ _ _ _ _ _ (search needs) (omega (arith, c .before .before .before .before .before .before .before .before .before .loop .inv .same-dirs, c .before .before .before .before .before .before .before .before .before .before .before .before .before .before .before .pre .directions-lent)) (c .before .before .before .before .before .before .before .next-block .ensures) (c .before .before .before .before .before .before .direction-byte .ensures) (c .before .before .before .store-residuals .kept .0) (c .before .before .before .store-residuals .ensures) (c .before .before .before .before .before .before .before .before .before .loop .inv)
+loop-again c =
+    let x = c .before .before .before .before in let l = at-loop x in
+    parsing-on _ _ _ _ _ _ _ _ _ _ _ _ _ (search needs) (omega (arith, lent l .directions-lent)) (x .parse-block .kept .1 .1 .1 .1 .0)
+    (x .parse-block .ensures) (l .loop .inv)
 
 same-length : tie.Need-same-length Inv-loop μ-loop
 same-length c = search needs
@@ -63,11 +73,7 @@ parse-v0-residuals-spec =
     blocks-in-requires
     fresh-requires
     loop-holds
-    next-block-requires
-    direction-byte-requires
-    slice-write-dirs
-    mul-store-residuals
-    store-residuals-requires
+    parse-block-requires
     add-k
     loop-less
     loop-again
