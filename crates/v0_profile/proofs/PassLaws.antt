@@ -48,18 +48,18 @@ four-each ls = omega arith
 
 -- A head by position, and the record as many bits after it as the residuals have: what the record that reads the block leaves.
 pub passed : (s : List ℕ) (st : V0Row) (h : WindowHead) (n₀ n₁ n₂ n₃ : ℕ) (after : Bits) → Planned s st h n₀ n₁ n₂ n₃
-    → after ≡ state-at s (st .bits .pos - 4) (h .q + 4 * (n₀ + n₁ + n₂ + n₃)) (st .bits .filler)
+    → after ≡ state-at s (st .bits .pos - 12) (h .q + 4 * (n₀ + n₁ + n₂ + n₃)) (st .bits .filler)
     → _≡_ {A = V0Head} (record { up = h .up; row = record { lengths = h .lengths; bits = after } }) (record { up = whole-block s st .up; row = whole-block s st .row })
 unfolding whole-block with-residuals
 passed s st h n₀ n₁ n₂ n₃ after x ea =
-    let base : ℕ = st .bits .pos - 4 in
+    let base : ℕ = st .bits .pos - 12 in
     let f : ℕ = st .bits .filler in
     let n = near x in
-    let there : base + 76 ≤ length s = x .stands .there in
-    let far : base + 76 < 2 ^ 64 = x .far in
+    let there : base + 84 ≤ length s = x .opened .stands .there in
+    let far : base + 84 < 2 ^ 64 = x .opened .stands .far in
     let y : V0Head = record { up = h .up; row = record { lengths = h .lengths; bits = state-at s base (h .q) f } } in
-    let stood : record { lengths = st .lengths; bits = state-at s base (32 - st .bits .count) f } ≡ st
-    = ap (λ (z : Bits). record { lengths = st .lengths; bits = z }) (sym (x .stands .is)) in
-    let read : y ≡ head s st = sym (x .head-at .reads f) ∙ ap (head s) stood in
+    let stood : record { lengths = st .lengths; bits = state-at s base (96 - st .bits .count) f } ≡ st
+    = ap (λ (z : Bits). record { lengths = st .lengths; bits = z }) (sym (x .opened .stands .is)) in
+    let read : y ≡ head s st = sym (x .opened .head-at .reads f) ∙ ap (head s) stood in
     let bits : bits-of (h .lengths) order ≡ 4 * (n₀ + n₁ + n₂ + n₃) = four-each (h .lengths) ∙ rw (x .is₀, x .is₁, x .is₂, x .is₃) in
-    rw (ea, ← read, residuals-leave s (h .lengths) order base (h .q) f (n .0) (omega (arith, bits)) (omega (arith, bits)), bits)
+    rw (ea, ← read, residuals-leave s (h .lengths) order base (h .q) f (omega arith) (omega (arith, bits)) (omega (arith, bits)), bits)

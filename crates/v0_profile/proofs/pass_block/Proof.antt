@@ -1,7 +1,6 @@
 -- Where the record stands the head tells how many bits the residuals have, and so where the record that reads them would stand after
 -- them; else the record reads them.
-use mathlib.Core.Path.{sym, ap, _∙_}
-use Prim.Native.Nat.{_+_, _-_, _<_, _^_}
+use mathlib.Core.Path.{ap}
 use native.Mathlib.Omega.{arith}
 use denote.Ref.{now}
 use lib.IntN.{pos}
@@ -9,8 +8,7 @@ use lib.ListN.{getD}
 use mir.Syntax.{w32}
 use mir.ValLaws.{toZ-ofZ}
 use borrow.Author.Needs.{needs}
-use Rattle.window.specs.Window.{Stands}
-use Rattle.window.proofs.WindowLaws.{stands-is}
+use Rattle.v0_stream.specs.ByWindow.{Standing}
 use Rattle.v0_stream.proofs.GroupLaws.{Planned, near, end-room}
 use Rattle.v0_profile.proofs.PassLaws.{passed}
 use Rattle.v0_profile.proofs.pass_block.Statement.{statement}
@@ -30,46 +28,41 @@ abbrev headed : tie.After-residual-length4 → tie.After-window-head
 headed c = counted (c .before .before) .before .before .before
 
 -- The record stands in the stream.
-stood : (c : tie.Then1) → Stands (now (start c .args .src)) (start c .args .state .bits) 76 × (start c .args .state .bits .pos - 4 + 76 < 2 ^ 64)
-stood c =
-    let a = start c .args in
-    let x = stands-is (now (a .src)) (a .state .bits) 76 (sym (c .before .stands .ensures) ∙ c .if1 .taken) in
-    let there = x .there in
-    (x, omega arith)
+stood : (c : tie.Then1) → Standing (now (start c .args .src)) (start c .args .state .bits)
+stood c = c .before .stands-within .ensures (c .if1 .taken)
 
 -- Its head is read, and the bits of each residual are known.
 planned : (c : tie.After-residual-length4) → (let a = start (standing (headed c)) .args in
     Planned (now (a .src)) (a .state) (headed c .window-head .result) (counted (c .before .before) .residual-length .result) (c .before .before .before .before .residual-length2 .result) (c .before .before .residual-length3 .result) (c .residual-length4 .result))
 planned c =
-    let x = stood (standing (headed c)) in
     let ls = headed c .window-head .result .lengths in
     let third = c .before .before in
     let second = third .before .before in
     let first = second .before .before in
     record {
-      stands = x .0;
-      far = x .1;
-      head-at = headed c .window-head .ensures;
+      opened = record { stands = stood (standing (headed c)); head-at = headed c .window-head .ensures };
       is₀ = rw (toZ-ofZ w32 (getD ls 0 (pos 0)) (record { sfits = first .before .residual-length-arg .given })) at (first .residual-length .ensures);
       is₁ = rw (toZ-ofZ w32 (getD ls 1 (pos 0)) (record { sfits = second .before .residual-length-arg2 .given })) at (second .residual-length2 .ensures);
       is₂ = rw (toZ-ofZ w32 (getD ls 2 (pos 0)) (record { sfits = third .before .residual-length-arg3 .given })) at (third .residual-length3 .ensures);
       is₃ = rw (toZ-ofZ w32 (getD ls 3 (pos 0)) (record { sfits = c .before .residual-length-arg4 .given })) at (c .residual-length4 .ensures);
     }
 
-stands-requires : tie.Need-stands-requires
-stands-requires c κs = search needs
+stands-within-requires : tie.Need-stands-within-requires
+stands-within-requires c κs = search needs
 
 sub-base : tie.Need-sub-base
-sub-base c = stood c .0 .fetched
+sub-base c = stood c .fetched
 
 cast-window-head : tie.Need-cast-window-head
 cast-window-head c = search needs
 
 sub-window-head : tie.Need-sub-window-head
-sub-window-head c = let few = stood (c .before) .0 .few in omega arith
+sub-window-head c = let few = stood (c .before) .few in omega arith
 
 window-head-requires : tie.Need-window-head-requires
-window-head-requires c κs = let x = stood (c .before) in let few = x .0 .few in (record { some = omega arith; soon = omega arith; there = x .0 .there; far = x .1 }, start (c .before) .pre)
+window-head-requires c κs =
+    let x = stood (c .before) in let few = x .few in let there = x .there in let far = x .far in
+    (record { some = omega arith; soon = omega arith; there = omega arith; far = omega arith }, start (c .before) .pre)
 
 array-copy-out-residual-length : tie.Need-array-copy-out-residual-length
 array-copy-out-residual-length c = search needs
@@ -129,7 +122,7 @@ pub pass-block-spec : {M : Type 1} → statement M
 pass-block-spec =
     tie.close
     (tie.spec
-    stands-requires
+    stands-within-requires
     sub-base
     cast-window-head
     sub-window-head
