@@ -1,11 +1,11 @@
 // Step 5 of a block: its differences.
+ghost use mathlib.Core.Bool.{true};
 ghost use mathlib.Core.Path.{_≡_};
 ghost use Prim.Native.Nat.{_+_, _<_};
 ghost use lib.IntN.{pos};
 ghost use lib.ListN.{getD, set};
 ghost use Rattle.rules.specs.V2.{differences-from};
-ghost use Rattle.window.specs.Window.{Stands};
-ghost use Rattle.v2_stream.specs.Four.{Short, short};
+ghost use Rattle.v2_stream.specs.Four.{Standing, Short, short};
 ghost use Rattle.v2_stream.specs.Pairs.{signed-pair};
 ghost use Rattle.v2_stream.specs.Positions.{row-positions, positions};
 use super::four::four_at;
@@ -95,6 +95,17 @@ fn by_pairs(src: &[u8], row: usize, lengths: [u32; 4], bits: Bits, values: &mut 
 // takes three words.
 const REACH: usize = 40;
 
+// Whether a state stands in the stream with room for the windows, and with two words before the one fetched last: a window that ends
+// with four differences may begin in them.
+fn stands_within(src: &[u8], bits: Bits) -> bool
+    ensures { λ r. ⌜ (r ≡ true → Standing (now (src .entry)) bits) ⌝ }
+{
+    if bits.pos < 12 {
+        return false;
+    }
+    stands(src, bits, REACH)
+}
+
 // Four differences to position p and every other one after it.
 fn store_four(values: &mut [i32; 16], p: usize, four: [i32; 4])
     requires { ⌜ p + 6 < 16 ⌝ }
@@ -107,14 +118,14 @@ fn store_four(values: &mut [i32; 16], p: usize, four: [i32; 4])
 }
 
 // The sixteen differences out of four windows, where the state stands in the stream: no read asks whether a word is left, and the
-// state is made again at the end.
+// state is made again at the end. Bits are counted from two words before the one fetched last.
 fn by_windows(src: &[u8], row: usize, lengths: [u32; 4], bits: Bits, values: &mut [i32; 16]) -> Bits
-    requires { ⌜ Stands (now src) bits 40 × Short lengths ⌝ }
+    requires { ⌜ Standing (now src) bits × Short lengths ⌝ }
     ensures { λ r. ⌜ record { values = now (values .exit); bits = r } ≡ differences-from (now (src .entry)) row lengths 16 0 (record { values = now (values .entry); bits = bits }) ⌝ }
 {
     let positions = positions_of(row);
-    let base = bits.pos as usize - 4;
-    let mut q = 32 - bits.count as usize;
+    let base = bits.pos as usize - 12;
+    let mut q = 96 - bits.count as usize;
     let mut j: usize = 0;
     while j < 4 {
         let n = lengths[j];
@@ -152,7 +163,7 @@ pub fn block_differences(
 ) -> Bits
     ensures { λ r. ⌜ record { values = now (values .exit); bits = r } ≡ differences-from (now (src .entry)) row lengths 16 0 (record { values = now (values .entry); bits = bits }) ⌝ }
 {
-    if are_short(lengths) && stands(src, bits, REACH) {
+    if are_short(lengths) && stands_within(src, bits) {
         return by_windows(src, row, lengths, bits, values);
     }
     by_pairs(src, row, lengths, bits, values)

@@ -1,7 +1,6 @@
 -- Either way is the rule; the windows are taken where what they ask for is tested.
 use mathlib.Core.Path.{sym, _∙_}
 use borrow.Author.Needs.{needs}
-use Rattle.window.proofs.WindowLaws.{stands-is}
 use Rattle.v2_stream.proofs.FourLaws.{short-is}
 use Rattle.v2_stream.proofs.differences.block_differences.Statement.{statement}
 use Rattle.v2_stream.proofs.differences.block_differences.Tie as tie
@@ -9,11 +8,11 @@ use Rattle.v2_stream.proofs.differences.block_differences.Tie as tie
 are-short-requires : tie.Need-are-short-requires
 are-short-requires c κs = search needs
 
-stands-requires : tie.Need-stands-requires
-stands-requires c κs = search needs
+stands-within-requires : tie.Need-stands-within-requires
+stands-within-requires c κs = search needs
 
 by-windows-requires : tie.Need-by-windows-requires
-by-windows-requires c κs = (stands-is _ _ _ (sym (c .before .before .stands .ensures) ∙ c .before .if2 .taken), short-is _ (sym (c .before .before .before .before .are-short .ensures) ∙ c .before .before .before .if1 .taken))
+by-windows-requires c κs = (c .before .before .stands-within .ensures (c .before .if2 .taken), short-is _ (sym (c .before .before .before .before .are-short .ensures) ∙ c .before .before .before .if1 .taken))
 
 returns : tie.Need-returns
 returns c = search needs
@@ -29,7 +28,7 @@ block-differences-spec =
     tie.close
     (tie.spec
     are-short-requires
-    stands-requires
+    stands-within-requires
     by-windows-requires
     returns
     by-pairs-requires

@@ -46,7 +46,10 @@ first : (c : tie.In-loop Inv-loop μ-loop) → getD (c .before .before .before .
 first c = position-at _ (4 * c .before .loop .j) _ (c .before .before .before .positions-of .ensures) (omega (arith, c .loop-test .taken)) .0
 
 four-at-requires : tie.Need-four-at-requires Inv-loop μ-loop
-four-at-requires c κs = (small c, omega (arith, c .before .before .before .before .before .pre .0 .there, c .before .loop .inv .soon, c .loop-test .taken))
+four-at-requires c κs =
+    let l = c .before .loop .inv in
+    let there = c .before .before .before .before .before .pre .0 .there in
+    (small c, omega (arith, small c, there, l .late, l .soon, c .loop-test .taken))
 
 mul-store-four : tie.Need-mul-store-four Inv-loop μ-loop
 mul-store-four c = search needs
@@ -87,7 +90,7 @@ state-at-requires : tie.Need-state-at-requires Inv-loop μ-loop
 state-at-requires c κs =
     let l = c .before .loop .inv in
     let there = c .before .before .before .before .before .pre .0 .there in
-    (l .some, (omega (arith, l .within, l .soon), omega (arith, there, l .within, l .soon)))
+    (omega (arith, l .late), (omega (arith, l .within, l .soon), omega (arith, there, l .within, l .soon)))
 
 returns : tie.Need-returns Inv-loop μ-loop
 returns c =
