@@ -1,5 +1,5 @@
 -- Reading by position is reading by the record: `read-at` says so of one read, `leaves` of the record after one that need not be
--- known, `fields-at` of several. `cut-at` cuts fields out of more bits, `window-is` makes 64 bits of three words, and `fields-top`
+-- known, `fields-at` of several. `cut-at` cuts fields out of more bits, `window-is` makes 64 bits of three words, and `fields-end`
 -- cuts these into four.
 use mathlib.Core.Path.{_≡_, refl, sym, ap, subst, _∙_}
 use mathlib.Core.Bool.{Bool, true, false, _&&_}
@@ -308,25 +308,8 @@ pub in-window : (s : List ℕ) (base q v a k c : ℕ) → Window s base q v → 
 in-window s base q v a k c w e =
     ap (λ (x : ℕ). x / 2 ^ c % 2 ^ k) (w .is) ∙ ap (λ (x : ℕ). bits-from s base q x / 2 ^ c % 2 ^ k) (sym e) ∙ cut-at s base q a k c
 
--- Four fields of n bits each from the top of a window: each is cut after those behind it are moved out.
+-- Four fields of n bits each up to the end of a window: each is cut after those behind it are moved out.
 module _ (s : List ℕ) (base q v : ℕ) (w : Window s base q v) where
-  pub fields-top : (n c : ℕ) → 4 * n + c ≡ 64
-      → (v / 2 ^ c / 2 ^ n / 2 ^ n / 2 ^ n % 2 ^ n ≡ bits-from s base q n)
-      × ((v / 2 ^ c / 2 ^ n / 2 ^ n % 2 ^ n ≡ bits-from s base (q + n) n)
-      × ((v / 2 ^ c / 2 ^ n % 2 ^ n ≡ bits-from s base (q + 2 * n) n) × (v / 2 ^ c % 2 ^ n ≡ bits-from s base (q + 3 * n) n)))
-  fields-top n c e =
-      let two : v / 2 ^ c / 2 ^ n ≡ v / 2 ^ (c + n) = shr-shr v c n in
-      let one : v / 2 ^ (c + n) / 2 ^ n ≡ v / 2 ^ (c + n + n) = shr-shr v (c + n) n in
-      let none : v / 2 ^ (c + n + n) / 2 ^ n ≡ v / 2 ^ (c + n + n + n) = shr-shr v (c + n + n) n in
-      let z : q + 0 ≡ q = omega arith in (
-        rw (two, one, none) (in-window s base q v 0 n (c + n + n + n) w (omega arith) ∙ rw z),
-        (
-          rw (two, one) (in-window s base q v n n (c + n + n) w (omega arith)),
-          (rw two (in-window s base q v (2 * n) n (c + n) w (omega arith)), in-window s base q v (3 * n) n c w (omega arith)),
-        ),
-      )
-
-  -- The same of a window that ends with them.
   pub fields-end : (n a : ℕ) → a + 4 * n ≡ 64
       → (v / 2 ^ n / 2 ^ n / 2 ^ n % 2 ^ n ≡ bits-from s base (q + a) n)
       × ((v / 2 ^ n / 2 ^ n % 2 ^ n ≡ bits-from s base (q + a + n) n)
@@ -347,7 +330,7 @@ module _ (s : List ℕ) (base q v : ℕ) (w : Window s base q v) where
         ),
       )
 
-  -- The same of two fields.
+  -- Two from the top of a window.
   pub pair-top : (n c : ℕ) → 2 * n + c ≡ 64 → (v / 2 ^ c / 2 ^ n % 2 ^ n ≡ bits-from s base q n) × (v / 2 ^ c % 2 ^ n ≡ bits-from s base (q + n) n)
   pair-top n c e =
       let one : v / 2 ^ c / 2 ^ n ≡ v / 2 ^ (c + n) = shr-shr v c n in
