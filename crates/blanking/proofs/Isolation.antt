@@ -6,8 +6,8 @@
 -- other, or none as the other, and is done. Then both answer the same, leave the same N samples and list the same runs, whatever
 -- came before, whatever the buffers first held, and whatever lies past the frame in what they are lent.
 use Prim.Native.Nat.{ℕ, _*_, _<_, _≤_}
-use mathlib.Core.Path.{_≡_, refl, sym, ap, ap₂, _∙_, subst}
-use mathlib.Core.Bool.{Bool, true, false, cond}
+use mathlib.Core.Path.{_≡_, sym, ap, ap₂, _∙_, subst}
+use mathlib.Core.Bool.{false}
 use mathlib.Core.List.{List, _++_}
 use mathlib.Core.Option.{some}
 use native.Mathlib.Omega.{arith}
@@ -23,8 +23,8 @@ use Rattle.rules.proofs.Cells.{all-append, all-take, all-drop}
 use Rattle.rules.proofs.Isolation.{Returned, Samples, Step, Calls, Alike, Ran, Same, isolation, mark-of}
 use Rattle.rules.proofs.Tests.{by-test}
 use Rattle.blanking.specs.declared.Blanked.{Blanked}
-use Rattle.blanking.specs.Blanking.{Fill, marked, bad-map, count, blanked, runs-of, numbers}
-use Rattle.blanking.specs.Calls.{Call, frame-of, marks-of, found, short-runs, refusal, refused, blanked-done, blank-answer, unless-refused, samples-after, runs-after, Yields}
+use Rattle.blanking.specs.Blanking.{Fill, marked, count, blanked, runs-of, numbers}
+use Rattle.blanking.specs.Calls.{Call, frame-of, marks-of, found, refusal, blanked-done, blank-answer, unless-refused, samples-after, runs-after, Yields}
 use Rattle.blanking.proofs.ByteLaws.{unmarked-zero}
 use Rattle.blanking.proofs.EachSample.{Clean, Fits, blank-rows-length, blank-rows-below, blanked-same}
 use Rattle.blanking.proofs.RunLaws.{numbers-length}

@@ -1,7 +1,7 @@
 -- Where a sample of the exchanged frame is read: by the starts of a row's even and odd columns, and always in the frame.
 use Prim.Native.Nat.{ℕ, suc, _+_, _-_, _*_, _/_, _%_, _<_, _≤_}
-use mathlib.Core.Bool.{Bool, true, false, cond, _&&_}
-use mathlib.Core.Path.{_≡_, refl, sym, _∙_}
+use mathlib.Core.Bool.{Bool, true, cond, _&&_}
+use mathlib.Core.Path.{_≡_, sym, _∙_}
 use mathlib.Core.Logic.{_≢_}
 use mathlib.Core.List.{List}
 use native.Mathlib.Omega.{arith}
@@ -10,7 +10,7 @@ use lib.Dec.{eqb, ltb}
 use lib.ListN.{length, getD}
 use borrow.Author.Tests.{ltb-true, ltb-false, lt-ltb, le-ltb, eqb-true, eqb-false, eq-eqb, ne-eqb}
 use Rattle.rules.specs.V0.{sample-kind}
-use Rattle.rules.proofs.Tests.{clash, by-test}
+use Rattle.rules.proofs.Tests.{by-test, both}
 use Rattle.writers.specs.Exchanged.{evens-start, odds-start, place-of}
 use Rattle.writers.proofs.ExchangeAt.{exchange-place}
 use Rattle.frame_writer.specs.Frames.{size, exchanged}
@@ -71,27 +71,21 @@ module _ (w h row col : ℕ) where
   pub place-in : row < h → col < w → place-of (size w h) row col < w * h
   unfolding place-of
   place-in r c =
-      go (eqb (row % 2) 0 && (eqb (col % 2) 1 && ltb (row + 1) h)) refl (eqb (row % 2) 1 && (eqb (col % 2) 0 && ltb (col + 1) w)) refl
+      by-test (eqb (row % 2) 0 && (eqb (col % 2) 1 && ltb (row + 1) h))
+      (λ e. rw e (let l = ltb-true (row + 1) h (last (eqb (row % 2) 0) (eqb (col % 2) 1) (ltb (row + 1) h) e) in
+      let next : suc (row + 1) * w ≤ h * w = mul-le-mul-right w l in
+      omega (arith, mul-comm w h)))
+      (λ e. rw e (by-test (eqb (row % 2) 1 && (eqb (col % 2) 0 && ltb (col + 1) w))
+      (λ f. rw f (let l = ltb-true (col + 1) w (last (eqb (row % 2) 1) (eqb (col % 2) 0) (ltb (col + 1) w) f) in
+      let up : (row - 1) * w ≤ row * w = mul-le-mul-right w (omega arith) in
+      omega (arith, mul-comm w h, end)))
+      (λ f. rw f (omega (arith, mul-comm w h, end)))))
     where
       last : (a b c : Bool) → (a && (b && c)) ≡ true → c ≡ true
-      last true true c e = e
-      last true false c e = absurd (clash e refl)
-      last false b c e = absurd (clash e refl)
+      last a b c e = both b c (both a (b && c) e .1) .1
 
       end : suc row * w ≤ h * w
       end = mul-le-mul-right w r
-
-      go : (t : Bool) → (eqb (row % 2) 0 && (eqb (col % 2) 1 && ltb (row + 1) h)) ≡ t → (u : Bool) → (eqb (row % 2) 1 && (eqb (col % 2) 0 && ltb (col + 1) w)) ≡ u
-          → cond t ((row + 1) * w + col - 1) (cond u ((row - 1) * w + col + 1) (row * w + col)) < w * h
-      go true e u f =
-          let l = ltb-true (row + 1) h (last (eqb (row % 2) 0) (eqb (col % 2) 1) (ltb (row + 1) h) e) in
-          let next : suc (row + 1) * w ≤ h * w = mul-le-mul-right w l in
-          omega (arith, mul-comm w h)
-      go false e true f =
-          let l = ltb-true (col + 1) w (last (eqb (row % 2) 1) (eqb (col % 2) 0) (ltb (col + 1) w) f) in
-          let up : (row - 1) * w ≤ row * w = mul-le-mul-right w (omega arith) in
-          omega (arith, mul-comm w h, end)
-      go false e false f = omega (arith, mul-comm w h, end)
 
 -- What is read there is the exchanged frame's sample.
 pub sample-is : (w h row col : ℕ) (f : List ℕ) (p : ℕ) → row < h → col < w → length f ≡ w * h → p ≡ place-of (size w h) row col

@@ -16,7 +16,7 @@ use Rattle.rules.proofs.Cells.{All}
 use Rattle.rules.proofs.Refusals.{samples-enough, v2-size-least}
 use Rattle.rules.proofs.Tests.{by-test}
 use Rattle.writers.specs.declared.Written.{Written}
-use Rattle.writers.specs.Calls.{too-bright, refused, written}
+use Rattle.writers.specs.Calls.{too-bright}
 use Rattle.writers.specs.V2Writer.{stream-for}
 use Rattle.writers.proofs.CallLaws.{not-bright, over-stream}
 use Rattle.writers.proofs.V2RoundTrip.{Holds, written-holds, stream-below}

@@ -14,7 +14,7 @@ use Rattle.rules.specs.declared.reader.Bits.{Bits}
 use Rattle.rules.specs.declared.reader.Four.{Four}
 use Rattle.rules.specs.Reader.{held, read, fields, four, read-signed, signed}
 use Rattle.rules.specs.Missing.{fetches}
-use Rattle.rules.proofs.Cells.{All, nil, more, all-append, all-map}
+use Rattle.rules.proofs.Cells.{All, nil, more, all-append, all-map, all-head}
 use Rattle.rules.proofs.ReaderLaws.{read-held, read-next, read-agree}
 use Rattle.rules.proofs.Tests.{by-test}
 use Rattle.late.specs.Late.{AgreeIn, fetched-past, Reads, stay, reads}
@@ -83,11 +83,10 @@ fetches-few b n = by-test (leb (min n 32) (held b)) (λ e. rw e (omega arith)) (
 module _ (p : ℕ) (s u : List ℕ) (agree : AgreeIn p s u) where
   read-same : (b : Bits) (n : ℕ) → Below p (fetches b n ++ []) → read s b n ≡ read u b n
   unfolding fetches
-  read-same b n = go (leb (min n 32) (held b)) refl
-    where
-      go : (t : Bool) → leb (min n 32) (held b) ≡ t → Below p (cond t [] (b .pos ∷ []) ++ []) → read s b n ≡ read u b n
-      go true e h = let l = leb-true _ _ e in read-held s b n l ∙ sym (read-held u b n l)
-      go false e (more h hs) = read-agree s u b n p (agree .same) (agree .long) (agree .long′) h
+  read-same b n h =
+      by-test (leb (min n 32) (held b))
+      (λ e. let l = leb-true _ _ e in read-held s b n l ∙ sym (read-held u b n l))
+      (λ e. read-agree s u b n p (agree .same) (agree .long) (agree .long′) (all-head (rw e at h)))
 
   pub read-trail : (b : Bits) (n : ℕ) → Trail p s 1 (λ g. g .bits) b (read s b n) (read u b n)
   read-trail b n = record { words = fetches b n ++ []; run = reads n stay; few = fetches-few b n; same = read-same b n }
@@ -132,11 +131,8 @@ fetches-end b n e = by-test (leb (min n 32) (held b)) (λ f. rw f (λ l. nil)) (
 
 fetches-below : (b : Bits) (n p : ℕ) → Below p (fetches b n) → (length (fetches b n) ≡ 0) ⊎ (b .pos + 4 * length (fetches b n) ≤ p)
 unfolding fetches
-fetches-below b n p = go (leb (min n 32) (held b))
-  where
-    go : (t : Bool) → Below p (cond t [] (b .pos ∷ [])) → (length (cond t [] (b .pos ∷ [])) ≡ 0) ⊎ (b .pos + 4 * length (cond t [] (b .pos ∷ [])) ≤ p)
-    go true h = inl refl
-    go false (more h hs) = inr (omega arith)
+fetches-below b n p h =
+    by-test (leb (min n 32) (held b)) (λ e. rw e (inl refl)) (λ e. let l : b .pos + 4 ≤ p = all-head (rw e at h) in rw e (inr (omega arith)))
 
 -- So the words of a run end where its reader stands, the last of them just there.
 pub run-moves : (s : List ℕ) {b c : Bits} {ps : List ℕ} → Reads s b ps c → b .pos + 4 * length ps < 2 ^ 64

@@ -2,7 +2,7 @@
 -- lie wholly below p, a stream that agrees in the first p bytes gives the same.
 use Prim.Native.Nat.{ℕ, zero, suc, _+_, _*_, _/_, _%_}
 use mathlib.Core.Bool.{Bool, true, false, cond, not, _&&_}
-use mathlib.Core.Path.{_≡_, refl}
+use mathlib.Core.Path.{refl}
 use mathlib.Core.List.{List, [], _∷_, _++_}
 use native.Mathlib.Omega.{arith}
 use lib.Dec.{ltb, eqb}
@@ -15,8 +15,8 @@ use Rattle.rules.specs.declared.v2.V2Row.{V2Row}
 use Rattle.rules.specs.declared.v2.V2Scale.{V2Scale}
 use Rattle.rules.specs.declared.v2.V2Block.{V2Block}
 use Rattle.rules.specs.declared.v2.V2Block.the-variants.{Next, EarlyMotion, Outside, LongDifference}
-use Rattle.rules.specs.Reader.{has-filler, fresh, read, four}
-use Rattle.rules.specs.V2.{field-widths, header, option-1, option-2, option-4, aligned, fresh-row, fresh-mode, scale-steps, rescaled, read-scale, read-motion, base, base-refusal, lengths-bit, colour, read-length, Moded, length-step, lengths-from, no-lengths, flagged-lengths, read-lengths, position, Differences, difference-step, differences-from, read-differences, Block, Parsed, Tail, tail, based-tail, read-block, state-after, Row, then, blocks, read-row}
+use Rattle.rules.specs.Reader.{fresh, read, four}
+use Rattle.rules.specs.V2.{field-widths, header, option-1, option-2, option-4, aligned, fresh-row, fresh-mode, scale-steps, rescaled, read-scale, read-motion, base-refusal, lengths-bit, colour, read-length, Moded, length-step, lengths-from, no-lengths, flagged-lengths, read-lengths, position, Differences, difference-step, differences-from, read-differences, Block, Parsed, Tail, tail, based-tail, read-block, state-after, Row, blocks, read-row}
 use Rattle.late.specs.Late.{AgreeIn}
 use Rattle.late.proofs.Trail.{Trail, trail-none, trail-map, trail-then, trail-cond, wider, read-trail, fields-trail, four-trail, read-signed-trail}
 use Rattle.rules.proofs.Tests.{by-test}

@@ -1,7 +1,6 @@
 -- A proposal that is taken is decoded, by every V0 decoder and over any buffer, to the samples meant, with no word missing and a map
 -- that is all 0: its frame is clean, so nothing of it rests on what a buffer held.
 use Prim.Native.Nat.{ℕ, zero, suc, _%_, _<_, _≤_}
-use mathlib.Core.Bool.{Bool, true, false}
 use mathlib.Core.Path.{_≡_, refl, sym, ap, _∙_}
 use mathlib.Core.List.{List, _++_}
 use lib.Dec.{eqb}

@@ -1,7 +1,7 @@
 -- A proposal is taken exactly if its size is within the limits, all that it needs is lent, no sample meant is above 16,383, the frame is
 -- clean, the stream is no longer than the writer's, and the frame decoded is the one meant.
 use Prim.Native.Nat.{ℕ, _<_, _≤_}
-use mathlib.Core.Bool.{Bool, true, false, cond, _&&_}
+use mathlib.Core.Bool.{Bool, true, false, cond}
 use mathlib.Core.Path.{_≡_, refl, sym, ap, ap₂, _∙_}
 use mathlib.Core.List.{List, [], _∷_, _++_}
 use mathlib.Core.Option.{none}

@@ -1,7 +1,6 @@
 -- Calls that have returned: one that checks a proposal is done exactly of those that are to be taken, and of what a call of the writer
 -- made; what it took is decoded back by every call of a V0 decoder. Among others on one sample buffer it leaves 16-bit samples.
 use Prim.Native.Nat.{ℕ, _≤_}
-use mathlib.Core.Bool.{Bool, true, false, cond}
 use mathlib.Core.Path.{_≡_, refl, sym, ap, _∙_}
 use mathlib.Core.List.{List, _++_}
 use mathlib.Core.Option.{none, some, Option·map}

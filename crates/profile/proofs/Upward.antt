@@ -5,7 +5,7 @@
 use Prim.Native.Nat.{ℕ, zero, suc, _+_, _*_, _/_, _%_, _≤_, _<_}
 use mathlib.Core.Bool.{Bool, true, false, cond, not}
 use mathlib.Core.Path.{_≡_, refl, sym, ap, _∙_}
-use mathlib.Core.Logic.{_≢_, _⊎_, inl, inr}
+use mathlib.Core.Logic.{_≢_, _⊎_, by-cases, ⊎-elim}
 use mathlib.Core.List.{List, [], _∷_}
 use native.Mathlib.Omega.{arith}
 use native.Mathlib.Decide.{ℕ-discrete, decLt}
@@ -65,12 +65,13 @@ apply-kept p (more {a = o} h hs) f = apply-kept p hs _ ∙ put-kept p (o .place)
 filled-part : (n q p : ℕ) (f : List ℕ) → part p (change-cells with-filler 0 n q f) ≡ part p f
 unfolding change-cells
 filled-part zero q p f = refl
-filled-part (suc n) q p f = filled-part n (suc q) p _ ∙ at (ℕ-discrete p q) (decLt q (length f))
-  where
-    at : Dec (p ≡ q) → Dec (q < length f) → part p (set f q (with-filler (getD f q 0))) ≡ part p f
-    at (yes e) (yes l) = rw (e, getD-set-same f q (with-filler (getD f q 0)) 0 l) (omega arith)
-    at (yes e) (no l) = rw (set-out f q (with-filler (getD f q 0)) (omega arith))
-    at (no e) l = ap old-part (getD-set-other f q p _ 0 e)
+filled-part (suc n) q p f =
+    filled-part n (suc q) p _
+    ∙ by-cases (ℕ-discrete p q)
+    (λ e. by-cases (decLt q (length f))
+    (λ l. rw (e, getD-set-same f q (with-filler (getD f q 0)) 0 l) (omega arith))
+    (λ l. rw (set-out f q (with-filler (getD f q 0)) (omega arith))))
+    (λ e. ap old-part (getD-set-other f q p _ 0 e))
 
 write-kept : (p : ℕ) {bs : List V0.Block} → All (Leaves p) bs → (f : List ℕ) → part p (V0.write-all v0-marks bs f) ≡ part p f
 unfolding V0.write-all V0.write
@@ -367,7 +368,12 @@ module _ (s offsets : List ℕ) (z : Size) where
   pub upward-marked : verdict s offsets z .number ≡ 17 → (verdict s offsets z .row ≡ 0) ⊎ ((9 ≤ z .width) × (z .width % 16 ≢ 1))
       → Marked (cells z) (v0-map s offsets z)
   unfolding verdict
-  upward-marked e wide = go (ℕ-discrete (v .row) 0) wide
+  upward-marked e wide =
+      by-cases (ℕ-discrete (v .row) 0)
+      (λ q. upward-0 (omega (arith, first .row-below)) (rw q at fault))
+      (λ q. let r : (9 ≤ z .width) × (z .width % 16 ≢ 1) = ⊎-elim (λ r. absurd (q r)) (λ r. r) wide in
+      let one : v .row ≡ 1 = omega (arith, row-early (v .row) fault) in
+      upward-1 (r .0) (r .1) (omega (arith, first .row-below)) (rw one at fault))
     where
       v : Answer
       v = rows-verdict s offsets z (z .height) 0
@@ -377,10 +383,3 @@ module _ (s offsets : List ℕ) (z : Size) where
 
       fault : fault-of s offsets z (v .row) ≡ 17
       fault = sym (ap (λ a. a .number) (first .here)) ∙ e
-
-      go : Dec (v .row ≡ 0) → (v .row ≡ 0) ⊎ ((9 ≤ z .width) × (z .width % 16 ≢ 1)) → Marked (cells z) (v0-map s offsets z)
-      go (yes q) d = upward-0 (omega (arith, first .row-below)) (rw q at fault)
-      go (no q) (inl r) = absurd (q r)
-      go (no q) (inr r) =
-          let one : v .row ≡ 1 = omega (arith, row-early (v .row) fault) in
-          upward-1 (r .0) (r .1) (omega (arith, first .row-below)) (rw one at fault)

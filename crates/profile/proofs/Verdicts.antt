@@ -1,7 +1,7 @@
 -- The verdict is done exactly of the clean frames, and else tells the first row with a fault. A clean frame's map is all 0 and its
 -- count of missing words is 0; a frame with fault 19 has a count that isn't.
 use Prim.Native.Nat.{ℕ, zero, suc, _+_, _*_, _≤_, _<_, min}
-use mathlib.Core.Bool.{Bool, true, false, cond, not, _&&_}
+use mathlib.Core.Bool.{Bool, true, false, not, _&&_}
 use mathlib.Core.Path.{_≡_, refl, sym, ap, ap₂, _∙_}
 use mathlib.Core.Logic.{_≢_, by-cases}
 use mathlib.Core.List.{List, [], _∷_}

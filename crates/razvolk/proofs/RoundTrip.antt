@@ -2,7 +2,6 @@
 -- call of an exported V0 decoder over any buffer, which is asked for the stream and the offsets as the writer left them and is done,
 -- leaves the samples that the writer was lent, with no map byte 1.
 use Prim.Native.Nat.{ℕ, _*_, _^_, _<_}
-use mathlib.Core.Bool.{Bool, true, false, cond}
 use mathlib.Core.Path.{_≡_, refl, sym, ap, _∙_}
 use mathlib.Core.List.{List, _++_}
 use mathlib.Core.Option.{some, Option·map}
@@ -10,8 +9,7 @@ use denote.Ref.{now}
 use lib.Dec.{eqb}
 use lib.ListN.{length, drop}
 use borrow.Author.Tests.{eqb-true}
-use Rattle.rules.specs.declared.answer.Answer.{Answer}
-use Rattle.rules.specs.Answer.{Decoder, Ask, ask, Lent, done, refused, refusal, stream-answer, answer, marks, map-after, lengths}
+use Rattle.rules.specs.Answer.{Decoder, Ask, ask, Lent, done, refusal, answer, marks, map-after, lengths}
 use Rattle.rules.proofs.Cells.{All}
 use Rattle.rules.proofs.Isolation.{Returned}
 use Rattle.samsung.proofs.Isolation.{Made}

@@ -1,7 +1,7 @@
 -- A frame in which no word was missing carries no filler: V0 whose count is 0, and accepted V2. Its map is then as a map was that knew
 -- no filler. So V0 without an upward block in rows 0 and 1, and accepted V2 of a width divisible by 16, have a map that is all 0.
 use Prim.Native.Nat.{ℕ, zero, suc, _+_, _*_, _/_, _%_, _≤_, _<_, min, max}
-use mathlib.Core.Bool.{Bool, true, false, cond, not}
+use mathlib.Core.Bool.{Bool, false, not}
 use mathlib.Core.Path.{_≡_, refl, sym, ap, ap₂, _∙_}
 use mathlib.Core.Logic.{_≢_}
 use mathlib.Core.List.{List, [], _∷_, _++_}
@@ -21,13 +21,12 @@ use Rattle.rules.specs.declared.v2.V2Row.{V2Row}
 use Rattle.rules.specs.declared.v2.V2Block.{V2Block}
 use Rattle.rules.specs.declared.v2.V2Block.the-variants.{Next, EarlyMotion, Outside, LongDifference}
 use Rattle.rules.specs.Reader.{most-filler, has-filler}
-use Rattle.rules.specs.Frame.{cells, tabulate, change-cells}
+use Rattle.rules.specs.Frame.{cells, tabulate}
 use Rattle.rules.specs.V0 as V0
 use Rattle.rules.specs.V2 as V2
 use Rattle.rules.specs.Map.{all-old, old-part, v0-marks, v2-marks, v0-map, v2-map}
 use Rattle.rules.proofs.Cells.{All, nil, more, all-append, all-get, all-set, Each, none, both}
 use Rattle.rules.proofs.Parts.{either-below}
-use Rattle.rules.proofs.Tests.{clash}
 use Rattle.rules.proofs.Longer.{Longer, Sure}
 use Rattle.rules.proofs.V0Blocks.{block, after}
 use Rattle.rules.proofs.V0Longer.{block-sure}

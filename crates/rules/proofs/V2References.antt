@@ -18,7 +18,7 @@ use Rattle.rules.specs.V2.{motion-offsets, reference, refers-before, bas
 use Rattle.rules.specs.References.{outside, strays, any-strays, tested-refusal}
 use Rattle.rules.specs.Ranges.{offset-4, reference-5}
 use Rattle.rules.proofs.Cells.{All, nil, more, all-get}
-use Rattle.rules.proofs.Tests.{clash, both, by-test}
+use Rattle.rules.proofs.Tests.{both, by-test}
 use Rattle.rules.proofs.V2Places.{block-inside, further, reference-is, reference-row}
 
 -- ── The highest reference ──

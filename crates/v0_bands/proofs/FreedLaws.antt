@@ -1,7 +1,7 @@
 -- The steps with the exchange by blocks leave what the whole exchange leaves after all steps: no step reads or changes a cell that
 -- a step before it freed, so that each frame is the plain one of the same steps with the freed cells exchanged.
 use Prim.Native.Nat.{ℕ, zero, suc, _+_, _-_, _*_, _/_, _%_, _≤_, _<_}
-use mathlib.Core.Bool.{Bool, true, false, cond}
+use mathlib.Core.Bool.{true}
 use mathlib.Core.Path.{_≡_, refl, sym, ap, _∙_}
 use mathlib.Core.Logic.{_≢_, by-cases}
 use mathlib.Core.List.{List}

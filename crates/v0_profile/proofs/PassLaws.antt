@@ -1,6 +1,6 @@
 -- Residuals that are passed over: where the reader stands after them is told by their bits alone, whatever they are. So nothing is
 -- asked of their words but that they are there.
-use mathlib.Core.Path.{_≡_, refl, sym, ap, _∙_}
+use mathlib.Core.Path.{_≡_, sym, ap, _∙_}
 use mathlib.Core.List.{List, [], _∷_}
 use Prim.Native.Nat.{ℕ, _+_, _*_, _-_, _/_, _^_, _≤_, _<_}
 use native.Mathlib.Omega.{arith}

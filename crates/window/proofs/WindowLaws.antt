@@ -1,11 +1,11 @@
 -- Reading by position is reading by the record: `read-at` says so of one read, `leaves` of the record after one that need not be
 -- known, `fields-at` of several. `cut-at` cuts fields out of more bits, `window-is` makes 64 bits of three words, and `fields-end`
 -- cuts these into four.
-use mathlib.Core.Path.{_≡_, refl, sym, ap, subst, _∙_}
-use mathlib.Core.Bool.{Bool, true, false, _&&_}
+use mathlib.Core.Path.{_≡_, sym, ap, subst, _∙_}
+use mathlib.Core.Bool.{true, false, _&&_}
 use mathlib.Core.List.{List, [], _∷_}
 use Prim.Native.Nat.{ℕ, zero, suc, _+_, _*_, _-_, _/_, _%_, _^_, _≤_, _<_, min}
-use native.Mathlib.Nat.{div-one, add-mul, mul-mod-left, mul-assoc, mod-lt, mod-eq-of-lt, mul-add-mod-self-right}
+use native.Mathlib.Nat.{div-one, add-mul, mul-mod-left, mul-assoc, mod-lt, mod-eq-of-lt}
 use native.Mathlib.Omega.{arith}
 use native.Mathlib.Numerals.{add-one}
 use lib.Dec.{ltb, leb, eqb}
