@@ -25,11 +25,12 @@ use v0_cells::inner::put_inner;
 use v0_stream::block::read_block;
 use v0_stream::block::read_block_head;
 use v0_stream::block::residual_length;
+use v0_stream::by_window::BLOCK_BYTES;
 use v0_stream::by_window::WindowHead;
 use v0_stream::by_window::four_at;
 use v0_stream::by_window::four_long_at;
-use v0_stream::by_window::stands_within;
 use v0_stream::by_window::window_head;
+use window::stands_within;
 use window::state_at;
 
 // Whether a block is an inner one.
@@ -142,7 +143,7 @@ fn decode_inner(
 {
     let bits = state.bits;
     let lengths = state.lengths;
-    if stands_within(src, bits) {
+    if stands_within(src, bits, BLOCK_BYTES) {
         let base = bits.pos as usize - 12;
         let head = window_head(src, base, 96 - bits.count as usize, lengths);
         let end = put_groups(src, size, row, col, state, head, out);

@@ -18,9 +18,10 @@ use v0_direct::row::is_inner;
 use v0_direct::sample::decode_samples;
 use v0_stream::block::read_block_head;
 use v0_stream::block::residual_length;
+use v0_stream::by_window::BLOCK_BYTES;
 use v0_stream::by_window::read_by_record;
-use v0_stream::by_window::stands_within;
 use v0_stream::by_window::window_head;
+use window::stands_within;
 use window::state_at;
 
 // A block of which nothing is skipped. Where the record stands in the stream, its residuals are passed over: the head tells how many
@@ -31,7 +32,7 @@ fn pass_block(src: &[u8], state: V0Row) -> V0Head
 {
     let bits = state.bits;
     let lengths = state.lengths;
-    if stands_within(src, bits) {
+    if stands_within(src, bits, BLOCK_BYTES) {
         let base = bits.pos as usize - 12;
         let head = window_head(src, base, 96 - bits.count as usize, lengths);
         let after = head.lengths;

@@ -10,21 +10,11 @@ use lib.IntN.{ℤ, pos}
 use lib.ListN.{length, getD}
 use Rattle.rules.specs.Reader.{word-at, signed, modulo}
 use Rattle.rules.specs.V0.{head}
-use Rattle.rules.specs.declared.reader.Bits.{Bits}
 use Rattle.rules.specs.declared.v0.V0Row.{V0Row}
-use Rattle.window.specs.Window.{bits-from, state-at}
+use Rattle.window.specs.Window.{bits-from, state-at, Standing}
 use Rattle.v0_stream.specs.Lengths.{stepped}
 use Rattle.v0_stream.specs.declared.by_window.WindowLength.{WindowLength}
 use Rattle.v0_stream.specs.declared.by_window.WindowHead.{WindowHead}
-
--- A reader's state that stands in the stream with room for a block. It is the one before a bit, which is counted from two words before
--- the one fetched last: so a window that ends in the block begins after that.
-pub record Standing (s : List ℕ) (b : Bits) : Type 0 where
-  pub fetched : 12 ≤ b .pos
-  pub few : b .count < 32
-  pub there : b .pos - 12 + 84 ≤ length s
-  pub far : b .pos - 12 + 84 < 2 ^ 64
-  pub is : b ≡ state-at s (b .pos - 12) (96 - b .count) (b .filler)
 
 -- Bit q lies in one of the first words from `base` on, and a window that begins there is in the stream.
 pub record Room (s : List ℕ) (base q : ℕ) : Type 0 where
@@ -49,9 +39,9 @@ pub record HeadAt (s : List ℕ) (base q : ℕ) (ls : List ℤ) (h : WindowHead)
   pub some : q ≤ h .q
   pub soon : h .q ≤ q + 25
 
--- A row's state that stands so, and the head that begins there.
+-- A row's state that stands in the stream with room for a block, and the head that begins there.
 pub record Opened (s : List ℕ) (st : V0Row) (h : WindowHead) : Type 0 where
-  pub stands : Standing s (st .bits)
+  pub stands : Standing s (st .bits) 76
   pub head-at : HeadAt s (st .bits .pos - 12) (96 - st .bits .count) (st .lengths) h
 
 -- ── Residuals ──

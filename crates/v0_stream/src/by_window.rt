@@ -9,7 +9,7 @@ ghost use lib.ListN.{length};
 ghost use lib.IntN.{pos};
 ghost use lib.Signed.{mag, leZ};
 ghost use Rattle.v0_stream.specs.Block.{whole-block};
-ghost use Rattle.v0_stream.specs.ByWindow.{residual, Standing, Room, length-in, HeadAt, Group};
+ghost use Rattle.v0_stream.specs.ByWindow.{residual, Room, length-in, HeadAt, Group};
 ghost use Rattle.v0_stream.specs.Lengths.{Within, furthest};
 use super::block::ReadBlock;
 use super::block::read_block;
@@ -19,22 +19,10 @@ use fields::field;
 use fields::power;
 use rules::Bits;
 use rules::V0Row;
-use window::stands;
 use window::window;
 
 // The bytes that have to be there from the word fetched last on: a block ends at most 569 bits after that word's start.
-const BLOCK_BYTES: usize = 76;
-
-// Whether a state stands in the stream with room for a block, and with two words before the one fetched last: a window that ends in
-// the block may begin in them. Where it says no, the record reads the block.
-pub fn stands_within(src: &[u8], bits: Bits) -> bool
-    ensures { λ r. ⌜ (r ≡ true → Standing (now (src .entry)) bits) ⌝ }
-{
-    if bits.pos < 12 {
-        return false;
-    }
-    stands(src, bits, BLOCK_BYTES)
-}
+pub const BLOCK_BYTES: usize = 76;
 
 // A length after its operation, and how many bits of a window are left after what the operation read.
 struct WindowLength {

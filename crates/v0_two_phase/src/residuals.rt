@@ -17,12 +17,13 @@ use rules::Size;
 use rules::V0Row;
 use v0_stream::block::read_block;
 use v0_stream::block::residual_length;
+use v0_stream::by_window::BLOCK_BYTES;
 use v0_stream::by_window::WindowHead;
 use v0_stream::by_window::four_at;
 use v0_stream::by_window::four_long_at;
 use v0_stream::by_window::plain_head;
-use v0_stream::by_window::stands_within;
 use v0_stream::order::stream_column;
+use window::stands_within;
 use window::state_at;
 
 // A block's direction as a byte.
@@ -178,7 +179,7 @@ fn parse_block(
     let bits = row.bits;
     let before = row.lengths;
     let col = k * V0Row::BLOCK;
-    if col + V0Row::BLOCK <= width && stands_within(src, bits) {
+    if col + V0Row::BLOCK <= width && stands_within(src, bits, BLOCK_BYTES) {
         let base = bits.pos as usize - 12;
         let x = plain_head(src, base, 96 - bits.count as usize, before);
         if x.plain {

@@ -18,9 +18,9 @@ use Rattle.rules.specs.V2.{position, differences-from}
 use Rattle.rules.specs.declared.reader.Bits.{Bits}
 use Rattle.rules.proofs.ReaderLaws.{signed-low, signed-high, signed-mag, read-signed-is}
 use Rattle.rules.proofs.Tests.{both, by-test}
-use Rattle.window.specs.Window.{bits-from, state-at, Window}
+use Rattle.window.specs.Window.{bits-from, state-at, Window, Standing}
 use Rattle.window.proofs.WindowLaws.{fields-end, read-at, three-at}
-use Rattle.v2_stream.specs.Four.{Standing, FourAt, Short, short}
+use Rattle.v2_stream.specs.Four.{FourAt, Short, short}
 use Rattle.v2_stream.proofs.LengthLaws.{difference-more, difference-end}
 
 -- ── Short lengths ──
@@ -212,7 +212,7 @@ module _ (s : List ℕ) (row : ℕ) (ls : List ℕ) (base f q₀ : ℕ) (ds₀ :
       record { within = omega arith; late = omega arith; soon = omega arith; is = l .is ∙ rw (ed, x .are) (rw (k, q₂, q₃, q₄) at g) }
 
 -- After the four the state is made again.
-pub reached-end : (s : List ℕ) (row : ℕ) (ls : List ℕ) (b b′ : Bits) (j q : ℕ) (ds₀ ds : List ℤ) → Standing s b → b′ ≡ state-at s (b .pos - 12) q (b .filler)
+pub reached-end : (s : List ℕ) (row : ℕ) (ls : List ℕ) (b b′ : Bits) (j q : ℕ) (ds₀ ds : List ℤ) → Standing s b 40 → b′ ≡ state-at s (b .pos - 12) q (b .filler)
     → Reached s row ls (b .pos - 12) (b .filler) (96 - b .count) ds₀ j q ds → 4 ≤ j
     → record { values = ds; bits = b′ } ≡ differences-from s row ls 16 0 (record { values = ds₀; bits = b })
 reached-end s row ls b b′ j q ds₀ ds at e l h =

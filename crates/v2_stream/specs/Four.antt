@@ -2,21 +2,12 @@
 use mathlib.Core.Bool.{Bool, _&&_}
 use mathlib.Core.List.{List, [], _∷_}
 use mathlib.Core.Path.{_≡_}
-use Prim.Native.Nat.{ℕ, _+_, _-_, _*_, _^_, _≤_, _<_}
+use Prim.Native.Nat.{ℕ, _+_, _*_, _^_, _≤_, _<_}
 use lib.Dec.{leb}
 use lib.IntN.{ℤ}
-use lib.ListN.{length, getD}
+use lib.ListN.{getD}
 use Rattle.rules.specs.Reader.{word-at, signed}
-use Rattle.rules.specs.declared.reader.Bits.{Bits}
-use Rattle.window.specs.Window.{bits-from, state-at}
-
--- A reader's state that stands in the stream with room for a block's differences. It is the one before a bit, which is counted from
--- two words before the one fetched last: so a window that ends with four differences begins after that.
-pub record Standing (s : List ℕ) (b : Bits) : Type 0 where
-  pub fetched : 12 ≤ b .pos
-  pub few : b .count < 32
-  pub there : b .pos - 12 + 48 ≤ length s
-  pub is : b ≡ state-at s (b .pos - 12) (96 - b .count) (b .filler)
+use Rattle.window.specs.Window.{bits-from}
 
 -- Four differences of n bits from bit q on. The words that they lie in have 32 bits.
 pub record FourAt (s : List ℕ) (base q n : ℕ) (r : List ℤ) : Type 0 where

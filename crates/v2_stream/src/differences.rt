@@ -5,7 +5,8 @@ ghost use Prim.Native.Nat.{_+_, _<_};
 ghost use lib.IntN.{pos};
 ghost use lib.ListN.{getD, set};
 ghost use Rattle.rules.specs.V2.{differences-from};
-ghost use Rattle.v2_stream.specs.Four.{Standing, Short, short};
+ghost use Rattle.window.specs.Window.{Standing};
+ghost use Rattle.v2_stream.specs.Four.{Short, short};
 ghost use Rattle.v2_stream.specs.Pairs.{signed-pair};
 ghost use Rattle.v2_stream.specs.Positions.{row-positions, positions};
 use super::four::four_at;
@@ -14,7 +15,7 @@ use bits::read_signed;
 use fields::field;
 use fields::signed_of;
 use rules::Bits;
-use window::stands;
+use window::stands_within;
 use window::state_at;
 
 // Where the sixteen differences go in even rows, and in odd ones.
@@ -95,17 +96,6 @@ fn by_pairs(src: &[u8], row: usize, lengths: [u32; 4], bits: Bits, values: &mut 
 // takes three words.
 const REACH: usize = 40;
 
-// Whether a state stands in the stream with room for the windows, and with two words before the one fetched last: a window that ends
-// with four differences may begin in them.
-fn stands_within(src: &[u8], bits: Bits) -> bool
-    ensures { λ r. ⌜ (r ≡ true → Standing (now (src .entry)) bits) ⌝ }
-{
-    if bits.pos < 12 {
-        return false;
-    }
-    stands(src, bits, REACH)
-}
-
 // Four differences to position p and every other one after it.
 fn store_four(values: &mut [i32; 16], p: usize, four: [i32; 4])
     requires { ⌜ p + 6 < 16 ⌝ }
@@ -120,7 +110,7 @@ fn store_four(values: &mut [i32; 16], p: usize, four: [i32; 4])
 // The sixteen differences out of four windows, where the state stands in the stream: no read asks whether a word is left, and the
 // state is made again at the end. Bits are counted from two words before the one fetched last.
 fn by_windows(src: &[u8], row: usize, lengths: [u32; 4], bits: Bits, values: &mut [i32; 16]) -> Bits
-    requires { ⌜ Standing (now src) bits × Short lengths ⌝ }
+    requires { ⌜ Standing (now src) bits 40 × Short lengths ⌝ }
     ensures { λ r. ⌜ record { values = now (values .exit); bits = r } ≡ differences-from (now (src .entry)) row lengths 16 0 (record { values = now (values .entry); bits = bits }) ⌝ }
 {
     let positions = positions_of(row);
@@ -163,7 +153,7 @@ pub fn block_differences(
 ) -> Bits
     ensures { λ r. ⌜ record { values = now (values .exit); bits = r } ≡ differences-from (now (src .entry)) row lengths 16 0 (record { values = now (values .entry); bits = bits }) ⌝ }
 {
-    if are_short(lengths) && stands_within(src, bits) {
+    if are_short(lengths) && stands_within(src, bits, REACH) {
         return by_windows(src, row, lengths, bits, values);
     }
     by_pairs(src, row, lengths, bits, values)

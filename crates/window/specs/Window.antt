@@ -73,3 +73,12 @@ pub record Stands (s : List ℕ) (b : Bits) (more : ℕ) : Type 0 where
   pub there : b .pos - 4 + more ≤ length s
   pub few : b .count < 32
   pub is : b ≡ state-at s (b .pos - 4) (32 - b .count) (b .filler)
+
+-- The same with two words before the one fetched last: it is counted from the first of these, so that a window which ends in what
+-- follows begins after that.
+pub record Standing (s : List ℕ) (b : Bits) (more : ℕ) : Type 0 where
+  pub fetched : 12 ≤ b .pos
+  pub few : b .count < 32
+  pub there : b .pos - 12 + (more + 8) ≤ length s
+  pub far : b .pos - 12 + (more + 8) < 2 ^ 64
+  pub is : b ≡ state-at s (b .pos - 12) (96 - b .count) (b .filler)

@@ -1,10 +1,11 @@
 // Reading by position. Bit q counts from the first bit of the word at byte `base`. What stands here reads words that are there,
 // and so no filler; a caller asks first whether the reader's record stands in the stream, and makes the record again after.
+ghost use mathlib.Core.Bool.{true};
 ghost use mathlib.Core.Path.{_≡_};
 ghost use Prim.Native.Nat.{_+_, _*_, _/_, _≤_, _<_, _^_};
 ghost use lib.ListN.{length};
 ghost use Rattle.rules.specs.Reader.{word-at};
-ghost use Rattle.window.specs.Window.{state-at, Window, stands-in};
+ghost use Rattle.window.specs.Window.{state-at, Window, stands-in, Standing};
 use rules::Bits;
 
 // A byte as a wide number.
@@ -39,7 +40,7 @@ pub fn window(src: &[u8], base: usize, q: usize) -> u64
 
 // Whether a state stands in the stream, with `more` bytes there from the word fetched last on. It compares that word with the
 // stream's: so it answers for any state that a caller hands in.
-pub fn stands(src: &[u8], bits: Bits, more: usize) -> bool
+fn stands(src: &[u8], bits: Bits, more: usize) -> bool
     requires { ⌜ 4 ≤ more ⌝ }
     ensures { λ r. ⌜ r ≡ stands-in (now (src .entry)) bits more ⌝ }
 {
@@ -58,6 +59,18 @@ pub fn stands(src: &[u8], bits: Bits, more: usize) -> bool
         return false;
     }
     word_there(src, at - 4) == bits.word as u64
+}
+
+// Whether it stands so with two words before the one fetched last: a window that ends in what follows may begin in them. Where it says
+// no, the record reads.
+pub fn stands_within(src: &[u8], bits: Bits, more: usize) -> bool
+    requires { ⌜ 4 ≤ more ⌝ }
+    ensures { λ r. ⌜ (r ≡ true → Standing (now (src .entry)) bits more) ⌝ }
+{
+    if bits.pos < 12 {
+        return false;
+    }
+    stands(src, bits, more)
 }
 
 // The state that stands before bit q.

@@ -8,7 +8,7 @@ use lib.ListN.{getD}
 use mir.Syntax.{w32}
 use mir.ValLaws.{toZ-ofZ}
 use borrow.Author.Needs.{needs}
-use Rattle.v0_stream.specs.ByWindow.{Standing}
+use Rattle.window.specs.Window.{Standing}
 use Rattle.v0_stream.proofs.GroupLaws.{Planned, near, end-room}
 use Rattle.v0_profile.proofs.PassLaws.{passed}
 use Rattle.v0_profile.proofs.pass_block.Statement.{statement}
@@ -28,7 +28,7 @@ abbrev headed : tie.After-residual-length4 → tie.After-window-head
 headed c = counted (c .before .before) .before .before .before
 
 -- The record stands in the stream.
-stood : (c : tie.Then1) → Standing (now (start c .args .src)) (start c .args .state .bits)
+stood : (c : tie.Then1) → Standing (now (start c .args .src)) (start c .args .state .bits) 76
 stood c = c .before .stands-within .ensures (c .if1 .taken)
 
 -- Its head is read, and the bits of each residual are known.

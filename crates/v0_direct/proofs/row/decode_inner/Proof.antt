@@ -2,7 +2,8 @@
 use native.Mathlib.Omega.{arith}
 use denote.Ref.{now}
 use borrow.Author.Needs.{needs}
-use Rattle.v0_stream.specs.ByWindow.{Standing, Opened}
+use Rattle.window.specs.Window.{Standing}
+use Rattle.v0_stream.specs.ByWindow.{Opened}
 use Rattle.v0_stream.proofs.GroupLaws.{opened-block}
 use Rattle.v0_direct.proofs.InnerLaws.{inner-state, inner-samples, inner-marks}
 use Rattle.v0_direct.proofs.row.decode_inner.Statement.{statement}
@@ -15,7 +16,7 @@ start c = c .before .before .before .before .before .before .before
 abbrev standing : tie.After-window-head → tie.Then1
 standing c = c .before .before
 
-stood : (c : tie.Then1) → Standing (now (start c .args .src)) (start c .args .state .bits)
+stood : (c : tie.Then1) → Standing (now (start c .args .src)) (start c .args .state .bits) 76
 stood c = c .before .stands-within .ensures (c .if1 .taken)
 
 opened : (c : tie.After-window-head) → Opened (now (start (standing c) .args .src)) (start (standing c) .args .state) (c .window-head .result)

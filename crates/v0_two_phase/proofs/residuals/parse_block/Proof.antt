@@ -2,7 +2,8 @@
 use native.Mathlib.Omega.{arith}
 use denote.Ref.{now}
 use borrow.Author.Needs.{needs}
-use Rattle.v0_stream.specs.ByWindow.{Standing, Opened}
+use Rattle.window.specs.Window.{Standing}
+use Rattle.v0_stream.specs.ByWindow.{Opened}
 use Rattle.v0_stream.proofs.GroupLaws.{opened-block}
 use Rattle.v0_two_phase.proofs.ResidualLaws.{block-parsed}
 use Rattle.v0_two_phase.proofs.residuals.parse_block.Statement.{statement}
@@ -25,7 +26,7 @@ abbrev stored : tie.After-direction-byte → tie.After-store-groups
 stored c = c .before .before .before
 
 -- The record stands in the stream.
-stood : (c : tie.Then2) → Standing (now (entry c .args .src)) (entry c .args .row .bits)
+stood : (c : tie.Then2) → Standing (now (entry c .args .src)) (entry c .args .row .bits) 76
 stood c = c .before .stands-within .ensures (c .if2 .taken)
 
 -- Its head is read.
