@@ -6,11 +6,21 @@ use Rattle.v0_direct.proofs.RowLaws.{block-state, block-cells}
 use Rattle.v0_direct.proofs.row.decode_block.Statement.{statement}
 use Rattle.v0_direct.proofs.row.decode_block.Tie as tie
 
+-- Places that the answers look back at.
+abbrev at-start : tie.After-is-inner → tie.Start
+at-start c = c .before .before .before .before
+
+abbrev after-read-block-head : tie.After-decode-samples → tie.After-read-block-head
+after-read-block-head c = c .before .before .before
+
+abbrev after-decode-samples : tie.After-slice-known6 → tie.After-decode-samples
+after-decode-samples c = c .before .before .before .before
+
 is-inner-requires : tie.Need-is-inner-requires
 is-inner-requires c κs = search needs
 
 decode-inner-requires : tie.Need-decode-inner-requires
-decode-inner-requires c κs = let a = c .before .before .before .before .before .before .before .pre in (c .before .before .before .is-inner .ensures (c .before .before .if1 .taken), a .1)
+decode-inner-requires c κs = let i = c .before .before .before in (i .is-inner .ensures (c .before .before .if1 .taken), at-start i .pre .1)
 
 same-length : tie.Need-same-length
 same-length c = search needs
@@ -34,7 +44,7 @@ same-length-4 : tie.Need-same-length-4
 same-length-4 c = search needs
 
 returns-2 : tie.Need-returns-2
-returns-2 c = let a = c .before .before .before .before .before .before .before .before .before .before .before .before .before .before .before .args in let h = c .before .before .before .before .before .before .before .before .before .read-block-head in let d = c .before .before .before .before .before .before .decode-samples .ensures in (
+returns-2 c = let s = after-decode-samples (c .before .before) in let p = after-read-block-head s in let a = at-start (p .before .before) .args in let h = p .read-block-head in let d = s .decode-samples .ensures in (
   block-state _ (a .size) (a .row) (a .col) (a .state) (h .result) (h .ensures) _ (d .0),
   (
     block-cells _ (a .size) (a .row) (a .col) (a .state) (h .result) (h .ensures) sample-kind _ _ (d .1 .0),

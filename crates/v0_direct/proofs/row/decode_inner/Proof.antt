@@ -9,12 +9,21 @@ use Rattle.v0_direct.proofs.InnerLaws.{inner-state, inner-samples, inne
 use Rattle.v0_direct.proofs.row.decode_inner.Statement.{statement}
 use Rattle.v0_direct.proofs.row.decode_inner.Tie as tie
 
--- Points on the way: the entry, and where the state is known to stand.
+-- Points on the way: where the bits are taken, the entry, where the state is known to stand, and where the block is marked and put.
+abbrev after-bits : tie.Then1 → tie.After-bits
+after-bits c = c .before .before .before
+
 abbrev start : tie.Then1 → tie.Start
-start c = c .before .before .before .before .before .before .before
+start c = after-bits c .before .before .before .before
 
 abbrev standing : tie.After-window-head → tie.Then1
 standing c = c .before .before
+
+abbrev marked : tie.After-after → tie.After-mark-block
+marked c = c .before .before .before
+
+abbrev put : tie.After-mark-block → tie.After-put-groups
+put c = c .before .before .before .before
 
 stood : (c : tie.Then1) → Standing (now (start c .args .src)) (start c .args .state .bits) 76
 stood c = c .before .stands-within .ensures (c .if1 .taken)
@@ -53,14 +62,14 @@ same-length-2 c = search needs
 
 returns : tie.Need-returns
 returns c =
-    let groups = c .before .before .before .before .before .before .before in
+    let groups = put (marked c) in
     let h = groups .before .before in
     let a = start (standing h) in
     let x = opened-block (now (a .args .src)) (a .args .state) (h .window-head .result) _ (opened h) (groups .put-groups .ensures .0) in (
       inner-state (now (a .args .src)) (a .args .size) (a .args .row) (a .args .col) (a .args .state) (a .pre .0) _ x,
       (
         inner-samples (now (a .args .src)) (a .args .size) (a .args .row) (a .args .col) (a .args .state) (a .pre .0) _ x _ _ (groups .put-groups .ensures .1),
-        inner-marks (now (a .args .src)) (a .args .size) (a .args .row) (a .args .col) (a .args .state) (a .pre .0) _ x _ _ (c .before .before .before .mark-block .ensures),
+        inner-marks (now (a .args .src)) (a .args .size) (a .args .row) (a .args .col) (a .args .state) (a .pre .0) _ x _ _ (marked c .mark-block .ensures),
       ),
     )
 

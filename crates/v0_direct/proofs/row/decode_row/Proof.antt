@@ -14,6 +14,16 @@ Inv-loop src size row offset out₀ map₀ w state₀ col₀ out map state col =
 abbrev μ-loop : tie.MeasureT-loop
 μ-loop src size row offset out₀ map₀ w state₀ col₀ out map state col = size .width + 16 - col
 
+-- Places that the answers look back at.
+abbrev at-start : tie.At-loop Inv-loop μ-loop → tie.Start Inv-loop μ-loop
+at-start c = c .before .before .before .before .before
+
+abbrev at-loop : tie.After-decode-block-arg2 Inv-loop μ-loop → tie.At-loop Inv-loop μ-loop
+at-loop c = c .before .before .before
+
+abbrev after-decode-block : tie.After-slice-known4 Inv-loop μ-loop → tie.After-decode-block Inv-loop μ-loop
+after-decode-block c = c .before .before .before .before
+
 fresh-requires : tie.Need-fresh-requires Inv-loop μ-loop
 fresh-requires c κs = search needs
 
@@ -21,16 +31,16 @@ loop-holds : tie.Need-loop-holds Inv-loop μ-loop
 loop-holds c = rowing-begun _ (c .before .before .before .before .args .size) _ _ _ _ _ (c .fresh .ensures)
 
 decode-block-requires : tie.Need-decode-block-requires Inv-loop μ-loop
-decode-block-requires c κs = let a = c .before .before .before .before .before .before .before .before in row-block (a .args .src .now) (a .args .size) (a .args .row) (a .args .offset) (a .args .out .now) (a .args .map .now) (c .before .before .before .loop .out) (c .before .before .before .loop .map) (c .before .before .before .loop .state) (c .before .before .before .loop .col) (omega arith) (a .pre) (c .before .before .before .loop .inv)
+decode-block-requires c κs = let a = at-start (at-loop c) in let l = at-loop c .loop in row-block (a .args .src .now) (a .args .size) (a .args .row) (a .args .offset) (a .args .out .now) (a .args .map .now) (l .out) (l .map) (l .state) (l .col) (omega arith) (a .pre) (l .inv)
 
 mul-end-block : tie.Need-mul-end-block Inv-loop μ-loop
-mul-end-block c = let a = c .before .before .before .before .before .before .before .before .before .before .before .before .before .before .before in omega (arith, a .pre .width, places-fit (a .args .src .now) (a .args .size) (a .args .row) (a .args .offset) (a .args .out .now) (a .args .map .now) (a .pre))
+mul-end-block c = let a = at-start (at-loop (after-decode-block (c .before .before) .before)) in omega (arith, a .pre .width, places-fit (a .args .src .now) (a .args .size) (a .args .row) (a .args .offset) (a .args .out .now) (a .args .map .now) (a .pre))
 
 add-end-block : tie.Need-add-end-block Inv-loop μ-loop
-add-end-block c = let a = c .before .before .before .before .before .before .before .before .before .before .before .before .before .before .before in omega (arith, a .pre .width, places-fit (a .args .src .now) (a .args .size) (a .args .row) (a .args .offset) (a .args .out .now) (a .args .map .now) (a .pre))
+add-end-block c = let a = at-start (at-loop (after-decode-block (c .before .before) .before)) in omega (arith, a .pre .width, places-fit (a .args .src .now) (a .args .size) (a .args .row) (a .args .offset) (a .args .out .now) (a .args .map .now) (a .pre))
 
 end-block-requires : tie.Need-end-block-requires Inv-loop μ-loop
-end-block-requires c κs = let a = c .before .before .before .before .before .before .before .before .before .before .before .before .before .before .before in omega (arith, a .pre .width, places-fit (a .args .src .now) (a .args .size) (a .args .row) (a .args .offset) (a .args .out .now) (a .args .map .now) (a .pre))
+end-block-requires c κs = let a = at-start (at-loop (after-decode-block (c .before .before) .before)) in omega (arith, a .pre .width, places-fit (a .args .src .now) (a .args .size) (a .args .row) (a .args .offset) (a .args .out .now) (a .args .map .now) (a .pre))
 
 add-col : tie.Need-add-col Inv-loop μ-loop
 add-col c = omega arith
@@ -40,11 +50,13 @@ loop-less c = omega arith
 
 loop-again : tie.Need-loop-again Inv-loop μ-loop
 loop-again c =
-    let a = c .before .before .before .before .before .before .before .before .before .before .before .before .before .before .before .before .before .before .args in
-    let at-loop = c .before .before .before .before .before .before .before .before .before .before .before .before .before .loop in
-    let d = c .before .before .before .before .before .before .before .before .before .decode-block .ensures in
-    rowing-on (a .src .now) (a .size) (a .row) (a .offset) (a .out .now) (a .map .now) (at-loop .out) _ (at-loop .map) _ _ (at-loop .state) _ (at-loop .col) (omega arith) (d .0)
-    (d .1 .0) (d .1 .1) (c .before .before .end-block .ensures) (at-loop .inv)
+    let x = after-decode-block (c .before .before .before .before .before) in
+    let p = at-loop (x .before) in
+    let a = at-start p .args in
+    let l = p .loop in
+    let d = x .decode-block .ensures in
+    rowing-on (a .src .now) (a .size) (a .row) (a .offset) (a .out .now) (a .map .now) (l .out) _ (l .map) _ _ (l .state) _ (l .col) (omega arith) (d .0)
+    (d .1 .0) (d .1 .1) (c .before .before .end-block .ensures) (l .inv)
 
 same-length : tie.Need-same-length Inv-loop μ-loop
 same-length c = search needs
@@ -53,7 +65,7 @@ same-length-2 : tie.Need-same-length-2 Inv-loop μ-loop
 same-length-2 c = search needs
 
 returns : tie.Need-returns Inv-loop μ-loop
-returns c = let a = c .before .before .before .before .before .before .before in let l = c .before .before .loop in (
+returns c = let a = at-start (c .before .before) in let l = c .before .before .loop in (
   row-read (a .args .src .now) (a .args .size) (a .args .row) (a .args .offset) (a .args .out .now) (a .args .map .now) (l .state) (l .col) (omega arith) (l .inv .reader-left),
   (
     rowed (a .args .src .now) (a .args .size) (a .args .row) (a .args .offset) (a .args .out .now) (a .args .map .now) sample-kind (l .state) (l .col) (a .args .out .now) (l .out) (omega arith) (l .inv .samples-left),

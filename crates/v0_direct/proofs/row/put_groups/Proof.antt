@@ -18,9 +18,16 @@ use Rattle.v0_cells.proofs.FourLaws.{fours-put}
 use Rattle.v0_direct.proofs.row.put_groups.Statement.{statement}
 use Rattle.v0_direct.proofs.row.put_groups.Tie as tie
 
--- Points on the way: the entry, where the bits of each residual are known, and each group once it is put.
+-- Points on the way: where the lengths are taken, where the bits of two residuals are known, the entry, where those of all are known, and
+-- each group once it is put.
+abbrev after-lengths : tie.After-residual-length2 → tie.After-lengths
+after-lengths c = c .before .before .before .before
+
+abbrev two-counted : tie.After-residual-length4 → tie.After-residual-length2
+two-counted c = c .before .before .before .before
+
 abbrev start : tie.After-residual-length4 → tie.Start
-start c = c .before .before .before .before .before .before .before .before .before .before .before .before
+start c = after-lengths (two-counted c) .before .before .before .before
 
 abbrev counted : tie.After-put-four → tie.After-residual-length4
 counted c = c .before .before .before
@@ -36,11 +43,11 @@ third c = c .before .before .before .before .before
 
 -- The bits of each residual, after a head that stands in the stream.
 planned : (c : tie.After-residual-length4) → (let a = start c .args in
-    Planned (now (a .src)) (a .state) (a .head) (c .before .before .before .before .before .before .residual-length .result) (c .before .before .before .before .residual-length2 .result) (c .before .before .residual-length3 .result) (c .residual-length4 .result))
+    Planned (now (a .src)) (a .state) (a .head) (two-counted c .before .before .residual-length .result) (two-counted c .residual-length2 .result) (c .before .before .residual-length3 .result) (c .residual-length4 .result))
 planned c =
     let ls = start c .args .head .lengths in
     let n₂ = c .before .before in
-    let n₁ = n₂ .before .before in
+    let n₁ = two-counted c in
     let n₀ = n₁ .before .before in
     record {
       opened = start c .pre .1 .0;

@@ -12,6 +12,19 @@ use Rattle.v0_direct.proofs.SampleLaws.{sample-bits, sample-put, sample
 use Rattle.v0_direct.proofs.sample.decode_sample.Statement.{statement}
 use Rattle.v0_direct.proofs.sample.decode_sample.Tie as tie
 
+-- Places that the answers look back at.
+abbrev at-start : tie.After-lengths → tie.Start
+at-start c = c .before .before .before .before .before
+
+abbrev after-predict : tie.After-read-residual → tie.After-predict
+after-predict c = c .before .before .before
+
+abbrev after-put : tie.After-put-mark → tie.After-put
+after-put c = c .before .before .before .before
+
+abbrev after-put-mark : tie.After-result → tie.After-put-mark
+after-put-mark c = c .before .before .before
+
 predict-requires : tie.Need-predict-requires
 predict-requires c κs = search needs
 
@@ -34,13 +47,13 @@ read-residual-requires : tie.Need-read-residual-requires
 read-residual-requires c κs = search needs
 
 mul-place : tie.Need-mul-place
-mul-place c = let a = c .before .before .before .before .before .before .before .before .before in record { fits = omega (arith, row-fits _ _ _ (a .pre .0) (a .args .row) (omega arith)) }
+mul-place c = let a = at-start (after-predict c .before) in record { fits = omega (arith, row-fits _ _ _ (a .pre .0) (a .args .row) (omega arith)) }
 
 add-place : tie.Need-add-place
-add-place c = let a = c .before .before .before .before .before .before .before .before .before in record { fits = omega (arith, row-fits _ _ _ (a .pre .0) (a .args .row) (omega arith)) }
+add-place c = let a = at-start (after-predict c .before) in record { fits = omega (arith, row-fits _ _ _ (a .pre .0) (a .args .row) (omega arith)) }
 
 add-place-2 : tie.Need-add-place-2
-add-place-2 c = let a = c .before .before .before .before .before .before .before .before .before in record { fits = omega (arith, row-fits _ _ _ (a .pre .0) (a .args .row) (omega arith)) }
+add-place-2 c = let a = at-start (after-predict c .before) in record { fits = omega (arith, row-fits _ _ _ (a .pre .0) (a .args .row) (omega arith)) }
 
 put-requires : tie.Need-put-requires
 put-requires c κs = search needs
@@ -56,14 +69,14 @@ same-length-2 c = search needs
 
 returns : tie.Need-returns
 unfolding length-of
-returns c = let a = c .before .before .before .before .before .before .before .before .before .before .before .before .before .before .before .before .before .before in let x = c .before .before .before .before .before .before .before .before .before in
+returns c = let m = after-put-mark c in let p = after-put m in let x = p .before .before in let f = after-predict x in let a = at-start (f .before) in
     let l = getD (a .args .head .row .lengths) (2 * (a .args .c % 2) + a .args .c / 8) (pos 0) in
-    let en = rw (toZ-ofZ w32 l (record { sfits = c .before .before .before .before .before .before .before .before .before .before .before .residual-bits-arg .given })) at (c .before .before .before .before .before .before .before .before .before .before .residual-bits .ensures) in
-    let ep = c .before .before .before .before .before .before .before .before .before .before .before .before .predict .ensures in (
+    let en = rw (toZ-ofZ w32 l (record { sfits = x .before .before .residual-bits-arg .given })) at (x .before .residual-bits .ensures) in
+    let ep = f .predict .ensures in (
       sample-bits _ (a .args .size) _ _ (a .args .head) (a .args .c) (a .args .bits) _ _ _ ep en (x .read-residual .ensures),
       (
-        sample-put _ (a .args .size) _ _ (a .args .head) (a .args .c) (a .args .bits) _ _ _ ep en (x .read-residual .ensures) _ _ (c .before .before .before .before .before .before .before .put .ensures),
-        sample-mark _ (a .args .size) _ _ (a .args .head) (a .args .c) (a .args .bits) _ _ _ ep en (x .read-residual .ensures) _ _ (c .before .before .before .put-mark .ensures),
+        sample-put _ (a .args .size) _ _ (a .args .head) (a .args .c) (a .args .bits) _ _ _ ep en (x .read-residual .ensures) _ _ (p .put .ensures),
+        sample-mark _ (a .args .size) _ _ (a .args .head) (a .args .c) (a .args .bits) _ _ _ ep en (x .read-residual .ensures) _ _ (m .put-mark .ensures),
       ),
     )
 

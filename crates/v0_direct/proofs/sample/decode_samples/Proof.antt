@@ -12,6 +12,16 @@ Inv-loop src size row col head out₀ map₀ bits₀ k₀ out map bits k = Sampl
 abbrev μ-loop : tie.MeasureT-loop
 μ-loop src size row col head out₀ map₀ bits₀ k₀ out map bits k = 16 - k
 
+-- Places that the answers look back at.
+abbrev at-start : tie.After-bits Inv-loop μ-loop → tie.Start Inv-loop μ-loop
+at-start c = c .before .before .before .before .before
+
+abbrev at-loop : tie.After-stream-column Inv-loop μ-loop → tie.At-loop Inv-loop μ-loop
+at-loop c = c .before .before
+
+abbrev after-stream-column : tie.After-decode-sample Inv-loop μ-loop → tie.After-stream-column Inv-loop μ-loop
+after-stream-column c = c .before .before .before
+
 loop-holds : tie.Need-loop-holds Inv-loop μ-loop
 loop-holds c = sampling-begun _ _ _ _ _ _ _ _
 
@@ -19,7 +29,7 @@ stream-column-requires : tie.Need-stream-column-requires Inv-loop μ-loop
 stream-column-requires c κs = search needs
 
 decode-sample-requires : tie.Need-decode-sample-requires Inv-loop μ-loop
-decode-sample-requires c κs = (c .before .before .before .before .before .before .before .before .before .before .pre, c .before .before .stream-column .ensures .1)
+decode-sample-requires c κs = let s = c .before .before in (at-start (at-loop s .before) .pre, s .stream-column .ensures .1)
 
 add-k : tie.Need-add-k Inv-loop μ-loop
 add-k c = omega arith
@@ -28,7 +38,9 @@ loop-less : tie.Need-loop-less Inv-loop μ-loop
 loop-less c = omega arith
 
 loop-again : tie.Need-loop-again Inv-loop μ-loop
-loop-again c = let d = c .before .before .before .before .decode-sample .ensures in sampling-on _ (c .before .before .before .before .before .before .before .before .before .before .before .before .before .before .before .args .size) _ _ (c .before .before .before .before .before .before .before .before .before .before .before .before .before .before .before .args .head) _ _ _ _ _ _ _ _ _ _ _ (omega arith) (c .before .before .before .before .before .before .before .stream-column .ensures .0) (d .0) (d .1 .0) (d .1 .1) (c .before .before .before .before .before .before .before .before .before .loop .inv)
+loop-again c =
+    let x = c .before .before .before .before in let s = after-stream-column x in let l = at-loop s in let a = at-start (l .before) .args in let d = x .decode-sample .ensures in
+    sampling-on _ (a .size) _ _ (a .head) _ _ _ _ _ _ _ _ _ _ _ (omega arith) (s .stream-column .ensures .0) (d .0) (d .1 .0) (d .1 .1) (l .loop .inv)
 
 same-length : tie.Need-same-length Inv-loop μ-loop
 same-length c = search needs
@@ -37,7 +49,7 @@ same-length-2 : tie.Need-same-length-2 Inv-loop μ-loop
 same-length-2 c = search needs
 
 returns : tie.Need-returns Inv-loop μ-loop
-returns c = sampled _ (c .before .before .before .before .before .before .before .args .size) _ _ (c .before .before .before .before .before .before .before .args .head) _ _ _ _ _ _ _ (omega arith) (c .before .loop .inv)
+returns c = let a = at-start (c .before .before) .args in sampled _ (a .size) _ _ (a .head) _ _ _ _ _ _ _ (omega arith) (c .before .loop .inv)
 
 pub decode-samples-spec : {M : Type 1} → statement M
 decode-samples-spec =
