@@ -7,6 +7,19 @@ use Rattle.v0_two_phase.proofs.FrameLaws.{rows-first}
 use Rattle.v0_two_phase.proofs.frame.store_rows.Statement.{statement}
 use Rattle.v0_two_phase.proofs.frame.store_rows.Tie as tie
 
+-- Places that the answers look back at.
+abbrev at-start : tie.After-head-rows → tie.Start
+at-start c = c .before .before .before .before .before
+
+abbrev after-head-rows : tie.After-decode-rows → tie.After-head-rows
+after-head-rows c = c .before .before .before
+
+abbrev after-decode-rows : tie.After-no-map2 → tie.After-decode-rows
+after-decode-rows c = c .before .before .before
+
+abbrev before-parse-rows : tie.After-parse-rows → tie.After-no-map2
+before-parse-rows c = c .before .before .before
+
 head-rows-requires : tie.Need-head-rows-requires
 head-rows-requires c κs = search needs
 
@@ -27,10 +40,13 @@ same-length-2 c = search needs
 
 returns : tie.Need-returns
 returns c =
-    let z = c .before .before .before .before .before .before .before .before .before .before .before .before .before .before .before .before .before .before .args .size in
-    let first = c .before .before .before .before .before .before .before .before .before .before .before .before .before .head-rows .ensures in
-    let rows = c .before .before .before .before .before .before .before .before .before .before .decode-rows .ensures in
-    let phase = c .before .before .before .before .parse-rows .ensures in
+    let parsed = c .before .before .before .before in
+    let decoded = after-decode-rows (before-parse-rows parsed) in
+    let headed = after-head-rows decoded in
+    let z = at-start headed .args .size in
+    let first = headed .head-rows .ensures in
+    let rows = decoded .decode-rows .ensures in
+    let phase = parsed .parse-rows .ensures in
     (phase .0 ∙ ap (phase-one _ _ _ _ _) (rows-first _ _ z sample-kind _ _ _ first (rows .1 .0)), phase .1)
 
 pub store-rows-spec : {M : Type 1} → statement M

@@ -13,6 +13,13 @@ Inv-loop out₀ w row col up k₀ out k = Predicting sample-stage w row col up o
 abbrev μ-loop : tie.MeasureT-loop
 μ-loop out₀ w row col up k₀ out k = 16 - k
 
+-- Places that the answers look back at.
+abbrev at-start : tie.At-loop Inv-loop μ-loop → tie.Start Inv-loop μ-loop
+at-start c = c .before .before
+
+abbrev at-loop : tie.After-add-sample Inv-loop μ-loop → tie.At-loop Inv-loop μ-loop
+at-loop c = c .before .before .before .before
+
 loop-holds : tie.Need-loop-holds Inv-loop μ-loop
 loop-holds c = predicting-begun _ _ _ _ _ _
 
@@ -20,7 +27,7 @@ stream-column-requires : tie.Need-stream-column-requires Inv-loop μ-loop
 stream-column-requires c κs = search needs
 
 add-sample-requires : tie.Need-add-sample-requires Inv-loop μ-loop
-add-sample-requires c κs = (row-kept _ (c .before .before .before .before .before .pre .0) (c .before .before .before .loop .inv .same-length), (c .before .before .before .before .before .pre .1, c .before .stream-column .ensures .1))
+add-sample-requires c κs = (row-kept _ (at-start (c .before .before .before) .pre .0) (c .before .before .before .loop .inv .same-length), (at-start (c .before .before .before) .pre .1, c .before .stream-column .ensures .1))
 
 add-k : tie.Need-add-k Inv-loop μ-loop
 add-k c = search needs
@@ -29,7 +36,7 @@ loop-less : tie.Need-loop-less Inv-loop μ-loop
 loop-less c = search needs
 
 loop-again : tie.Need-loop-again Inv-loop μ-loop
-loop-again c = predicting-on _ _ _ _ _ _ _ _ _ _ (search needs) (c .before .before .add-sample .kept .0) (c .before .before .before .before .stream-column .ensures .0) (c .before .before .add-sample .ensures) (c .before .before .before .before .before .before .loop .inv)
+loop-again c = predicting-on _ _ _ _ _ _ _ _ _ _ (search needs) (c .before .before .add-sample .kept .0) (c .before .before .before .before .stream-column .ensures .0) (c .before .before .add-sample .ensures) (at-loop (c .before .before) .loop .inv)
 
 same-length : tie.Need-same-length Inv-loop μ-loop
 same-length c = search needs

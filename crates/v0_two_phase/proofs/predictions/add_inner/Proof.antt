@@ -7,6 +7,13 @@ use Rattle.v0_two_phase.proofs.PredictionLaws.{late-inside, inner-block
 use Rattle.v0_two_phase.proofs.predictions.add_inner.Statement.{statement}
 use Rattle.v0_two_phase.proofs.predictions.add_inner.Tie as tie
 
+-- Places that the answers look back at.
+abbrev then1 : tie.After-slice-known2 → tie.Then1
+then1 c = c .before .before .before .before
+
+abbrev else1 : tie.After-slice-known3 → tie.Else1
+else1 c = c .before .before .before .before
+
 mul-base : tie.Need-mul-base
 mul-base c = search needs
 
@@ -21,8 +28,8 @@ same-length c = search needs
 
 returns : tie.Need-returns
 returns c =
-    let a = c .before .before .before .before .before .before in
-    rw (c .before .before .before .before .if1 .taken)
+    let a = then1 c .before .before in
+    rw (then1 c .if1 .taken)
     (c .before .before .add-up .ensures
     ∙ sym (inner-block sample-stage (a .args .w) (a .args .row) (a .args .col) _ (a .pre .0 .rows-above) (a .pre .1 .0) (a .pre .1 .1) (a .args .out .now)))
 
@@ -34,8 +41,8 @@ same-length-2 c = search needs
 
 returns-2 : tie.Need-returns-2
 returns-2 c =
-    let a = c .before .before .before .before .before .before in
-    rw (c .before .before .before .before .if1 .left)
+    let a = else1 c .before .before in
+    rw (else1 c .if1 .left)
     (c .before .before .add-left .ensures
     ∙ sym (inner-block sample-stage (a .args .w) (a .args .row) (a .args .col) _ (a .pre .0 .rows-above) (a .pre .1 .0) (a .pre .1 .1) (a .args .out .now)))
 

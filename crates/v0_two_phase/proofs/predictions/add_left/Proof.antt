@@ -16,6 +16,16 @@ Inv-loop out w base two one values₀ c₀ values c = Made sample-kind w base fa
 abbrev μ-loop : tie.MeasureT-loop
 μ-loop out w base two one values₀ c₀ values c = 16 - c
 
+-- Places that the answers look back at.
+abbrev at-start : tie.At-loop Inv-loop μ-loop → tie.Start Inv-loop μ-loop
+at-start c = c .before .before .before .before
+
+abbrev at-loop : tie.After-wrapping-add-u16 Inv-loop μ-loop → tie.At-loop Inv-loop μ-loop
+at-loop c = c .before .before .before .before
+
+abbrev past-loop : tie.After-slice-known5 Inv-loop μ-loop → tie.At-loop Inv-loop μ-loop
+past-loop c = c .before .before .before .before .before
+
 sub-two : tie.Need-sub-two Inv-loop μ-loop
 sub-two c = omega arith
 
@@ -66,19 +76,19 @@ loop-less c = omega arith
 
 loop-again : tie.Need-loop-again Inv-loop μ-loop
 loop-again c =
-    let a = c .before .before .before .before .before .before .before .before .args in
-    let l = c .before .before .before .before .loop in
+    let a = at-start (at-loop c) .args in
+    let l = at-loop c .loop in
     let p = choice-left (a .w) (a .base) (l .c) _ 0 (a .out .now) (c .before .before .sample-of .ensures) in
     made-on _ _ _ _ _ _ _ _ _ (omega arith) (c .wrapping-add-u16 .ensures ∙ ap (λ x. (x + getD (a .out .now) (a .base + l .c) 0) % 65_536) p) (l .inv)
 
 store-samples-requires : tie.Need-store-samples-requires Inv-loop μ-loop
-store-samples-requires c κs = (c .before .before .before .before .before .before .pre .0 .room, c .before .before .before .before .before .before .pre .1)
+store-samples-requires c κs = (at-start (c .before .before) .pre .0 .room, at-start (c .before .before) .pre .1)
 
 same-length : tie.Need-same-length Inv-loop μ-loop
 same-length c = search needs
 
 returns : tie.Need-returns Inv-loop μ-loop
-returns c = staged sample-kind _ _ _ _ _ _ _ _ (c .before .before .before .before .before .before .before .before .before .pre .0) (omega arith) (c .before .before .before .before .before .loop .inv) (c .before .before .store-samples .ensures)
+returns c = staged sample-kind _ _ _ _ _ _ _ _ (at-start (past-loop c) .pre .0) (omega arith) (past-loop c .loop .inv) (c .before .before .store-samples .ensures)
 
 pub add-left-spec : {M : Type 1} → statement M
 add-left-spec =

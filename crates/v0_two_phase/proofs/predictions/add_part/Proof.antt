@@ -15,20 +15,27 @@ Inv-loop out₀ dirs start from to w row k₀ out k = Part sample-stage w row st
 abbrev μ-loop : tie.MeasureT-loop
 μ-loop out₀ dirs start from to w row k₀ out k = to - k
 
+-- Places that the answers look back at.
+abbrev at-start : tie.At-loop Inv-loop μ-loop → tie.Start Inv-loop μ-loop
+at-start c = c .before .before .before
+
+abbrev at-loop : tie.After-add-block Inv-loop μ-loop → tie.At-loop Inv-loop μ-loop
+at-loop c = c .before .before .before .before
+
 loop-holds : tie.Need-loop-holds Inv-loop μ-loop
 loop-holds c = part-begun _ _ _ _ _ _ _ _
 
 mul-add-block : tie.Need-mul-add-block Inv-loop μ-loop
-mul-add-block c = omega (arith, c .before .before .before .before .before .pre .1 .1, c .before .before .before .before .before .pre .0 .width)
+mul-add-block c = omega (arith, at-start (c .before .before) .pre .1 .1, at-start (c .before .before) .pre .0 .width)
 
 add-add-block : tie.Need-add-add-block Inv-loop μ-loop
-add-add-block c = omega (arith, c .before .before .before .before .before .pre .1 .0)
+add-add-block c = omega (arith, at-start (c .before .before) .pre .1 .0)
 
 shared-slice-read-add-block : tie.Need-shared-slice-read-add-block Inv-loop μ-loop
-shared-slice-read-add-block c = omega (arith, c .before .before .before .before .before .before .pre .1 .0)
+shared-slice-read-add-block c = omega (arith, at-start (c .before .before .before) .pre .1 .0)
 
 add-block-requires : tie.Need-add-block-requires Inv-loop μ-loop
-add-block-requires c κs = (row-kept _ (c .before .before .before .before .before .before .pre .0) (c .before .before .before .loop .inv .same-length), omega (arith, c .before .before .before .before .before .before .pre .1 .1))
+add-block-requires c κs = (row-kept _ (at-start (c .before .before .before) .pre .0) (c .before .before .before .loop .inv .same-length), omega (arith, at-start (c .before .before .before) .pre .1 .1))
 
 add-k : tie.Need-add-k Inv-loop μ-loop
 add-k c = omega arith
@@ -38,7 +45,7 @@ loop-less c = omega arith
 
 loop-again : tie.Need-loop-again Inv-loop μ-loop
 loop-again c =
-    part-on _ _ _ _ _ _ _ _ _ _ _ _ (omega arith) (c .before .before .before .before .before .before .before .before .before .pre .1 .0) refl (c .before .before .add-block .kept .0) (c .before .before .add-block .ensures) (c .before .before .before .before .before .before .loop .inv)
+    part-on _ _ _ _ _ _ _ _ _ _ _ _ (omega arith) (at-start (at-loop (c .before .before)) .pre .1 .0) refl (c .before .before .add-block .kept .0) (c .before .before .add-block .ensures) (at-loop (c .before .before) .loop .inv)
 
 same-length : tie.Need-same-length Inv-loop μ-loop
 same-length c = search needs

@@ -5,6 +5,7 @@ use native.Mathlib.Omega.{arith}
 use denote.Ref.{now}
 use borrow.Author.Needs.{needs}
 use Rattle.rules.specs.Phases.{sample-stage}
+use Rattle.rules.specs.V0.{blocks-in}
 use Rattle.v0_two_phase.proofs.PredictionLaws.{Rows, rows-begun, rows-on, rows-done, whole-row}
 use Rattle.v0_two_phase.proofs.RowsLaws.{row-within, directions-within}
 use Rattle.v0_two_phase.proofs.predictions.add_rows.Statement.{statement}
@@ -16,6 +17,13 @@ Inv-loop out₀ dirs w h blocks r₀ out r = Rows sample-stage w h dirs out₀ o
 abbrev μ-loop : tie.MeasureT-loop
 μ-loop out₀ dirs w h blocks r₀ out r = h - r
 
+-- Places that the answers look back at.
+abbrev at-start : tie.At-loop Inv-loop μ-loop → tie.Start Inv-loop μ-loop
+at-start c = c .before .before .before .before
+
+abbrev at-loop : tie.After-add-part Inv-loop μ-loop → tie.At-loop Inv-loop μ-loop
+at-loop c = c .before .before .before
+
 blocks-in-requires : tie.Need-blocks-in-requires Inv-loop μ-loop
 blocks-in-requires c κs = search needs
 
@@ -26,16 +34,16 @@ add-loop : tie.Need-add-loop Inv-loop μ-loop
 add-loop c = search needs
 
 mul-add-part : tie.Need-mul-add-part Inv-loop μ-loop
-mul-add-part c = rw (c .before .before .before .blocks-in .ensures) (omega (arith, directions-within _ (c .before .before .before .before .before .before .args .size .height) (c .before .before .loop .r) _ (omega arith) (c .before .before .before .before .before .before .pre .directions-lent)))
+mul-add-part c = rw (c .before .before .before .blocks-in .ensures) (omega (arith, directions-within _ (at-start (c .before .before) .args .size .height) (c .before .before .loop .r) _ (omega arith) (at-start (c .before .before) .pre .directions-lent)))
 
 add-add-part : tie.Need-add-add-part Inv-loop μ-loop
 add-add-part c = search needs
 
 add-part-requires : tie.Need-add-part-requires Inv-loop μ-loop
 add-part-requires c κs =
-    let p = c .before .before .before .before .before .before .pre in
+    let p = at-start (c .before .before) .pre in
     let l = c .before .before .loop in
-    let h = c .before .before .before .before .before .before .args .size .height in (
+    let h = at-start (c .before .before) .args .size .height in (
       record {
         width = p .frame .width;
         rows-above = omega arith;
@@ -53,11 +61,12 @@ loop-less c = search needs
 
 loop-again : tie.Need-loop-again Inv-loop μ-loop
 loop-again c =
-    let a = c .before .before .before .before .before .before .before .before .before .args in
-    let l = c .before .before .before .before .before .loop in
-    let b = c .before .before .before .before .before .before .blocks-in in
+    let a = at-start (at-loop (c .before .before)) .args in
+    let l = at-loop (c .before .before) .loop in
+    let b = at-loop (c .before .before) .before .blocks-in in
+    let n = blocks-in (a .size .width) in
     rows-on _ _ _ _ _ _ _ _ (omega arith) (c .before .before .add-part .kept .0)
-    (rw (b .ensures) at (whole-row _ _ _ (l .r * b .result) (b .result) (now (a .dirs)) _ _ (c .before .before .add-part .ensures))) (l .inv)
+    (whole-row _ _ _ (l .r * n) n (now (a .dirs)) _ _ (rw (b .ensures) at (c .before .before .add-part .ensures))) (l .inv)
 
 same-length : tie.Need-same-length Inv-loop μ-loop
 same-length c = search needs

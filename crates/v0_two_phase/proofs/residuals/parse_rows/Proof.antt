@@ -18,18 +18,28 @@ Inv-loop src offsets out₀ dirs₀ w h blocks r₀ out dirs r = Rows src offset
 abbrev μ-loop : tie.MeasureT-loop
 μ-loop src offsets out₀ dirs₀ w h blocks r₀ out dirs r = h - r
 
+-- Places that the answers look back at.
+abbrev entry : tie.After-blocks-in Inv-loop μ-loop → tie.Start Inv-loop μ-loop
+entry c = c .before .before .before .before .before
+
+abbrev at-start : tie.At-loop Inv-loop μ-loop → tie.Start Inv-loop μ-loop
+at-start c = entry (c .before)
+
+abbrev at-loop : tie.After-parse-v0-residuals-arg2 Inv-loop μ-loop → tie.At-loop Inv-loop μ-loop
+at-loop c = c .before .before .before .before
+
 -- The row lies within the frame, and its directions within theirs.
 samples-room : (c : tie.In-loop Inv-loop μ-loop)
-    → (c .before .loop .r + 2) * c .before .before .before .before .before .before .before .args .size .width + c .before .before .before .before .before .before .before .args .size .width ≤ length (c .before .loop .out)
+    → (c .before .loop .r + 2) * at-start (c .before) .args .size .width + at-start (c .before) .args .size .width ≤ length (c .before .loop .out)
 samples-room c =
-    row-within _ (c .before .before .before .before .before .before .before .args .size .height) _ _ (omega arith) (c .before .loop .inv .same-samples ∙ c .before .before .before .before .before .before .before .pre .0 .frame .lent)
+    row-within _ (at-start (c .before) .args .size .height) _ _ (omega arith) (c .before .loop .inv .same-samples ∙ at-start (c .before) .pre .0 .frame .lent)
 
 dirs-room : (c : tie.In-loop Inv-loop μ-loop)
     → c .before .loop .r * c .before .before .blocks-in .result + c .before .before .blocks-in .result ≤ length (c .before .loop .dirs)
 dirs-room c =
     rw (c .before .before .blocks-in .ensures)
-    (directions-within _ (c .before .before .before .before .before .before .before .args .size .height) _ _ (omega arith)
-    (omega (arith, c .before .loop .inv .same-dirs, c .before .before .before .before .before .before .before .pre .0 .directions-lent)))
+    (directions-within _ (at-start (c .before) .args .size .height) _ _ (omega arith)
+    (omega (arith, c .before .loop .inv .same-dirs, at-start (c .before) .pre .0 .directions-lent)))
 
 blocks-in-requires : tie.Need-blocks-in-requires Inv-loop μ-loop
 blocks-in-requires c κs = search needs
@@ -57,7 +67,7 @@ shared-slice-read-parse-v0-residuals :
 shared-slice-read-parse-v0-residuals c = search needs
 
 mul-parse-v0-residuals-2 : tie.Need-mul-parse-v0-residuals-2 Inv-loop μ-loop
-mul-parse-v0-residuals-2 c = omega (arith, product (c .before .before .loop .r + 2) (c .before .before .before .before .before .before .before .before .args .size .width) (omega (arith, c .before .before .before .before .before .before .before .before .pre .0 .frame .height)) (omega (arith, c .before .before .before .before .before .before .before .before .pre .0 .frame .width)))
+mul-parse-v0-residuals-2 c = omega (arith, product (c .before .before .loop .r + 2) (at-start (c .before .before) .args .size .width) (omega (arith, at-start (c .before .before) .pre .0 .frame .height)) (omega (arith, at-start (c .before .before) .pre .0 .frame .width)))
 
 sub-parse-v0-residuals : tie.Need-sub-parse-v0-residuals Inv-loop μ-loop
 sub-parse-v0-residuals c = omega (arith, samples-room (c .before))
@@ -79,11 +89,12 @@ part-parse-v0-residuals-end-2 c = search needs
 
 parse-v0-residuals-requires : tie.Need-parse-v0-residuals-requires Inv-loop μ-loop
 parse-v0-residuals-requires c κs =
-    let l = c .before .before .before .before .loop in
-    let b = c .before .before .before .before .before .blocks-in in
-    let w = c .before .before .before .before .before .before .before .before .before .before .args .size .width in
+    let x = at-loop c in
+    let l = x .loop in
+    let b = x .before .blocks-in in
+    let w = at-start x .args .size .width in
     record {
-      width = c .before .before .before .before .before .before .before .before .before .before .pre .0 .frame .width;
+      width = at-start x .pre .0 .frame .width;
       samples-lent = rw (tail-lent ((l .r + 2) * w) (l .out)) (omega (arith, samples-room (c .before .before .before), length-drop ((l .r + 2) * w) (l .out)));
       directions-lent =
           rw (tail-lent (l .r * b .result) (l .dirs)) (omega (arith, dirs-room (c .before .before .before), length-drop (l .r * b .result) (l .dirs), b .ensures));
@@ -97,17 +108,18 @@ loop-less c = search needs
 
 loop-again : tie.Need-loop-again Inv-loop μ-loop
 loop-again c =
-    let l = c .before .before .before .before .before .before .before .before .before .loop in
-    let z = c .before .before .before .before .before .before .before .before .before .before .before .before .before .before .before .args .size in
-    let b = c .before .before .before .before .before .before .before .before .before .before .blocks-in in
+    let x = at-loop (c .before .before .before .before .before) in
+    let l = x .loop in
+    let z = at-start x .args .size in
+    let b = x .before .blocks-in in
     let n = blocks-in (z .width) in
     let first = (l .r + 2) * z .width in
     let p = c .before .before .before .before .parse-v0-residuals in
-    let enough : n * (z .height - 2) ≤ length (l .dirs) = omega (arith, l .inv .same-dirs, c .before .before .before .before .before .before .before .before .before .before .before .before .before .before .before .pre .0 .directions-lent) in
+    let enough : n * (z .height - 2) ≤ length (l .dirs) = omega (arith, l .inv .same-dirs, at-start x .pre .0 .directions-lent) in
     rw (b .ensures)
     (rows-on _ _ _ _ _ _ _ (omega arith) (directions-within n (z .height) (l .r) (n * (z .height - 2)) (omega arith) (omega arith)) enough _ _ _ _
     (same-len-mid {X = ℕ} first (length (l .out) - first) (l .out) (p .last .1 .1 .1 .0) (p .kept .1 .1 .1 .0))
-    (rw (b .ensures) at (same-len-mid {X = ℕ} (l .r * b .result) (length (l .dirs) - l .r * b .result) (l .dirs) (p .last .1 .1 .1 .1 .0) (p .kept .1 .1 .1 .1 .0)))
+    (same-len-mid {X = ℕ} (l .r * n) (length (l .dirs) - l .r * n) (l .dirs) (p .last .1 .1 .1 .1 .0) (rw (b .ensures) at (p .kept .1 .1 .1 .1 .0)))
     (p .ensures .0) (rw (b .ensures) at (p .ensures .1)) (l .inv))
 
 same-length : tie.Need-same-length Inv-loop μ-loop
@@ -119,7 +131,7 @@ same-length-2 c = search needs
 returns : tie.Need-returns Inv-loop μ-loop
 unfolding scratch
 returns c =
-    rows-done _ _ _ _ _ _ _ _ _ (omega arith) (omega (arith, c .before .loop .inv .same-dirs, c .before .before .before .before .before .before .before .pre .0 .directions-lent)) (c .before .loop .inv)
+    rows-done _ _ _ _ _ _ _ _ _ (omega arith) (omega (arith, c .before .loop .inv .same-dirs, at-start (c .before) .pre .0 .directions-lent)) (c .before .loop .inv)
 
 pub parse-rows-spec : {M : Type 1} → statement M
 parse-rows-spec =

@@ -12,6 +12,13 @@ Inv-loop out₀ width col residuals k₀ out k = Storing width col residuals out
 abbrev μ-loop : tie.MeasureT-loop
 μ-loop out₀ width col residuals k₀ out k = 16 - k
 
+-- Places that the answers look back at.
+abbrev at-start : tie.At-loop Inv-loop μ-loop → tie.Start Inv-loop μ-loop
+at-start c = c .before .before
+
+abbrev at-loop : tie.After-store-residual Inv-loop μ-loop → tie.At-loop Inv-loop μ-loop
+at-loop c = c .before .before .before .before
+
 loop-holds : tie.Need-loop-holds Inv-loop μ-loop
 loop-holds c = storing-begun _ _ _ _
 
@@ -37,13 +44,13 @@ loop-less : tie.Need-loop-less Inv-loop μ-loop
 loop-less c = search needs
 
 loop-again : tie.Need-loop-again Inv-loop μ-loop
-loop-again c = storing-on _ _ (c .before .before .before .before .before .before .before .before .args .t4) _ _ _ _ _ (search needs) (search needs) (c .before .before .store-residual .kept .0) (c .before .before .before .before .stream-column .ensures .0) (c .before .before .store-residual .ensures) (c .before .before .before .before .before .before .loop .inv)
+loop-again c = storing-on _ _ (at-start (at-loop (c .before .before)) .args .t4) _ _ _ _ _ (search needs) (search needs) (c .before .before .store-residual .kept .0) (c .before .before .before .before .stream-column .ensures .0) (c .before .before .store-residual .ensures) (at-loop (c .before .before) .loop .inv)
 
 same-length : tie.Need-same-length Inv-loop μ-loop
 same-length c = search needs
 
 returns : tie.Need-returns Inv-loop μ-loop
-returns c = storing-done _ _ (c .before .before .before .args .t4) _ _ _ (omega arith) (search needs) (c .before .loop .inv)
+returns c = storing-done _ _ (at-start (c .before) .args .t4) _ _ _ (omega arith) (search needs) (c .before .loop .inv)
 
 pub store-edge-spec : {M : Type 1} → statement M
 store-edge-spec =
