@@ -35,6 +35,18 @@ array-read-put-sum-2 c = search needs
 abbrev at-start : tie.After-source-step → tie.Start
 at-start c = c .before .before .before
 
+abbrev stepped : tie.After-put-sum → tie.After-source-step
+stepped c = c .before .before
+
+abbrev first : tie.After-put-sum2 → tie.After-put-sum
+first c = c .before .before .before .before
+
+abbrev second : tie.After-put-sum3 → tie.After-put-sum2
+second c = c .before .before .before .before
+
+abbrev third : tie.After-put-sum4 → tie.After-put-sum3
+third c = c .before .before .before .before
+
 -- The last of the four sources lies before the block's end, and so do the others.
 last : (c : tie.After-source-step) → c .before .source .result + 3 * c .source-step .result < at-start c .args .base + 16
 last c =
@@ -42,7 +54,7 @@ last c =
     last-in (s .args .w) (s .args .base) (s .pre .0 .rows) (s .args .up) _ _ _ (omega (arith, s .pre .0 .rows, s .pre .0 .wide)) (s .pre .1 .1) (c .before .source .ensures .0) (c .source-step .ensures .0)
 
 put-sum-requires-2 : tie.Need-put-sum-requires-2
-put-sum-requires-2 c κs = let l = last (c .before .before .before .before .before) in (omega arith, omega arith)
+put-sum-requires-2 c κs = let l = last (stepped (c .before .before .before)) in (omega arith, omega arith)
 
 add-put-sum-3 : tie.Need-add-put-sum-3
 add-put-sum-3 c = search needs
@@ -57,7 +69,7 @@ array-read-put-sum-3 : tie.Need-array-read-put-sum-3
 array-read-put-sum-3 c = search needs
 
 put-sum-requires-3 : tie.Need-put-sum-requires-3
-put-sum-requires-3 c κs = let l = last (c .before .before .before .before .before .before .before .before .before) in (omega arith, omega arith)
+put-sum-requires-3 c κs = let l = last (stepped (first (c .before .before .before))) in (omega arith, omega arith)
 
 add-put-sum-5 : tie.Need-add-put-sum-5
 add-put-sum-5 c = search needs
@@ -72,17 +84,17 @@ array-read-put-sum-4 : tie.Need-array-read-put-sum-4
 array-read-put-sum-4 c = search needs
 
 put-sum-requires-4 : tie.Need-put-sum-requires-4
-put-sum-requires-4 c κs = let l = last (c .before .before .before .before .before .before .before .before .before .before .before .before .before) in (omega arith, omega arith)
+put-sum-requires-4 c κs = let l = last (stepped (first (second (c .before .before .before)))) in (omega arith, omega arith)
 
 same-length : tie.Need-same-length
 same-length c = search needs
 
 returns : tie.Need-returns
 returns c =
-    let x = c .before .before .before .before .before .before .before .before .before .before .before .before .before .before .before .before in
+    let p₄ = c .before .before in let p₃ = third p₄ in let p₂ = second p₃ in let p₁ = first p₂ in let x = stepped p₁ in
     let s = at-start x in
     four-put sample-kind (s .args .w) (s .args .base) (s .args .up) _ _ _ _ _ _ _ _ _ _ _ _ (s .pre .0 .rows) (x .before .source .ensures .0) (x .source-step .ensures .0)
-    (c .before .before .before .before .before .before .before .before .before .before .before .before .before .before .put-sum .ensures) (c .before .before .before .before .before .before .before .before .before .before .put-sum2 .ensures) (c .before .before .before .before .before .before .put-sum3 .ensures) (c .before .before .put-sum4 .ensures)
+    (p₁ .put-sum .ensures) (p₂ .put-sum2 .ensures) (p₃ .put-sum3 .ensures) (p₄ .put-sum4 .ensures)
 
 pub put-four-spec : {M : Type 1} → statement M
 put-four-spec =

@@ -26,8 +26,11 @@ second c = c .before .before .before .before .before
 abbrev third : tie.After-window-length4 → tie.After-window-length3
 third c = c .before .before .before .before .before
 
-abbrev fourth : tie.After-struct-known → tie.After-window-length4
-fourth c = c .before .before .before .before .before .before .before .before .before
+abbrev fourth : tie.After-field → tie.After-window-length4
+fourth c = c .before .before .before .before
+
+abbrev directed : tie.After-struct-known → tie.After-field
+directed c = c .before .before .before .before .before
 
 four-lengths : (c : tie.Start) → length (c .args .t4) ≡ 4
 four-lengths c = search needs
@@ -118,19 +121,19 @@ field-requires : tie.Need-field-requires
 field-requires c κs = search needs
 
 sub-t25 : tie.Need-sub-t25
-sub-t25 c = let left = after-fourth (fourth c) in omega arith
+sub-t25 c = let left = after-fourth (fourth (directed c)) in omega arith
 
 cast-t26 : tie.Need-cast-t26
 cast-t26 c = search needs
 
 add-t27 : tie.Need-add-t27
-add-t27 c = let left = after-fourth (fourth c) in let soon = start (first (second (third (fourth c)))) .pre .0 .soon in record { fits = omega arith }
+add-t27 c = let left = after-fourth (fourth (directed c)) in let soon = start (first (second (third (fourth (directed c))))) .pre .0 .soon in record { fits = omega arith }
 
 returns-5 : tie.Need-returns-5
 returns-5 c = λ _.
-    let d = fourth c in let x = third d in let b = second x in let y = first b in let a = start y in
+    let d = fourth (directed c) in let x = third d in let b = second x in let y = first b in let a = start y in
     head-made (now (a .args .src)) (a .args .base) (a .args .q) _ (a .pre .0) (y .before .before .window .ensures) (a .args .t4) _
-    (y .window-length .result) (b .window-length2 .result) (x .window-length3 .result) (d .window-length4 .result) (four-lengths a) (a .pre .1) (ap (λ x. eqb x 1) (c .before .before .before .before .before .field .ensures))
+    (y .window-length .result) (b .window-length2 .result) (x .window-length3 .result) (d .window-length4 .result) (four-lengths a) (a .pre .1) (ap (λ x. eqb x 1) (directed c .field .ensures))
     (y .window-length .ensures) (b .window-length2 .ensures) (x .window-length3 .ensures) (d .window-length4 .ensures)
 
 pub plain-head-spec : {M : Type 1} → statement M
