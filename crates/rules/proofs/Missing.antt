@@ -28,19 +28,18 @@ use Rattle.rules.specs.V0 as V0
 use Rattle.rules.specs.V2 as V2
 use Rattle.rules.proofs.Cells.{All, nil, more}
 use Rattle.rules.proofs.V2Rows.{then-rows-cases}
-use Rattle.rules.proofs.ReaderLaws.{fetched-there, fetched-missing, read-held, read-next}
+use Rattle.rules.proofs.ReaderLaws.{fetched-there, fetched-missing, counted-there, counted-more, read-held, read-next, fields-none, fields-more, four-fields, read-signed-is, read-residual-is}
 use Rattle.rules.proofs.Tests.{by-test}
 
 -- ── One read ──
 
 missing-is : (s : List ℕ) (p : ℕ) → fetched s p .missing ≡ past-end s p
-unfolding fetched
-missing-is s p = by-test (leb (p + 4) (length s)) (λ e. rw e) (λ e. rw e)
+missing-is s p =
+    by-test (leb (p + 4) (length s)) (λ e. rw (fetched-there s p (leb-true _ _ e), e)) (λ e. rw (fetched-missing s p (leb-false _ _ e), e))
 
 counted-one : (n : ℕ) (t : Bool) → n ≤ most-filler → counted n t ≡ min (n + cond t 1 0) most-filler
-unfolding counted
-counted-one n true l = refl
-counted-one n false l = omega arith
+counted-one n true l = counted-more n
+counted-one n false l = counted-there n ∙ omega arith
 
 -- A read counts the words that it fetches.
 pub read-counts : (s : List ℕ) (b : Bits) (n : ℕ) → b .filler ≤ most-filler
@@ -82,13 +81,13 @@ none-missing s r z = let e = run-counts s r (omega arith) in (λ q. omega arith,
 -- A count that isn't 0 is the flag of a reader that has one.
 
 counted-flag : (n : ℕ) (t : Bool) → not (eqb (counted n t) 0) ≡ not (eqb n 0) || t
-unfolding counted
-counted-flag n true = ap not (ne-eqb (min (n + 1) most-filler) 0 (λ e. omega arith)) ∙ sym (or-true (not (eqb n 0)))
+counted-flag n true =
+    ap (λ (k : ℕ). not (eqb k 0)) (counted-more n) ∙ ap not (ne-eqb (min (n + 1) most-filler) 0 (λ e. omega arith)) ∙ sym (or-true (not (eqb n 0)))
   where
     or-true : (x : Bool) → x || true ≡ true
     or-true true = refl
     or-true false = refl
-counted-flag n false = sym (or-false (not (eqb n 0)))
+counted-flag n false = ap (λ (k : ℕ). not (eqb k 0)) (counted-there n) ∙ sym (or-false (not (eqb n 0)))
   where
     or-false : (x : Bool) → x || false ≡ x
     or-false true = refl
@@ -156,13 +155,17 @@ either f true p q = p
 either f false p q = q
 
 fields-reach : (s ns : List ℕ) (b : Bits) → Reached s b (fields s ns b .bits)
-unfolding fields
-fields-reach s [] b = at-once
-fields-reach s (n ∷ ns) b = by-read s b n then fields-reach s ns (read s b n .bits)
+fields-reach s [] b = rw (fields-none s b) at-once
+fields-reach s (n ∷ ns) b = rw (fields-more s n ns b) (by-read s b n then fields-reach s ns (read s b n .bits))
 
 four-reach : (s : List ℕ) (n : ℕ) (b : Bits) → Reached s b (four s n b .bits)
-unfolding four
-four-reach s n b = fields-reach s (n ∷ n ∷ n ∷ n ∷ []) b
+four-reach s n b = rw (four-fields s n b) (fields-reach s (n ∷ n ∷ n ∷ n ∷ []) b)
+
+signed-reach : (s : List ℕ) (b : Bits) (n : ℕ) → Reached s b (read-signed s b n .bits)
+signed-reach s b n = rw (read-signed-is s b n) (by-read s b n)
+
+residual-reach : (s : List ℕ) (b : Bits) (n : ℕ) → Reached s b (read-residual s b n .bits)
+residual-reach s b n = rw (read-residual-is s b n) (by-read s b n)
 
 -- ── V0 ──
 
@@ -184,9 +187,9 @@ head-reach s st =
     by-read s (st .bits) 1 then (four-reach s 2 (d .bits) then operate-reach s (o .values) (st .lengths) (o .bits))
 
 samples-reach : (s : List ℕ) (base : ℕ) (ls : List ℤ) (predict : ℕ → Predictor) (cs : List ℕ) (b : Bits) → Reached s b (V0.samples s base ls predict cs b .bits)
-unfolding V0.samples V0.sample read-residual
+unfolding V0.samples V0.sample
 samples-reach s base ls predict [] b = at-once
-samples-reach s base ls predict (c ∷ cs) b = by-read s b _ then samples-reach s base ls predict cs _
+samples-reach s base ls predict (c ∷ cs) b = residual-reach s b _ then samples-reach s base ls predict cs _
 
 blocks-reach : (s : List ℕ) (first : ℕ) (predict : ℕ → Bool → ℕ → Predictor) (n col : ℕ) (st : V0Row) → Reached s (st .bits) (V0.blocks s first predict n col st .bits)
 unfolding V0.blocks
@@ -273,9 +276,9 @@ lengths-all-reach s h row mode b =
     (bit then (four-reach s 2 (g .bits) then lengths-reach s (h .depth) row (f .values) 4 0 (V2.no-lengths mode (f .bits)))) bit
 
 differences-reach : (s : List ℕ) (row : ℕ) (ls : List ℕ) (n k : ℕ) (x : V2.Differences) → Reached s (x .bits) (V2.differences-from s row ls n k x .bits)
-unfolding V2.differences-from V2.difference-step read-signed
+unfolding V2.differences-from V2.difference-step
 differences-reach s row ls zero k x = at-once
-differences-reach s row ls (suc n) k x = by-read s (x .bits) _ then differences-reach s row ls n (suc k) (V2.difference-step s row ls k x)
+differences-reach s row ls (suc n) k x = signed-reach s (x .bits) _ then differences-reach s row ls n (suc k) (V2.difference-step s row ls k x)
 
 tail-reach : (s : List ℕ) (h : V2Hdr) (row : ℕ) (st : V2Row) (mode : List (List ℕ)) (b : Bits) → Reached s b (V2.state-after (V2.tail s h row st mode b .outcome))
 unfolding V2.tail V2.read-differences

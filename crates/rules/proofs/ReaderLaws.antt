@@ -1,4 +1,5 @@
--- What a reader of the rules may expect of the reader record. Only this file opens its definitions.
+-- What a reader of the rules may expect of the reader record. Only this file opens its definitions, besides the worked
+-- examples and pins.
 use mathlib.Core.Path.{_≡_, refl, sym, ap, _∙_}
 use mathlib.Core.Bool.{Bool, true, false, cond}
 use mathlib.Core.List.{List, [], _∷_, _++_}
@@ -79,6 +80,11 @@ counted-missing n l = omega arith
 pub counted-held : (n : ℕ) → n < 2 ^ 64 → most-filler ≤ n → counted n true ≡ n
 unfolding counted
 counted-held n l m = omega arith
+
+-- After a missing word, whatever the count was.
+pub counted-more : (n : ℕ) → counted n true ≡ min (n + 1) most-filler
+unfolding counted
+counted-more n = refl
 
 -- A count that is 0 after a word was 0 before it, and the word was there.
 pub counted-zero : (n : ℕ) (missing : Bool) → counted n missing ≡ 0 → (n ≡ 0) × (missing ≡ false)
