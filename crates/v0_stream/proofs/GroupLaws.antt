@@ -11,12 +11,12 @@ use lib.IntN.{ℤ, pos}
 use lib.ListN.{length, getD, set, replicate}
 use lib.Pow.{pow-pos, pow-mono, pow-add, mod-mod-pow}
 use borrow.Author.Tests.{ltb-true, ltb-false, leb-true, leb-false}
-use Rattle.rules.specs.Reader.{word-at, signed, modulo, four}
+use Rattle.rules.specs.Reader.{word-at, four}
 use Rattle.rules.specs.V0.{length-bits, head}
 use Rattle.rules.specs.declared.reader.Bits.{Bits}
 use Rattle.rules.specs.declared.v0.V0Row.{V0Row}
 use Rattle.rules.specs.declared.v0.V0Head.{V0Head}
-use Rattle.rules.proofs.ReaderLaws.{signed-low, signed-high}
+use Rattle.rules.proofs.ReaderLaws.{four-fields, sign-low, sign-high, residual-is}
 use Rattle.window.specs.Window.{bits-from, state-at, values-at, span, none, also, Window}
 use Rattle.window.proofs.WindowLaws.{fields-at, fields-end, pair-top, three-at}
 use Rattle.v0_stream.specs.Block.{with-residuals, whole-block}
@@ -28,12 +28,10 @@ use Rattle.v0_stream.proofs.BlockLaws.{bits-few-enough, Reading, readin
 
 -- Adding half a turn and taking it off again, in a turn of 2^n.
 turned : (n v h : ℕ) → h ≡ 2 ^ n / 2 → n ≤ 32 → v < 2 ^ n → ((v + h) % 2 ^ n + 4_294_967_296 - h) % 65_536 ≡ residual n v
-unfolding modulo
 turned zero v h eh few l =
     let z : v ≡ 0 = omega arith in
     let y : h ≡ 0 = eh in
-    let l : 0 * 2 < 2 ^ 0 = omega arith in
-    rw (z, y, signed-low 0 0 l)
+    rw (z, y, ← residual-is 0 0 (omega arith) (omega arith))
 turned (suc m) v h eh few l = go (ltb (v * 2) (2 ^ suc m)) refl
   where
     double : 2 ^ suc m ≡ 2 ^ m * 2
@@ -49,14 +47,14 @@ turned (suc m) v h eh few l = go (ltb (v * 2) (2 ^ suc m)) refl
     go true e =
         let q : v * 2 < 2 ^ suc m = ltb-true (v * 2) (2 ^ suc m) e in
         let u : v + h < 2 ^ suc m = omega (arith, half) in
-        rw (mod-eq-of-lt u, signed-low (suc m) v q) (omega (arith, half, most))
+        rw (mod-eq-of-lt u, ← residual-is (suc m) v l few, sign-low (suc m) v l q) (omega (arith, half, most))
     go false e =
         let q : 2 ^ suc m ≤ v * 2 = ltb-false (v * 2) (2 ^ suc m) e in
         let s : v + h ≡ 1 * 2 ^ suc m + (v + h - 2 ^ suc m) = omega (arith, half) in
         let u : v + h - 2 ^ suc m < 2 ^ suc m = omega (arith, half) in
         let w : (v + h) % 2 ^ suc m ≡ v + h - 2 ^ suc m
         = ap (λ (x : ℕ). x % 2 ^ suc m) s ∙ mul-add-mod-self-right 1 (2 ^ suc m) (v + h - 2 ^ suc m) ∙ mod-eq-of-lt u in
-        rw (w, signed-high (suc m) v q l) (omega (arith, half, most))
+        rw (w, ← residual-is (suc m) v l few, sign-high (suc m) v l q) (omega (arith, half, most))
 
 low-is : (x n h : ℕ) → n ≤ 32 → h ≡ 2 ^ n / 2 → ((x + h) % 2 ^ 64 % 2 ^ n + 4_294_967_296 - h) % 65_536 ≡ residual n (x % 2 ^ n)
 low-is x n h few eh =
@@ -126,14 +124,14 @@ pub four-is : (s : List ℕ) (base q n f : ℕ) → n ≤ 32 → 0 < q → base 
     → ((j : ℕ) → q ≤ j * 32 → j * 32 < q + 4 * n → word-at s (base + j * 4) < 2 ^ 32)
     → four s n (state-at s base q f)
     ≡ record { values = bits-from s base q n ∷ bits-from s base (q + n) n ∷ bits-from s base (q + 2 * n) n ∷ bits-from s base (q + 3 * n) n ∷ []; bits = state-at s base (q + 4 * n) f }
-unfolding four values-at span
+unfolding values-at span
 four-is s base q n f few some there far whole =
     let ns : List ℕ = n ∷ n ∷ n ∷ n ∷ [] in
     let e : n + (n + (n + (n + 0))) ≡ 4 * n = omega arith in
     let two : q + n + n ≡ q + 2 * n = omega arith in
     let three : q + 2 * n + n ≡ q + 3 * n = omega arith in
     let x = fields-at s base q f ns some (also few (also few (also few (also few none)))) (rw e there) (rw e far) (λ j l m. whole j l (rw e at m)) in
-    rw (x, e, two, three)
+    rw (four-fields s n (state-at s base q f), x, e, two, three)
 
 -- The four residuals of length number j complete what was read before to the whole.
 group-at : (s : List ℕ) (ls : List ℤ) (b₀ : Bits) (base q f : ℕ) (vs : List ℕ) (j n : ℕ) (a : List ℕ) → j < 4 → n ≡ length-bits (getD ls j (pos 0)) → 0 < q

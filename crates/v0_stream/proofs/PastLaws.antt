@@ -9,13 +9,13 @@ use lib.IntN.{ℤ, pos}
 use lib.ListN.{length, getD, replicate}
 use lib.Pow.{pow-pos, pow-mono, high, low, high-ones}
 use borrow.Author.Tests.{leb-true, leb-false}
-use Rattle.rules.specs.Reader.{fetched, held, counted, most-filler, read, four, fields, signed, modulo}
+use Rattle.rules.specs.Reader.{fetched, held, most-filler, read, four, signed, modulo}
 use Rattle.rules.specs.V0.{operated, operate, head, length-bits}
 use Rattle.rules.specs.declared.reader.Bits.{Bits}
 use Rattle.rules.specs.declared.reader.Got.{Got}
 use Rattle.rules.specs.declared.v0.V0Row.{V0Row}
 use Rattle.rules.specs.declared.v0.V0Head.{V0Head}
-use Rattle.rules.proofs.ReaderLaws.{fetched-missing, held-is, read-held, read-next}
+use Rattle.rules.proofs.ReaderLaws.{fetched-missing, held-is, counted-more, read-held, read-next, four-reads, residual-is}
 use Rattle.v0_stream.specs.Block.{whole-block}
 use Rattle.v0_stream.specs.PastEnd.{PastEnd, ones-after, block-of-ones}
 use Rattle.v0_stream.proofs.HeadLaws.{four-of}
@@ -99,7 +99,7 @@ module _ (s : List ℕ) (b : Bits) (x : PastEnd s b) where
       rw (w, p, c, f, ← x .ones)
 
   pub read-ones : (k n : ℕ) → n ≤ 32 → k + n ≤ 265 → read s (ones-after b k) n ≡ record { value = 2 ^ n - 1; bits = ones-after b (k + n) }
-  unfolding ones-after counted
+  unfolding ones-after
   read-ones k n few near = by-test (leb n count) (λ t. by-held (leb-true n count t)) (λ t. by-next (leb-false n count t))
     where
       words : ℕ
@@ -137,16 +137,16 @@ module _ (s : List ℕ) (b : Bits) (x : PastEnd s b) where
           let c : count + 32 - n ≡ b .count + 32 * (words + 1) - (k + n) = count-next (b .count) k n words (words-enough (b .count) k) in
           let p : (b .pos + 4 * words + 4) % 2 ^ 64 ≡ b .pos + 4 * (words + 1) = place-next (b .pos) words (x .far) (rw w at (nine-words (b .count) (k + n) near)) in
           let m : min (min (b .filler + words) most-filler + 1) most-filler ≡ min (b .filler + (words + 1)) most-filler = one-more (b .filler) words most-filler in
-          rw (read-next s state n fetches, cap, holds, missing, cut-64 n (count + 32 - n) (cut-fits n count few less), w, c, p, m)
+          rw (read-next s state n fetches, cap, holds, missing, counted-more (min (b .filler + words) most-filler), cut-64 n (count + 32 - n) (cut-fits n count few less), w, c, p, m)
 
   -- ── A block ──
 
   four-ones : (k n : ℕ) → n ≤ 32 → k + 4 * n ≤ 265
       → four s n (ones-after b k) ≡ record { values = (2 ^ n - 1) ∷ (2 ^ n - 1) ∷ (2 ^ n - 1) ∷ (2 ^ n - 1) ∷ []; bits = ones-after b (k + 4 * n) }
-  unfolding four fields
   four-ones k n few near =
       let e : k + n + n + n + n ≡ k + 4 * n = omega arith in
-      rw (read-ones k n few (omega arith), read-ones (k + n) n few (omega arith), read-ones (k + n + n) n few (omega arith), read-ones (k + n + n + n) n few (omega arith), e)
+      let r : (j : ℕ) → j + n ≤ 265 → record { value = 2 ^ n - 1; bits = ones-after b (j + n) } ≡ read s (ones-after b j) n = λ j l. sym (read-ones j n few l) in
+      rw e at (sym (four-reads s n (ones-after b k) _ _ _ _ (r k (omega arith)) (r (k + n) (omega arith)) (r (k + n + n) (omega arith)) (r (k + n + n + n) (omega arith))))
 
   head-of-ones : (ls : List ℤ) → length ls ≡ 4 → head s (record { lengths = ls; bits = ones-after b 0 }) ≡ record { up = true; row = record { lengths = replicate 4 (pos 15); bits = ones-after b 25 } }
   unfolding head operate operated
@@ -163,17 +163,18 @@ module _ (s : List ℕ) (b : Bits) (x : PastEnd s b) where
       )
 
   pub past-whole : (ls : List ℤ) → length ls ≡ 4 → block-of-ones b ≡ whole-block s (record { lengths = ls; bits = b })
-  unfolding block-of-ones length-bits modulo signed
+  unfolding block-of-ones length-bits
   past-whole ls size =
       let fs : List ℤ = replicate 4 (pos 15) in
       let y : V0Head = record { up = true; row = record { lengths = fs; bits = ones-after b 25 } } in
       let f : (k : ℕ) → k + 60 ≤ 265 → four s 15 (ones-after b k) ≡ record { values = 32_767 ∷ 32_767 ∷ 32_767 ∷ 32_767 ∷ []; bits = ones-after b (k + 60) }
       = λ k l. four-ones k 15 (omega arith) (omega arith) in
+      let m : 65_535 ≡ modulo (signed 15 32_767) = residual-is 15 32_767 (omega arith) (omega arith) in
       let r₀ = reading-begun s fs (ones-after b 25) (replicate 16 0) refl in
-      let r₁ = reading-four s fs (ones-after b 25) (ones-after b 25) _ 0 15 _ 65_535 65_535 65_535 65_535 (omega arith) refl (sym (f 25 (omega arith))) refl refl refl refl r₀ in
-      let r₂ = reading-four s fs (ones-after b 25) (ones-after b 85) _ 1 15 _ 65_535 65_535 65_535 65_535 (omega arith) refl (sym (f 85 (omega arith))) refl refl refl refl r₁ in
-      let r₃ = reading-four s fs (ones-after b 25) (ones-after b 145) _ 2 15 _ 65_535 65_535 65_535 65_535 (omega arith) refl (sym (f 145 (omega arith))) refl refl refl refl r₂ in
-      let r₄ = reading-four s fs (ones-after b 25) (ones-after b 205) _ 3 15 _ 65_535 65_535 65_535 65_535 (omega arith) refl (sym (f 205 (omega arith))) refl refl refl refl r₃ in
+      let r₁ = reading-four s fs (ones-after b 25) (ones-after b 25) _ 0 15 _ 65_535 65_535 65_535 65_535 (omega arith) refl (sym (f 25 (omega arith))) m m m m r₀ in
+      let r₂ = reading-four s fs (ones-after b 25) (ones-after b 85) _ 1 15 _ 65_535 65_535 65_535 65_535 (omega arith) refl (sym (f 85 (omega arith))) m m m m r₁ in
+      let r₃ = reading-four s fs (ones-after b 25) (ones-after b 145) _ 2 15 _ 65_535 65_535 65_535 65_535 (omega arith) refl (sym (f 145 (omega arith))) m m m m r₂ in
+      let r₄ = reading-four s fs (ones-after b 25) (ones-after b 205) _ 3 15 _ 65_535 65_535 65_535 65_535 (omega arith) refl (sym (f 205 (omega arith))) m m m m r₃ in
       let read : y ≡ head s (record { lengths = ls; bits = b })
       = sym (head-of-ones ls size) ∙ ap (λ (z : Bits). head s (record { lengths = ls; bits = z })) (sym begun) in
       whole-read s (record { lengths = ls; bits = b }) y _ read (read-all s fs (ones-after b 25) (ones-after b 265) _ 16 y (omega arith) refl refl r₄)
