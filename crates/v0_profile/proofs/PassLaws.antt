@@ -6,12 +6,12 @@ use Prim.Native.Nat.{ℕ, _+_, _*_, _-_, _/_, _^_, _≤_, _<_}
 use native.Mathlib.Omega.{arith}
 use lib.IntN.{ℤ, pos}
 use lib.ListN.{length, getD}
-use Rattle.rules.specs.Reader.{read-residual}
 use Rattle.rules.specs.Phases.{residuals}
 use Rattle.rules.specs.V0.{head, order, length-of, length-bits}
 use Rattle.rules.specs.declared.reader.Bits.{Bits}
 use Rattle.rules.specs.declared.v0.V0Row.{V0Row}
 use Rattle.rules.specs.declared.v0.V0Head.{V0Head}
+use Rattle.rules.proofs.ReaderLaws.{read-residual-is}
 use Rattle.window.specs.Window.{state-at}
 use Rattle.window.proofs.WindowLaws.{leaves}
 use Rattle.v0_stream.specs.Block.{with-residuals, whole-block}
@@ -28,13 +28,13 @@ bits-of ls (c ∷ cs) = length-bits (length-of ls c) + bits-of ls cs
 
 residuals-leave : (s : List ℕ) (ls : List ℤ) (cs : List ℕ) (base q f : ℕ) → 0 < q → base + (q + bits-of ls cs + 31) / 32 * 4 ≤ length s
     → base + (q + bits-of ls cs + 31) / 32 * 4 + 4 < 2 ^ 64 → residuals s ls cs (state-at s base q f) .bits ≡ state-at s base (q + bits-of ls cs) f
-unfolding bits-of residuals read-residual
+unfolding bits-of residuals
 residuals-leave s ls [] base q f some there far = let e : q + 0 ≡ q = omega arith in rw e
 residuals-leave s ls (c ∷ cs) base q f some there far =
     let n : ℕ = length-bits (length-of ls c) in
     let fit : n ≤ 32 = bits-few-enough (length-of ls c) in
     let e : q + (n + bits-of ls cs) ≡ q + n + bits-of ls cs = omega arith in
-    ap (λ b. residuals s ls cs b .bits) (leaves s base q n f some fit (omega arith) (omega arith))
+    ap (λ b. residuals s ls cs b .bits) (ap (λ g. g .bits) (read-residual-is s (state-at s base q f) n) ∙ leaves s base q n f some fit (omega arith) (omega arith))
     ∙ residuals-leave s ls cs base (q + n) f (omega arith) (omega arith) (omega arith)
     ∙ ap (λ (x : ℕ). state-at s base x f) (sym e)
 
