@@ -8,8 +8,11 @@ use native.Mathlib.Omega.{arith}
 use native.Mathlib.Decide.{ℕ-discrete}
 use lib.ListN.{length, length-append}
 use lib.Dec.{lit<, lit≤}
+use Rattle.rules.specs.declared.reader.Bits.{Bits}
+use Rattle.rules.specs.Reader.{read, fields, four}
 use Rattle.rules.specs.Frame.{tabulate}
 use Rattle.rules.proofs.Cells.{All, nil, more, all-get, Each, none, both}
+use Rattle.rules.proofs.ReaderLaws.{fields-more, four-fields}
 use Rattle.writers.specs.Writer.{bits-of, fields-bits, run, lengths-for, length-for, block-bits}
 use Rattle.writers.proofs.Ahead.{Field}
 use Rattle.writers.proofs.BitLists.{bits-length}
@@ -26,6 +29,11 @@ pub opening-fields : Each Field opening-widths opening
 opening-fields =
     let two : Field 2 3 = record { least = lit≤ tt; below = lit< tt } in
     both (record { least = lit≤ tt; below = lit< tt }) (both two (both two (both two (both two none))))
+
+-- It is read as one bit and four fields of 2 bits.
+pub opening-read : (s : List ℕ) (b : Bits) → fields s opening-widths b
+    ≡ (let g = read s b 1 in let o = four s 2 (g .bits) in record { values = g .value ∷ o .values; bits = o .bits })
+opening-read s b = rw (fields-more s 1 (2 ∷ 2 ∷ 2 ∷ 2 ∷ []) b, four-fields s 2 (read s b 1 .bits))
 
 pub opening-length : length (fields-bits opening-widths opening) ≡ 9
 unfolding fields-bits bits-of

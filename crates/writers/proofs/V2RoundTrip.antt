@@ -11,13 +11,14 @@ use lib.Seq.{ext-getD}
 use lib.Dec.{lit<}
 use Rattle.rules.specs.declared.answer.Size.{Size}
 use Rattle.rules.specs.declared.reader.Bits.{Bits}
-use Rattle.rules.specs.Reader.{fresh, held}
+use Rattle.rules.specs.Reader.{fresh}
 use Rattle.rules.specs.Frame.{cells}
 use Rattle.rules.specs.V0.{blocks-in}
 use Rattle.rules.specs.V2.{header, top, aligned, fresh-row, fresh-mode, position, Block, Row, Frame, then-rows, read-row, rows, read-frame, sample-kind, apply, frame, decoded}
 use Rattle.rules.specs.Answer.{done-with, done}
 use Rattle.rules.specs.Map.{v2-map}
 use Rattle.rules.proofs.Cells.{All, nil, all-get, all-append}
+use Rattle.rules.proofs.ReaderLaws.{held-is}
 use Rattle.rules.proofs.V2Cells.{apply-length}
 use Rattle.rules.proofs.NoFiller.{v2-all-0}
 use Rattle.writers.specs.Writer.{bits-of, fields-bits, gap, padding, padded, bytes, line, blocks-bits, row-bytes, rows-bytes}
@@ -86,7 +87,7 @@ align L p X P R at a b c d e = rw here (next-sixteen p ((X + 31) / 32) a ∙ ap 
 -- A reader that has read the row written at p stands, aligned, where the next row starts.
 next-start : (s : List ℕ) → Stream s → (p : ℕ) (bs pad rest : List Bool) (b : Bits) → p % 16 ≡ 0 → length pad ≡ (128 - length bs % 128) % 128
     → Sees s (fresh p) (bs ++ (pad ++ rest)) → Sees s b (pad ++ rest) → aligned b ≡ fresh (p + (length bs + length pad) / 8)
-unfolding aligned held
+unfolding aligned
 next-start s st p bs pad rest b sixteen padding before after = rw (after .no-filler, there) (ap at (mod-eq-of-lt small))
   where
     at : ℕ → Bits
@@ -94,7 +95,7 @@ next-start s st p bs pad rest b sixteen padding before after = rw (after .no-fil
 
     whole-length : length bs + length pad + length rest ≡ 32 * ((length s - p) / 4)
     whole-length =
-        omega (arith, ahead-length s (fresh p), ap length (before .ahead-is), length-append bs (pad ++ rest), length-append pad rest)
+        omega (arith, ahead-length s (fresh p), held-is (fresh p) (lit< tt), ap length (before .ahead-is), length-append bs (pad ++ rest), length-append pad rest)
 
     left : length (ahead s b) ≡ length pad + length rest
     left = ap length (after .ahead-is) ∙ length-append pad rest

@@ -11,16 +11,19 @@ use lib.Dec.{ltb, lit<, lit≤}
 use lib.IntN.{ℤ, pos}
 use borrow.Author.Tests.{le-ltb}
 use Rattle.rules.specs.declared.reader.Bits.{Bits}
+use Rattle.rules.specs.declared.reader.Four.{Four}
+use Rattle.rules.specs.declared.reader.Got.{Got}
 use Rattle.rules.specs.declared.v2.V2Hdr.{V2Hdr}
 use Rattle.rules.specs.declared.v2.V2Block.the-variants.{Next}
-use Rattle.rules.specs.Reader.{fresh, has-filler, read, fields, four, signed, read-signed}
+use Rattle.rules.specs.Reader.{fresh, has-filler, read, four, signed}
 use Rattle.rules.specs.Frame.{tabulate}
 use Rattle.rules.specs.V2.{field-widths, header, fresh-row, read-scale, read-motion, base, base-refusal, lengths-bit, read-length, Moded, length-step, lengths-from, no-lengths, flagged-lengths, read-lengths, position, Differences, difference-step, differences-from, read-differences, tail, based-tail, Block, Parsed, read-block}
 use Rattle.rules.proofs.Cells.{All, nil, more, all-get, Each, none, both}
+use Rattle.rules.proofs.ReaderLaws.{read-signed-is}
 use Rattle.writers.specs.Writer.{bits-of, fields-bits, run, lengths-for, length-for}
 use Rattle.writers.specs.V2Writer.{field-values, header-bits}
 use Rattle.writers.proofs.Ahead.{Stream, Sees, Field, sees-value, sees-next, SeesFields, sees-fields}
-use Rattle.writers.proofs.Blocks.{opening-widths, opening, opening-fields, lengths-most, four-lengths}
+use Rattle.writers.proofs.Blocks.{opening-widths, opening, opening-fields, opening-read, lengths-most, four-lengths}
 
 sets-four : (xs : List ℕ) → length xs ≡ 4 → sets (replicate 4 0) 0 xs ≡ xs
 sets-four [] e = absurd (let q : 0 ≡ 4 = e in omega arith)
@@ -126,13 +129,14 @@ module _ (s : List ℕ) (st : Stream s) where
 
   sees-differences : (row : ℕ) (d : ℕ → ℕ) (n k : ℕ) (x : Differences) (rest : List Bool)
       → Sees s (x .bits) (run (λ k. bits-of (length-for d k) (d k)) (tabulate n k (λ k. k)) ++ rest) → SeesDifferences row d n k x rest
-  unfolding differences-from difference-step read-signed placed run tabulate length-for
+  unfolding differences-from difference-step placed run tabulate length-for
   sees-differences row d zero k x rest q = record { values-are = refl; next-sees = q }
   sees-differences row d (suc n) k x rest q =
-      let m = sees-differences row d n (suc k) (difference-step s row (lengths-for d) k x) rest (sees-next s st b l (d k) after least q′) in
+      let m = sees-differences row d n (suc k) (difference-step s row (lengths-for d) k x) rest (rw (read-signed-is s b l) (sees-next s st b l (d k) after least q′)) in
       record {
         values-are = m .values-are
-            ∙ ap (λ v. placed row (lengths-for d) d n (suc k) (set (x .values) (position row k) v)) (rw capped (ap (signed l) (sees-value s st b l (d k) after least q′)));
+            ∙ ap (λ v. placed row (lengths-for d) d n (suc k) (set (x .values) (position row k) v))
+            (rw (read-signed-is s b l, capped) (ap (signed l) (sees-value s st b l (d k) after least q′)));
         next-sees = m .next-sees;
       }
     where
@@ -164,7 +168,7 @@ module _ (s : List ℕ) (st : Stream s) where
   pub sees-block : (w row col : ℕ) (d : ℕ → ℕ) (b : Bits) (mode : List (List ℕ)) (rest : List Bool)
       → Sees s b (fields-bits opening-widths opening ++ (run (bits-of 4) (lengths-for d) ++ (run (λ k. bits-of (length-for d k) (d k)) (tabulate 16 0 (λ k. k)) ++ rest)))
       → SeesBlock w row col d b mode rest
-  unfolding read-block read-scale read-motion based-tail base-refusal tail read-lengths lengths-bit flagged-lengths read-differences four fields
+  unfolding read-block read-scale read-motion based-tail base-refusal tail read-lengths lengths-bit flagged-lengths read-differences
   sees-block w row col d b mode rest q =
       record {
         end = differences-from s row (lengths-for d) 16 0 x .bits;
@@ -179,11 +183,20 @@ module _ (s : List ℕ) (st : Stream s) where
       F : SeesFields s st opening-widths opening b (run (bits-of 4) (lengths-for d) ++ (written ++ rest))
       F = sees-fields s st opening-fields b (run (bits-of 4) (lengths-for d) ++ (written ++ rest)) q
 
-      motion-is : read s b 1 .value ≡ 0
-      motion-is = ap (λ (l : List ℕ). getD l 0 0) (F .values-are)
+      motion : Got
+      motion = read s b 1
 
-      flags-are : fields s (2 ∷ 2 ∷ 2 ∷ 2 ∷ []) (read s b 1 .bits) .values ≡ 3 ∷ 3 ∷ 3 ∷ 3 ∷ []
-      flags-are = ap (λ (l : List ℕ). drop 1 l) (F .values-are)
+      flags : Four
+      flags = four s 2 (motion .bits)
+
+      values-are : motion .value ∷ flags .values ≡ opening
+      values-are = rw (opening-read s b) at (F .values-are)
+
+      motion-is : motion .value ≡ 0
+      motion-is = ap (λ (l : List ℕ). getD l 0 0) values-are
+
+      flags-are : flags .values ≡ 3 ∷ 3 ∷ 3 ∷ 3 ∷ []
+      flags-are = ap (λ (l : List ℕ). drop 1 l) values-are
 
       threes : List ℕ
       threes = 3 ∷ 3 ∷ 3 ∷ 3 ∷ []
@@ -196,10 +209,10 @@ module _ (s : List ℕ) (st : Stream s) where
       three (suc (suc (suc (suc i)))) p l = absurd (omega (arith, four-lengths d))
 
       m : Moded
-      m = no-lengths mode (fields s opening-widths b .bits)
+      m = no-lengths mode (flags .bits)
 
       L : SeesLengths row threes (lengths-for d) 0 m (written ++ rest)
-      L = sees-lengths row threes (lengths-for d) 0 m (written ++ rest) (lengths-most d) three refl (F .next-sees)
+      L = sees-lengths row threes (lengths-for d) 0 m (written ++ rest) (lengths-most d) three refl (rw (opening-read s b) at (F .next-sees))
 
       not-long : lengths-from s 14 row threes 4 0 m .lengths .long ≡ false
       not-long = rw (four-lengths d) at (L .not-long)

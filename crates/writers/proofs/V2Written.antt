@@ -20,7 +20,7 @@ use Rattle.rules.specs.Reader.{has-filler, signed, modulo}
 use Rattle.rules.specs.Frame.{tabulate}
 use Rattle.rules.specs.V2.{fresh-row, repeated, base, position, Block, read-block, Row, then, blocks, base-cell, block-cells, apply, value, hold, sample, sample-kind}
 use Rattle.rules.proofs.Cells.{All, nil, more, all-get}
-use Rattle.rules.proofs.ReaderLaws.{signed-mag}
+use Rattle.rules.proofs.ReaderLaws.{signed-low, signed-high, signed-mag}
 use Rattle.rules.proofs.V2Cells.{write-plain}
 use Rattle.rules.proofs.Tests.{by-test}
 use Rattle.writers.specs.Writer.{holds, lengths-for, blocks-bits}
@@ -28,16 +28,27 @@ use Rattle.writers.specs.V2Writer.{base-of, difference, differences}
 use Rattle.writers.specs.Weight.{Short}
 use Rattle.writers.proofs.Ahead.{Stream, Sees}
 use Rattle.writers.proofs.Blocks.{lengths-most, block-parts, each-of-run}
-use Rattle.writers.proofs.Smallest.{held-by}
+use Rattle.writers.proofs.Smallest.{back-low, back-high, held-by}
 use Rattle.writers.proofs.V2Seen.{written-hdr, placed, block-differences, written-block, SeesBlock, sees-block}
 
 -- ── A difference and its base give the sample back ──
 
+-- A number of 15 bits modulo 65,536: it is what its bits read back as.
+modulo-pos : (n : ℕ) → n < 16_384 → modulo (pos n) ≡ n
+modulo-pos n h = sym (ap modulo (signed-low 15 n (omega arith))) ∙ back-low 15 n (lit≤ tt) (omega arith) (omega arith) ∙ omega arith
+
+modulo-negsuc : (n : ℕ) → n < 16_384 → modulo (negsuc n) ≡ 65_535 - n
+modulo-negsuc n h =
+    let v : ℕ = 32_767 - n in
+    let e : 32_768 - suc v ≡ n = omega arith in
+    ap (λ m. modulo (negsuc m)) (sym e) ∙ sym (ap modulo (signed-high 15 v (omega arith) (omega arith)))
+    ∙ back-high 15 v (lit≤ tt) (omega arith) (omega arith) ∙ omega arith
+
 plus-back : (a b : ℕ) (d : ℤ) → a < 16_384 → b < 16_384 → mag d < 16_384 → modulo d ≡ (a + 65_536 - b) % 65_536 → sample 16_383 (pos 0) d b ≡ a
-unfolding value hold modulo
-plus-back a b (pos n) la lb k e = let q : n % 65_536 ≡ (a + 65_536 - b) % 65_536 = e in omega arith
+unfolding value hold
+plus-back a b (pos n) la lb k e = let q : n ≡ (a + 65_536 - b) % 65_536 = sym (modulo-pos n k) ∙ e in omega arith
 plus-back a b (negsuc n) la lb k e =
-    let q : 65_535 - n % 65_536 ≡ (a + 65_536 - b) % 65_536 = e in
+    let q : 65_535 - n ≡ (a + 65_536 - b) % 65_536 = sym (modulo-negsuc n k) ∙ e in
     let l : suc n ≤ b = omega arith in
     rw (mul-one (suc n), le-ltb b (suc n) l) (omega arith)
 
