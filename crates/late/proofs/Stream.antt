@@ -1,21 +1,23 @@
 -- V2: two streams that agree in their first p bytes give frames that agree on every row before the first that fetches a word not wholly
 -- below p, and a refusal met in those rows is the same. Those rows are read alike, and the rows from there on write nothing before it.
-use Prim.Native.Nat.{ℕ, zero, suc, _+_, _*_, _/_, _^_, _≤_, _<_}
+use Prim.Native.Nat.{ℕ, zero, suc, _+_, _-_, _*_, _/_, _%_, _^_, _≤_, _<_, min}
 use mathlib.Core.Bool.{Bool, true, false, cond}
 use mathlib.Core.Path.{_≡_, refl, sym, ap, _∙_, subst}
 use mathlib.Core.Logic.{_≢_}
 use mathlib.Core.List.{List, [], _∷_, _++_, append-nil, append-assoc}
 use native.Mathlib.Omega.{arith}
-use lib.Dec.{eqb}
+use lib.Dec.{eqb, leb, lit<, lit≤}
 use lib.ListN.{length, getD, set}
 use lib.Seq.{sets, getD-set-other}
+use borrow.Author.Tests.{leb-true, leb-false}
 use Rattle.rules.specs.declared.answer.Size.{Size}
 use Rattle.rules.specs.declared.reader.Bits.{Bits}
 use Rattle.rules.specs.declared.v2.V2Hdr.{V2Hdr}
-use Rattle.rules.specs.Reader.{held, read, fields}
-use Rattle.rules.specs.V2.{Kind, Block, Row, Frame, header, aligned, read-row, then-rows, rows, read-frame, block-cells, write, apply, frame, sample-kind, top, decoded}
+use Rattle.rules.specs.Reader.{fresh, fields}
+use Rattle.rules.specs.V2.{Kind, Block, Row, Frame, field-widths, header, aligned, read-row, then-rows, rows, read-frame, block-cells, write, apply, frame, sample-kind, top, decoded}
 use Rattle.rules.specs.Map.{v2-map}
 use Rattle.rules.proofs.Cells.{All, nil, more, all-map, change-other}
+use Rattle.rules.proofs.ReaderLaws.{held-is, read-held, read-next, fields-none, fields-more}
 use Rattle.rules.proofs.V2Longer.{run-from, rows-run}
 use Rattle.rules.proofs.V2Position.{PositionAt, position-starts, position-next, position-below, aligned-plain}
 use Rattle.rules.proofs.V2Rows.{then-rows-cases}
@@ -308,10 +310,37 @@ module _ {A : Type 0} (k : Kind A) where
 
 -- ── The frame ──
 
+-- Where fields of some widths, of at most 32 bits each, leave a reader that stands at p and holds c bits.
+ends-at : List ℕ → ℕ → ℕ → ℕ
+ends-at [] p c = p
+ends-at (n ∷ ns) p c = cond (leb n c) (ends-at ns p (c - n)) (ends-at ns (p + 4) (c + 32 - n))
+
+fields-end : (s ns : List ℕ) → All (λ n. n ≤ 32) ns → (b : Bits) → b .count < 32 → b .pos + 4 * length ns < 2 ^ 64
+    → fields s ns b .bits .pos ≡ ends-at ns (b .pos) (b .count)
+unfolding ends-at
+fields-end s [] nil b l room = ap (λ f. f .bits .pos) (fields-none s b)
+fields-end s (n ∷ ns) (more h hs) b l room =
+    ap (λ f. f .bits .pos) (fields-more s n ns b) ∙ by-test (leb n (b .count))
+    (λ e. let i = leb-true n (b .count) e in
+    rw (e, read-held s b n (omega (arith, held-is b l)), capped, held-is b l) (fields-end s ns hs _ (omega arith) (omega arith)))
+    (λ e. let i = leb-false n (b .count) e in
+    rw (e, read-next s b n (omega (arith, held-is b l)), capped, held-is b l, plain) (fields-end s ns hs _ (omega arith) (omega arith)))
+  where
+    capped : min n 32 ≡ n
+    capped = omega arith
+
+    plain : (b .pos + 4) % 2 ^ 64 ≡ b .pos + 4
+    plain = omega arith
+
 -- A header takes four words.
 pub header-reads : (s : List ℕ) → header s .bits .pos ≡ header-bytes
-unfolding header fields read held
-header-reads s = refl
+unfolding header ends-at
+header-reads s = fields-end s field-widths short (fresh 0) (lit< tt) (lit< tt)
+  where
+    short : All (λ n. n ≤ 32) field-widths
+    short =
+        more (lit≤ tt) (more (lit≤ tt) (more (lit≤ tt) (more (lit≤ tt) (more (lit≤ tt) (more (lit≤ tt) (more (lit≤ tt)
+        (more (lit≤ tt) (more (lit≤ tt) (more (lit≤ tt) (more (lit≤ tt) (more (lit≤ tt) (more (lit≤ tt) nil))))))))))))
 
 module _ (p : ℕ) (s t : List ℕ) (agree : AgreeIn p s t) (below : header-bytes ≤ p) (z : Size) (wide : z .width ≤ 16_384) (high : z .height ≤ 16_384) where
   header-same : header s ≡ header t

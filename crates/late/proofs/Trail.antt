@@ -15,7 +15,7 @@ use Rattle.rules.specs.declared.reader.Four.{Four}
 use Rattle.rules.specs.Reader.{held, read, fields, four, read-signed, signed}
 use Rattle.rules.specs.Missing.{fetches}
 use Rattle.rules.proofs.Cells.{All, nil, more, all-append, all-map, all-head}
-use Rattle.rules.proofs.ReaderLaws.{read-held, read-next, read-agree}
+use Rattle.rules.proofs.ReaderLaws.{read-held, read-next, read-agree, fields-none, fields-more, four-fields, read-signed-is}
 use Rattle.rules.proofs.Tests.{by-test}
 use Rattle.late.specs.Late.{AgreeIn, fetched-past, Reads, stay, reads}
 
@@ -92,27 +92,26 @@ module _ (p : ℕ) (s u : List ℕ) (agree : AgreeIn p s u) where
   read-trail b n = record { words = fetches b n ++ []; run = reads n stay; few = fetches-few b n; same = read-same b n }
 
   pub fields-trail : (ns : List ℕ) (b : Bits) → Trail p s (length ns) (λ f. f .bits) b (fields s ns b) (fields u ns b)
-  unfolding fields
-  fields-trail [] b = trail-none (λ f. f .bits) _
+  fields-trail [] b = rw (fields-none s b, fields-none u b) (trail-none (λ f. f .bits) (record { values = []; bits = b }))
   fields-trail (n ∷ ns) b =
-      wider (omega arith)
+      rw (fields-more s n ns b, fields-more u n ns b) (wider (omega arith)
       (trail-then (λ g. g .bits) (λ f. f .bits)
       (λ g. let rest = fields s ns (g .bits) in record { values = g .value ∷ rest .values; bits = rest .bits })
       (λ g. let rest = fields u ns (g .bits) in record { values = g .value ∷ rest .values; bits = rest .bits })
       (read-trail b n)
       (trail-map (λ f. f .bits) (λ f. f .bits) (λ f. record { values = read s b n .value ∷ f .values; bits = f .bits }) (λ f. refl)
-      (fields-trail ns (read s b n .bits))))
+      (fields-trail ns (read s b n .bits)))))
 
   pub four-trail : (n : ℕ) (b : Bits) → Trail p s 4 (λ f. f .bits) b (four s n b) (four u n b)
-  unfolding four
   four-trail n b =
-      trail-map {Z = Four} (λ f. f .bits) (λ f. f .bits) (λ f. record { values = f .values; bits = f .bits }) (λ f. refl)
-      (fields-trail (n ∷ n ∷ n ∷ n ∷ []) b)
+      rw (four-fields s n b, four-fields u n b)
+      (trail-map {Z = Four} (λ f. f .bits) (λ f. f .bits) (λ f. record { values = f .values; bits = f .bits }) (λ f. refl)
+      (fields-trail (n ∷ n ∷ n ∷ n ∷ []) b))
 
   pub read-signed-trail : (b : Bits) (n : ℕ) → Trail p s 1 (λ g. g .bits) b (read-signed s b n) (read-signed u b n)
-  unfolding read-signed
   read-signed-trail b n =
-      trail-map (λ g. g .bits) (λ g. g .bits) (λ g. record { value = signed (min n 32) (g .value); bits = g .bits }) (λ g. refl) (read-trail b n)
+      rw (read-signed-is s b n, read-signed-is u b n)
+      (trail-map (λ g. g .bits) (λ g. g .bits) (λ g. record { value = signed (min n 32) (g .value); bits = g .bits }) (λ g. refl) (read-trail b n))
 
 -- ── Positions ──
 
