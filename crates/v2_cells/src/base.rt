@@ -101,7 +101,7 @@ fn refer(out: &[u16], even: usize, odd: usize, averaging: bool, values: &mut [u1
     ensures { λ _. ⌜ now (values .exit) ≡ tabulate 16 0 (λ i. cell-from (sample-kind 0) (now (out .entry)) averaging (along even odd i)) ⌝ }
 {
     let mut i: usize = 0;
-    while i < 16 {
+    while i < V2Row::BLOCK {
         values[i] = base_from(out, along_from(even, odd, i), averaging);
         i += 1;
     }

@@ -37,7 +37,7 @@ fn refer_marks(map: &[u8], even: usize, odd: usize, averaging: bool, marks: &mut
     ensures { λ _. ⌜ now (marks .exit) ≡ tabulate 16 0 (λ i. cell-from v2-marks (now (map .entry)) averaging (along even odd i)) ⌝ }
 {
     let mut i: usize = 0;
-    while i < 16 {
+    while i < V2Row::BLOCK {
         marks[i] = mark_from(map, along_from(even, odd, i), averaging);
         i += 1;
     }
@@ -85,7 +85,7 @@ fn store_marks(map: &mut [u8], at: usize, marks: &[u8; 16])
     ensures { λ _. ⌜ now (map .exit) ≡ sets (now (map .entry)) at (now (marks .entry)) ⌝ }
 {
     let mut i: usize = 0;
-    while i < 16 {
+    while i < V2Row::BLOCK {
         map[at + i] = marks[i];
         i += 1;
     }

@@ -68,7 +68,7 @@ pub fn build(base: &[u16; 16], d: &[i32; 16], scale: i32, top: u32, samples: &mu
     ensures { λ _. ⌜ now (samples .exit) ≡ tabulate 16 0 (λ i. sample top scale (getD (now (d .entry)) i (pos 0)) (getD (now (base .entry)) i 0)) ⌝ }
 {
     let mut i: usize = 0;
-    while i < 16 {
+    while i < V2Row::BLOCK {
         samples[i] = sample_of(base[i], d[i], scale, top);
         i += 1;
     }

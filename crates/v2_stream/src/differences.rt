@@ -15,6 +15,7 @@ use bits::read_signed;
 use fields::field;
 use fields::signed_of;
 use rules::Bits;
+use rules::V2Row;
 use window::stands_within;
 use window::state_at;
 
@@ -78,7 +79,7 @@ fn by_pairs(src: &[u8], row: usize, lengths: [u32; 4], bits: Bits, values: &mut 
     let positions = positions_of(row);
     let mut at = bits;
     let mut k: usize = 0;
-    while k < 16 {
+    while k < V2Row::BLOCK {
         let pair = read_pair(src, at, lengths[k / 4]);
         let p = positions[k] as usize;
         let q = positions[k + 1] as usize;
