@@ -114,32 +114,33 @@ fn nearest(fault: Fault, old: &[u16], now: &[u16], map: &[u8], width: usize, i: 
     0
 }
 
-/// The plain loop: the tests in their sequence, then each sample, and its run.
-#[inline(always)]
-fn blanked(fault: Fault, fill: Option<u16>, map: &[u8], width: usize, height: usize, lent: &mut Lent) -> Told {
-    let refused = |number| {
-        let count = if fault == Fault::CountWhereRefused { 1 } else { 0 };
-        Told { number, count, ..Told::default() }
-    };
+/// Refusals 1, 3 and 4.
+fn early(map: &[u8], width: usize, height: usize, samples: usize) -> Option<u32> {
     if width > 16_384 || height > 16_384 {
-        return refused(1);
+        return Some(1);
     }
     let n = width * height;
-    if lent.samples.len() < n {
-        return refused(3);
+    if samples < n {
+        return Some(3);
     }
-    if map.len() < n {
-        return refused(4);
-    }
+    (map.len() < n).then_some(4)
+}
+
+/// 14: a byte of the map that is no mark.
+fn has_other_bytes(fault: Fault, map: &[u8], n: usize) -> bool {
     let looked_at = if fault == Fault::FourteenPastTheFrame { map } else { &map[..n] };
     let most = match fault {
         Fault::FourteenOfThree => 2,
         Fault::FourteenAboveFour => 4,
         _ => 3,
     };
-    let bad = looked_at.iter().any(|&byte| byte > most);
+    looked_at.iter().any(|&byte| byte > most)
+}
+
+/// The runs of a frame's map: row, first column and length.
+fn runs_of(fault: Fault, map: &[u8], width: usize) -> Vec<[u32; 3]> {
     let mut runs: Vec<[u32; 3]> = Vec::new();
-    for (i, _) in map[..n].iter().enumerate().filter(|(_, byte)| **byte != 0) {
+    for (i, _) in map.iter().enumerate().filter(|(_, byte)| **byte != 0) {
         let (row, column) = (i / width, i % width);
         let beside = if fault == Fault::RunsAcrossRows { i > 0 } else { column > 0 };
         let goes_on = beside && map[i - 1] != 0 && (map[i - 1] == map[i] || fault != Fault::RunsOfOnePart);
@@ -151,41 +152,68 @@ fn blanked(fault: Fault, fill: Option<u16>, map: &[u8], width: usize, height: us
     if fault == Fault::RunsOneLonger {
         runs.iter_mut().for_each(|run| run[2] += 1);
     }
-    let wanted = 3 * runs.len() + usize::from(fault == Fault::WantsOneNumberMore);
-    let short = lent.runs.len() < wanted;
+    runs
+}
+
+/// 13 and 14, in their sequence; the list of runs as it is left.
+fn listed(fault: Fault, flat: &[u32], bad: bool, list: &mut [u32]) -> Result<(), u32> {
+    let wanted = flat.len() + usize::from(fault == Fault::WantsOneNumberMore);
+    let short = list.len() < wanted;
     if short && fault == Fault::ThirteenBeforeFourteen {
-        return refused(13);
+        return Err(13);
     }
     if bad {
-        return refused(14);
+        return Err(14);
     }
-    let flat: Vec<u32> = runs.concat();
-    let listed = flat.len().min(lent.runs.len());
-    if fault == Fault::ListsBeforeThirteen {
-        lent.runs[..listed].copy_from_slice(&flat[..listed]);
+    let fits = flat.len().min(list.len());
+    if !short || fault == Fault::ListsBeforeThirteen {
+        list[..fits].copy_from_slice(&flat[..fits]);
     }
     if short {
-        return refused(13);
+        return Err(13);
     }
-    lent.runs[..listed].copy_from_slice(&flat);
     if fault == Fault::ClearsTheListsTail {
-        lent.runs[listed..].fill(0);
+        list[fits..].fill(0);
     }
+    Ok(())
+}
+
+/// Sets the samples that are marked, and counts them.
+fn filled(fault: Fault, fill: Option<u16>, map: &[u8], width: usize, samples: &mut [u16]) -> usize {
     let fill = if fault == Fault::FillZero { fill.map(|_| 0) } else { fill };
     let fill = if fault == Fault::ZeroUnstated { fill.or(Some(0)) } else { fill };
-    let old = lent.samples.clone();
+    let old = samples.to_vec();
     let mut count = 0;
-    for (i, byte) in map[..n].iter().enumerate() {
+    for (i, byte) in map.iter().enumerate() {
         let marked = if fault == Fault::FillerLeft { byte & 1 != 0 } else { *byte != 0 };
         if marked != (fault == Fault::FillsTheUnmarked) {
-            let fill = fill.unwrap_or_else(|| nearest(fault, &old, &lent.samples, map, width, i));
+            let fill = fill.unwrap_or_else(|| nearest(fault, &old, samples, map, width, i));
             count += usize::from(fault != Fault::LeavesTheFillOut || old[i] != fill);
-            lent.samples[i] = fill;
+            samples[i] = fill;
         }
     }
     if fault == Fault::ClearsTheSamplesTail {
-        lent.samples[n..].fill(0);
+        samples[map.len()..].fill(0);
     }
+    count
+}
+
+/// The plain loop: the tests in their sequence, then each sample, and its run.
+fn blanked(fault: Fault, fill: Option<u16>, map: &[u8], width: usize, height: usize, lent: &mut Lent) -> Told {
+    let refused = |number| {
+        let count = if fault == Fault::CountWhereRefused { 1 } else { 0 };
+        Told { number, count, ..Told::default() }
+    };
+    if let Some(number) = early(map, width, height, lent.samples.len()) {
+        return refused(number);
+    }
+    let n = width * height;
+    let bad = has_other_bytes(fault, map, n);
+    let runs = runs_of(fault, &map[..n], width);
+    if let Err(number) = listed(fault, &runs.concat(), bad, &mut lent.runs) {
+        return refused(number);
+    }
+    let count = filled(fault, fill, &map[..n], width, &mut lent.samples);
     let count = if fault == Fault::CountsRuns { runs.len() } else { count };
     Told { number: 0, count, runs: runs.len(), length: 0 }
 }

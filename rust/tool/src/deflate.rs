@@ -311,8 +311,15 @@ fn adler(bytes: &[u8]) -> u32 {
 
 /// What `zlib` was given, read back by the format's rules, one bit at a time; the stream may be followed by anything.
 #[cfg(test)]
-pub fn inflated(stream: &[u8]) -> Vec<u8> {
+pub use inflate::inflated;
+
+#[cfg(test)]
+mod inflate {
+    use super::{ORDER, adler};
+
+    /// A stream, and the bit that is read next.
     struct Reader<'a>(&'a [u8], usize);
+
     impl Reader<'_> {
         fn bits(&mut self, n: usize) -> usize {
             let bit = |at: usize| usize::from(self.0[at / 8] >> (at % 8) & 1);
@@ -334,56 +341,80 @@ pub fn inflated(stream: &[u8]) -> Vec<u8> {
             }
             panic!("no such code");
         }
-    }
-    let mut reader = Reader(stream, 16);
-    let mut bytes: Vec<u8> = Vec::new();
-    loop {
-        let last = reader.bits(1) == 1;
-        assert_eq!(reader.bits(2), 2, "codes of its own");
-        let (literals, distances, told) = (257 + reader.bits(5), 1 + reader.bits(5), 4 + reader.bits(4));
-        let mut of_lengths = [0; 19];
-        ORDER.iter().take(told).for_each(|&symbol| of_lengths[symbol] = reader.bits(3));
-        let mut lengths = Vec::new();
-        while lengths.len() < literals + distances {
-            let (length, times) = match reader.symbol(&of_lengths) {
-                16 => (*lengths.last().expect("a length"), 3 + reader.bits(2)),
-                17 => (0, 3 + reader.bits(3)),
-                18 => (0, 11 + reader.bits(7)),
-                length => (length, 1),
-            };
-            lengths.extend(vec![length; times]);
+
+        /// The lengths of a block's codes, of literals and of distances.
+        fn lengths(&mut self) -> (Vec<usize>, Vec<usize>) {
+            let (literals, distances, told) = (257 + self.bits(5), 1 + self.bits(5), 4 + self.bits(4));
+            let mut of_lengths = [0; 19];
+            ORDER.iter().take(told).for_each(|&symbol| of_lengths[symbol] = self.bits(3));
+            let mut lengths = Vec::new();
+            while lengths.len() < literals + distances {
+                let (length, times) = match self.symbol(&of_lengths) {
+                    16 => (*lengths.last().expect("a length"), 3 + self.bits(2)),
+                    17 => (0, 3 + self.bits(3)),
+                    18 => (0, 11 + self.bits(7)),
+                    length => (length, 1),
+                };
+                lengths.extend(vec![length; times]);
+            }
+            assert_eq!(lengths.len(), literals + distances);
+            let distances = lengths.split_off(literals);
+            (lengths, distances)
         }
-        assert_eq!(lengths.len(), literals + distances);
-        let (literals, distances) = lengths.split_at(literals);
-        loop {
-            let symbol = reader.symbol(literals);
-            let len = match symbol {
-                0..=255 => {
-                    bytes.push(symbol as u8);
-                    continue;
-                }
-                256 => break,
+
+        /// How many bytes a symbol above 256 repeats.
+        fn count(&mut self, symbol: usize) -> usize {
+            match symbol {
                 257..=264 => symbol - 254,
                 265..=284 => {
                     let extra = (symbol - 261) / 4;
-                    ((4 + (symbol - 261) % 4) << extra) + reader.bits(extra) + 3
+                    ((4 + (symbol - 261) % 4) << extra) + self.bits(extra) + 3
                 }
                 _ => 258,
-            };
-            let symbol = reader.symbol(distances);
-            let back = match symbol {
-                0..=3 => symbol + 1,
-                _ => ((2 + symbol % 2) << (symbol / 2 - 1)) + reader.bits(symbol / 2 - 1) + 1,
-            };
-            (0..len).for_each(|_| bytes.push(bytes[bytes.len() - back]));
+            }
         }
-        if last {
-            break;
+
+        /// How far back they stand.
+        fn distance(&mut self, symbol: usize) -> usize {
+            match symbol {
+                0..=3 => symbol + 1,
+                _ => ((2 + symbol % 2) << (symbol / 2 - 1)) + self.bits(symbol / 2 - 1) + 1,
+            }
+        }
+
+        /// The bytes of a block, after those before it.
+        fn block(&mut self, bytes: &mut Vec<u8>) {
+            assert_eq!(self.bits(2), 2, "codes of its own");
+            let (literals, distances) = self.lengths();
+            loop {
+                match self.symbol(&literals) {
+                    symbol @ 0..=255 => bytes.push(symbol as u8),
+                    256 => return,
+                    symbol => {
+                        let count = self.count(symbol);
+                        let symbol = self.symbol(&distances);
+                        let back = self.distance(symbol);
+                        (0..count).for_each(|_| bytes.push(bytes[bytes.len() - back]));
+                    }
+                }
+            }
         }
     }
-    let sum = &stream[reader.1.div_ceil(8)..][..4];
-    assert_eq!(sum, adler(&bytes).to_be_bytes());
-    bytes
+
+    pub fn inflated(stream: &[u8]) -> Vec<u8> {
+        let mut reader = Reader(stream, 16);
+        let mut bytes = Vec::new();
+        loop {
+            let last = reader.bits(1) == 1;
+            reader.block(&mut bytes);
+            if last {
+                break;
+            }
+        }
+        let sum = &stream[reader.1.div_ceil(8)..][..4];
+        assert_eq!(sum, adler(&bytes).to_be_bytes());
+        bytes
+    }
 }
 
 #[cfg(test)]

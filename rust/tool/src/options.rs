@@ -127,72 +127,109 @@ fn parted(word: &OsStr) -> (String, Option<OsString>) {
     (String::from_utf8_lossy(name).into(), at.map(|at| OsStr::from_bytes(&bytes[at + 1..]).into()))
 }
 
+/// What the words have told so far; the last three are of a bare stream.
+#[derive(Default)]
+struct Told {
+    options: Options,
+    v0: Option<Size>,
+    v2: Option<Size>,
+    offsets: Option<PathBuf>,
+}
+
+impl Told {
+    /// An option that stands alone: whether it is one.
+    fn switch(&mut self, name: &str) -> bool {
+        let options = &mut self.options;
+        let switch = match name {
+            "--linear" => &mut options.picture.linear,
+            "--half" => &mut options.picture.half,
+            "--clean" => &mut options.clean,
+            "--json" => &mut options.json,
+            "--force" => &mut options.force,
+            _ => return false,
+        };
+        *switch = true;
+        true
+    }
+
+    /// An option with a value: whether it is one.
+    fn valued(&mut self, name: &str, mut value: impl FnMut() -> Result<OsString, String>) -> Result<bool, String> {
+        let options = &mut self.options;
+        match name {
+            "--v0" => once(name, &mut self.v0, size(&value()?)?)?,
+            "--v2" => once(name, &mut self.v2, size(&value()?)?)?,
+            "--offsets" => once(name, &mut self.offsets, value()?.into())?,
+            "--over" => once(name, &mut options.over, value()?.into())?,
+            "--check-packed" => once(name, &mut options.check_packed, value()?.into())?,
+            "--pgm" => once(name, &mut options.pgm, output(value()?)?)?,
+            "--png" => once(name, &mut options.png, output(value()?)?)?,
+            "--planes" => once(name, &mut options.planes, output(value()?)?)?,
+            "--write-v0" => once(name, &mut options.write_v0, output(value()?)?)?,
+            "--to-v2" => once(name, &mut options.to_v2, output(value()?)?)?,
+            "--white" => once(name, &mut options.picture.white, number(&value()?, "number up to 65535")?)?,
+            "--jobs" => {
+                let jobs: NonZeroU8 = number(&value()?, "number of workers, 1 to 255")?;
+                once(name, &mut options.jobs, usize::from(jobs.get()))?;
+            }
+            _ => return Ok(false),
+        }
+        Ok(true)
+    }
+
+    /// What is asked for, if it goes together.
+    fn asked(self) -> Result<Asked, String> {
+        let Told { mut options, v0, v2, offsets } = self;
+        options.bare = bare(v0, v2, offsets)?;
+        let read = options.files.iter().map(PathBuf::as_path).chain(options.over.as_deref());
+        let read = read.chain(options.check_packed.as_deref()).chain(options.offsets());
+        let stdin = read.filter(|file| is_stdin(file)).count();
+        let others =
+            options.over.is_some() || options.blank.is_some() || options.clean || !options.outputs().is_empty();
+        match options.files.len() {
+            _ if options.check_packed.is_some() && others => {
+                Err("--check-packed writes nothing, and goes without --over, --blank and --clean".into())
+            }
+            0 => Err("no file is named".into()),
+            2.. if options.bare.is_some() => Err("one bare stream at a time".into()),
+            _ if stdin > 1 => Err("standard input is read once".into()),
+            _ => Ok(Asked::Look(options.into())),
+        }
+    }
+}
+
 /// Reads the words after the program's name.
 pub fn read(words: impl IntoIterator<Item = OsString>) -> Result<Asked, String> {
     let mut words = words.into_iter().peekable();
-    let mut options = Options::default();
-    let (mut v0, mut v2, mut offsets) = (None, None, None);
+    let mut all = Told::default();
     while let Some(word) = words.next() {
         let (name, mut told) = parted(&word);
         if name == "--blank" {
             // A word that is a number is the fill; a file of such a name comes after --.
             let next = || words.next_if(|word| word.to_str().is_some_and(|word| word.parse::<u32>().is_ok()));
             let fill = told.or_else(next).map(|fill| number(&fill, "number up to 65535")).transpose()?;
-            once(&name, &mut options.blank, fill)?;
+            once(&name, &mut all.options.blank, fill)?;
             continue;
         }
-        let mut value = || {
+        let value = || {
             let value = told.take().or_else(|| words.next());
             value.filter(|value| !value.is_empty()).ok_or(format!("{name} needs a value"))
         };
+        if all.valued(&name, value)? {
+            continue;
+        }
         match name.as_str() {
             "--help" | "-h" => return Ok(Asked::Help),
             "--version" | "-V" => return Ok(Asked::Version),
-            "--v0" => once(&name, &mut v0, size(&value()?)?)?,
-            "--v2" => once(&name, &mut v2, size(&value()?)?)?,
-            "--offsets" => once(&name, &mut offsets, value()?.into())?,
-            "--over" => once(&name, &mut options.over, value()?.into())?,
-            "--check-packed" => once(&name, &mut options.check_packed, value()?.into())?,
-            "--pgm" => once(&name, &mut options.pgm, output(value()?)?)?,
-            "--png" => once(&name, &mut options.png, output(value()?)?)?,
-            "--planes" => once(&name, &mut options.planes, output(value()?)?)?,
-            "--write-v0" => once(&name, &mut options.write_v0, output(value()?)?)?,
-            "--to-v2" => once(&name, &mut options.to_v2, output(value()?)?)?,
-            "--white" => once(&name, &mut options.picture.white, number(&value()?, "number up to 65535")?)?,
-            "--jobs" => {
-                let jobs: NonZeroU8 = number(&value()?, "number of workers, 1 to 255")?;
-                once(&name, &mut options.jobs, usize::from(jobs.get()))?;
-            }
-            "--linear" => options.picture.linear = true,
-            "--half" => options.picture.half = true,
-            "--clean" => options.clean = true,
-            "--json" => options.json = true,
-            "--force" => options.force = true,
-            "--" => options.files.extend(words.by_ref().map(PathBuf::from)),
+            "--" => all.options.files.extend(words.by_ref().map(PathBuf::from)),
+            _ if all.switch(&name) => {}
             _ if name.starts_with('-') && name != "-" => return Err(format!("there is no option {name}")),
-            _ => {
-                told = None;
-                options.files.push(word.into());
-            }
+            _ => all.options.files.push(word.into()),
         }
         if told.is_some() {
             return Err(format!("{name} takes no value"));
         }
     }
-    options.bare = bare(v0, v2, offsets)?;
-    let read = options.files.iter().map(PathBuf::as_path).chain(options.over.as_deref());
-    let read = read.chain(options.check_packed.as_deref()).chain(options.offsets());
-    let stdin = read.filter(|file| is_stdin(file)).count();
-    let others = options.over.is_some() || options.blank.is_some() || options.clean || !options.outputs().is_empty();
-    match options.files.len() {
-        _ if options.check_packed.is_some() && others => {
-            Err("--check-packed writes nothing, and goes without --over, --blank and --clean".into())
-        }
-        0 => Err("no file is named".into()),
-        2.. if options.bare.is_some() => Err("one bare stream at a time".into()),
-        _ if stdin > 1 => Err("standard input is read once".into()),
-        _ => Ok(Asked::Look(options.into())),
-    }
+    all.asked()
 }
 
 type Size = (usize, usize);

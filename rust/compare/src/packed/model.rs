@@ -36,57 +36,35 @@ crate::faults::faults!(
 pub fn check(fault: Fault, proposal: &Proposal, scratch: &mut [u16]) -> Answer {
     let Proposal { frame, meant } = proposal;
     let Frame { width, height, ref stream, ref offsets, .. } = *frame;
-    if width > 16_384 || height > 16_384 {
-        return Answer::refused(1);
-    }
-    let n = width * height;
-    let bright = is_bright(fault, meant, n);
-    let mut early = [(3, meant.len() < n), (9, bright), (3, scratch.len() < n || offsets.len() < height)];
-    match fault {
-        Fault::BrightBeforeShort => early.swap(0, 1),
-        Fault::BrightAfterScratch => early.swap(1, 2),
-        Fault::BrightAfterProfile => early[1].1 = false,
-        _ => {}
-    }
-    if let Some(&(number, _)) = early.iter().find(|(_, holds)| *holds) {
+    if let Some(number) = refusal(fault, proposal, scratch.len()) {
         return Answer::refused(number);
     }
-    let told = profile::verdict(profile::Fault::None, frame).filter(|_| fault != Fault::NoProfile);
-    let told = told.map(|(number, row, _)| {
-        let row = if fault == Fault::NoRow { 0 } else { row as u32 };
-        Answer { number, row, filler: 0 }
-    });
+    let told = told(fault, frame);
     let long = is_longer(fault, stream, offsets, meant, (width, height));
     let long = long.then_some(Answer::refused(21));
-    let late = bright.then_some(Answer::refused(9)).filter(|_| fault == Fault::BrightAfterProfile);
+    let bright = fault == Fault::BrightAfterProfile && is_bright(fault, meant, width * height);
     let before = match fault {
         Fault::ProfileAfterLength => long.or(told),
         Fault::SamplesBeforeLength => told,
-        _ => told.or(late).or(long),
+        _ => told.or(bright.then_some(Answer::refused(9))).or(long),
     };
-    let kept = scratch.to_vec();
     let decodes = match fault {
         Fault::DecodesBeforeTheLength => told.is_none(),
         Fault::DecodesBeforeTheProfile => true,
         _ => before.is_none(),
     };
+    let kept = scratch.to_vec();
     if decodes {
         reference::decode_v0_reference(stream, offsets, width, height, scratch).expect("V0 is done");
     }
     if let Some(answer) = before {
         return answer;
     }
-    let compared = match fault {
-        Fault::FirstRowAlone => width.min(n),
-        Fault::AllButTheLast => n.saturating_sub(1),
-        Fault::PastTheFrame => scratch.len().min(meant.len()),
-        _ => n,
-    };
-    let same = scratch[..compared] == meant[..compared];
+    let same = is_same(fault, proposal, scratch);
     match fault {
         Fault::ScratchKept => scratch.copy_from_slice(&kept),
         Fault::ScratchKeptByOther if !same => scratch.copy_from_slice(&kept),
-        Fault::ScratchsTailCleared => scratch[n..].fill(0),
+        Fault::ScratchsTailCleared => scratch[width * height..].fill(0),
         _ => {}
     }
     match (same, long) {
@@ -94,6 +72,43 @@ pub fn check(fault: Fault, proposal: &Proposal, scratch: &mut [u16]) -> Answer {
         (true, Some(answer)) if fault == Fault::SamplesBeforeLength => answer,
         _ => Answer::DONE,
     }
+}
+
+/// Refusals 1, 3, 9, and 3 again: of the samples meant, and then of the scratch and the table.
+fn refusal(fault: Fault, Proposal { frame, meant }: &Proposal, scratch: usize) -> Option<u32> {
+    let Frame { width, height, ref offsets, .. } = *frame;
+    if width > 16_384 || height > 16_384 {
+        return Some(1);
+    }
+    let n = width * height;
+    let bright = is_bright(fault, meant, n);
+    let mut early = [(3, meant.len() < n), (9, bright), (3, scratch < n || offsets.len() < height)];
+    match fault {
+        Fault::BrightBeforeShort => early.swap(0, 1),
+        Fault::BrightAfterScratch => early.swap(1, 2),
+        Fault::BrightAfterProfile => early[1].1 = false,
+        _ => {}
+    }
+    early.iter().find(|(_, holds)| *holds).map(|&(number, _)| number)
+}
+
+/// The profile's refusal.
+fn told(fault: Fault, frame: &Frame) -> Option<Answer> {
+    let (number, row, _) = profile::verdict(profile::Fault::None, frame).filter(|_| fault != Fault::NoProfile)?;
+    let row = if fault == Fault::NoRow { 0 } else { row as u32 };
+    Some(Answer { number, row, filler: 0 })
+}
+
+/// Whether the samples decoded are those that are meant.
+fn is_same(fault: Fault, Proposal { frame, meant }: &Proposal, scratch: &[u16]) -> bool {
+    let n = frame.width * frame.height;
+    let compared = match fault {
+        Fault::FirstRowAlone => frame.width.min(n),
+        Fault::AllButTheLast => n.saturating_sub(1),
+        Fault::PastTheFrame => scratch.len().min(meant.len()),
+        _ => n,
+    };
+    scratch[..compared] == meant[..compared]
 }
 
 /// Whether a sample that is meant is above 16,383.
