@@ -1,2 +1,4 @@
 -- What the methods' proofs share.
 pub mod Lent
+pub mod ShrSelf
+pub mod Walks
