@@ -26,7 +26,6 @@ use denote.Memory.{cellAt, partAt}
 use denote.Builtin.{u64, RefOf}
 use denote.Plain.{uint-makes, uint-lawful}
 use denote.Ref.{RefT, ShrRef, ptr-vals, shr-tells, now}
-use denote.Signature.{plain}
 use denote.Steps.{looks, shuts, owned, peeks, nothing}
 use denote.Struct.Steps.{spelt}
 use denote.Struct.Laws as LL
@@ -39,7 +38,7 @@ use Rattle.rules.specs.declared.reader.Bits.{Bits}
 use Rattle.rules.proofs.reader.Bits.Laws as R′
 use Rattle.ph1bits.proofs.Ph1Bits as T
 use Rattle.ph1bits.proofs.Ph1Bits.Laws as T′
-use Rattle.ph1bits.proofs.Lent.{α, B, behind, D, L, mach, wt}
+use Rattle.ph1bits.proofs.Lent.{α, B, behind, D, L, mach, method, wt}
 use Rattle.ph1bits.proofs.Walks.{leave, walk-enters}
 
 -- A borrow of the reader h as the only argument, and the value that it is passed as.
@@ -51,15 +50,7 @@ passed b o = (vptr b o ∷ [], tt)
 
 -- The signature, at the answer's type.
 abbrev ended : RattleType → Ended
-ended R = record {
-  signature = record {
-    lifetimes = 2;
-    outlives = record { long = 1; long-ok = tt; short = 0; short-ok = tt } ∷ [];
-    params = RefOf (0 ∷ []) tt behind (λ κs. tt) ∷ [];
-    result = plain (λ κs. R);
-  };
-  kept = (yes, tt);
-}
+ended R = record { signature = method (RefOf (0 ∷ []) tt behind (λ κs. tt) ∷ []) R; kept = (yes, tt) }
 
 abbrev stayed : (R : RattleType) → Stays (ended R .signature .params) (ended R .kept)
 stayed R = (stay-none-ref (0 ∷ []) tt behind yes, tt)
@@ -102,15 +93,15 @@ module _ {M : Type 1} (𝓤 : URA M) (H : Heap 𝓤) (𝓜 : Model 𝓤 H) (𝓖
       (walks 𝓤 H (𝓖 .A) (givenOf 𝓤 H 𝓜 𝓖) R Says makes (tables 𝓤 H 𝓜 𝓡 γ .C) (tables 𝓤 H 𝓜 𝓡 γ .Λ) f (walk (tables 𝓤 H 𝓜 𝓡 γ .C) (tables 𝓤 H 𝓜 𝓡 γ .Λ)))
 
 module _ {M : Type 1} {𝓤 : URA M} {H : Heap 𝓤} {A : Atoms 𝓤} {K : Type 0} {W : Given 𝓤 H A} {Γ : List (Item 𝓤)} {G : Goal 𝓤 H} where
-  -- The borrow is looked into: a share of the reader's cell, spelled out, and what its type says of that value.
+  -- The borrow is looked into: a share of the reader's cell, spelled out, and that its parts are of their types.
   pub looks-into : K → Soaks G → (κ κ′ : Lft) (q q′ : Share) (b o : ℕ) (γ : GName) (h : Ph1Bits)
-      → ((s : Share) → Is (B κ′) h (mach h ∷ [])
+      → ((s : Share) → WT (mach h)
       → Seq K W (‵ (cellAt s (B κ′ .mir) (mach h ∷ []) b o) ∷ ‵ (B κ′ .own h (mach h ∷ [])) ∷ ‵ (fobor κ q (partAt (B κ′) s h b o)) ∷ ‵ (fshr-bor κ (λ s′. partAt (B κ′) s′ h b o)) ∷ (‵ (flft κ′ q′) ⊛ ‵ ftrue) ∷ ‵ (fres γ (B κ′ .coded .code h)) ∷ Γ) G)
       → Seq K W (‵ (owns (ShrRef (named 0) κ (B κ′) ∷ []) (lent b o γ h) (passed b o)) ∷ (‵ (flft κ q) ⊛ ‵ (flft κ′ q′) ⊛ ‵ ftrue) ∷ Γ) G
   looks-into t z κ κ′ q q′ b o γ h k =
       fsplit t $ fsplit3 t $ drop t $ move t (2 ∷ []) $ drop t $ move t (2 ∷ []) $ split t $ move t (3 ∷ 0 ∷ []) $
       looks t z (B κ′) (Is (B κ′)) (shows 𝓤 H A (B κ′)) (LL.vals (D κ′) (L κ′)) (LL.tells (D κ′) (L κ′)) (LL.copy (D κ′) (T′.the-copy (α κ′)) 𝓤 H A W) h b o (λ s vs.
-      spelt t (B κ′) (Is (B κ′)) (shows 𝓤 H A (B κ′)) (LL.vals (D κ′) (L κ′)) (LL.tells (D κ′) (L κ′)) s h vs b o $ move t (1 ∷ []) $ peeks t (B κ′) (Is (B κ′)) (shows 𝓤 H A (B κ′)) h (mach h ∷ []) (λ is. move t (1 ∷ 0 ∷ []) $ k s is))
+      spelt t (B κ′) (Is (B κ′)) (shows 𝓤 H A (B κ′)) (LL.vals (D κ′) (L κ′)) (LL.tells (D κ′) (L κ′)) s h vs b o $ move t (1 ∷ []) $ peeks t (B κ′) (Is (B κ′)) (shows 𝓤 H A (B κ′)) h (mach h ∷ []) (λ is. move t (1 ∷ 0 ∷ []) $ k s (wt 𝓤 H A W κ′ h is .1)))
 
 -- The code of `self.state.k`, at the field k of the state.
 abbrev loads : ℕ → Fn
@@ -131,12 +122,12 @@ module _ (k : ℕ) {d : ℕ} (at-k : fieldOf R′.mir k ≡ some (tyInt w64, d))
   walk-field : {M : Type 1} (𝓤 : URA M) (H : Heap 𝓤) (A : Atoms 𝓤) (W : Given 𝓤 H A) (C : Calls 𝓤 H) (Λ : Loops 𝓤 H) → Walked 𝓤 H A W u64 (λ h r. r ≡ it (h .state)) C Λ (loads k)
   walk-field 𝓤 H A W C Λ κ κ′ q q′ b o γ h K ends =
       enter ! C Λ (loads k) (vptr b o ∷ []) _ $
-      alloc1 ! (λ l₀. alloc1 ! (λ l₁. alloc0 ! $ params1 ! $ pass1 ! (init ! 0 refl (tt, tt)) $ pass0 ! $ move ! (5 ∷ 4 ∷ []) $ looks-into ! tt κ κ′ q q′ b o γ h (λ s is.
+      alloc1 ! (λ l₀. alloc1 ! (λ l₁. alloc0 ! $ params1 ! $ pass1 ! (init ! 0 refl (tt, tt)) $ pass0 ! $ move ! (5 ∷ 4 ∷ []) $ looks-into ! tt κ κ′ q q′ b o γ h (λ s typed.
       -- [a share of the struct's cell; what a reader owns; what shuts it; the fractured borrow; the token; res; _1; …; room for _0; …]
       assigns ! (of-opd ! (load ! (from ! (hop ! (look ! 6 refl) (fld ! refl (fld ! at-k (stop !))))) (look-in ! 0 (sub ! k at-k (sub ! 1 refl (whole !)))))) (from ! (stop !))
-      (init ! 8 refl (uint-lawful 𝓤 H A W w64 .typed (it (h .state)) _ (is-it (h .state) (wt 𝓤 H A W κ′ h is .1 .1 .0)) .0)) $
+      (init ! 8 refl (uint-lawful 𝓤 H A W w64 .typed (it (h .state)) _ (is-it (h .state) (typed .1 .0)) .0)) $
       shuts ! tt (B κ′) s h (mach h ∷ []) b o $
-      returns ! (look ! 6 refl) $ move ! (6 ∷ 7 ∷ 4 ∷ 5 ∷ []) $ leave ! $ leave ! $ free0 ! $ move ! (0 ∷ 2 ∷ 3 ∷ []) $ ends (it (h .state)) _ (is-it (h .state) (wt 𝓤 H A W κ′ h is .1 .1 .0)) refl)))
+      returns ! (look ! 6 refl) $ move ! (6 ∷ 7 ∷ 4 ∷ 5 ∷ []) $ leave ! $ leave ! $ free0 ! $ move ! (0 ∷ 2 ∷ 3 ∷ []) $ ends (it (h .state)) _ (is-it (h .state) (typed .1 .0)) refl)))
 
   pub field-meets : {M : Type 1} (𝓤 : URA M) (H : Heap 𝓤) (𝓜 : Model 𝓤 H) (𝓖 : GhostRules 𝓤 H) (𝓡 : Running 𝓤 H 𝓜) (γ : Env) (n : Name) → Closed 𝓤 H (tables 𝓤 H 𝓜 𝓡 γ .C) (tables 𝓤 H 𝓜 𝓡 γ .Λ) n (loads k)
       → Meets 𝓤 H (𝓖 .A) (ended u64 .signature) (𝓡 .run (γ n)) (closing 𝓤 H (𝓖 .A) (ended u64) (clauses 𝓤 u64 (λ h r. r ≡ it (h .state))))
