@@ -12,11 +12,11 @@ use base.Stored.{Gv}
 use base.Fml.{Fml, flft, fobs, fauth, fbor, fobor, fat}
 use prog.Model.{Model}
 use prog.Routine.{Name, Routine, Env}
-use prog.Wp.{Heap, Calls, Loops, WpFn, Closed}
+use prog.Wp.{Heap, Calls, Loops, WpFn}
 use ghost.Atoms.{Atoms}
 use contract.Lifetimes.{AllOutlive}
 use contract.Monad.{fact}
-use contract.Running.{Running, GhostRules, givenOf, tables, tablesOf}
+use contract.Running.{Running, GhostRules, MachineTables, givenOf, tables, tablesOf}
 use types.Kit.{Goal, prop, Soaks, Seq, Sq, Step, step, Item, Given, ‵, raw, given, _⊛_, _$_, !, move, drop, use1, use2, learn, split, join, fsplit, fsplit3, fjoin, fjoin3, feqI, suffices, frame, done}
 use types.SemTy.{Body}
 use sound.WpLaws.{FmC, fmOf}
@@ -29,11 +29,9 @@ use denote.Ref.{MutRef, ptr-vals, mut-tells, now}
 use denote.Signature.{plain}
 use denote.Slice.{sliceVal, ShrSlice}
 use denote.Steps.{opens, closes, owned, nothing}
-use denote.Struct.Laws as LL
 use denote.Struct.Rest.{all-own, own-open, own-put}
 use denote.Struct.Values.{Values}
-use denote.Triple.Clauses.{Ended, Clauses, closing}
-use denote.Triple.Spec.{Meets}
+use denote.Triple.Clauses.{Ended, Clauses}
 use denote.Triple.Statement.{Contract, Triple}
 use denote.Triple.Table.{cited}
 use denote.Triple.Walked.{says, Stays, stay-ref, stay-none, goes-ref, goes-none, walkOf, Walks, ends-at, walked}
@@ -43,8 +41,8 @@ use Rattle.rules.specs.declared.reader.Bits.{Bits}
 use Rattle.rules.proofs.reader.Bits as R
 use Rattle.rules.proofs.reader.Bits.Laws as R′
 use Rattle.ph1bits.proofs.Ph1Bits.Laws as T′
-use Rattle.ph1bits.proofs.Lent.{α, B, behind, D, L, mach, method, Borrow, borrow, lfts, shares, lent, pointer, held, tokens, at-state, own, as-ghost, cell, spelt-out}
-use Rattle.ph1bits.proofs.Walks.{walk-enters}
+use Rattle.ph1bits.proofs.Lent.{B, behind, D, L, copies, mach, method, Borrow, borrow, lfts, shares, lent, pointer, held, tokens, at-state, own, as-ghost, cell, spelt-out}
+use Rattle.ph1bits.proofs.Walks.{contract-of, Unfolds, walk-enters}
 
 -- The signature, at the number's width and the answer's type.
 abbrev ended : Width → RattleType → Ended
@@ -59,10 +57,10 @@ clauses 𝓤 w T Says κs a = record { ghost = Unit {0}; requires = λ _. emp �
 
 -- What the arguments own; and what the borrow is of.
 abbrev owned-by : Width → Borrow → Ph1Bits → ℕ → Fml
-owned-by w x h n = owns (MutRef (named 0) (x .κ) (B (x .κ′)) ∷ UInt w ∷ []) (lent x h, (n, tt)) (pointer x ∷ [], (vint w n ∷ [], tt))
+owned-by w x h n = owns (MutRef (named 0) (x .κ) (B x) ∷ UInt w ∷ []) (lent x h, (n, tt)) (pointer x ∷ [], (vint w n ∷ [], tt))
 
 abbrev body : Borrow → Fml
-body x = Body (mem (B (x .κ′))) (x .place .0) (x .place .1) (x .γ)
+body x = Body (mem (B x)) (x .b) (x .o) (x .γ)
 
 module _ {M : Type 1} (𝓤 : URA M) (H : Heap 𝓤) (A : Atoms 𝓤) (W : Given 𝓤 H A) (w : Width) (T : RattleType) (Says : Ph1Bits → ℕ → T .Denot → Ph1Bits → Type 0) where
   -- What a walk has left: the borrow closed at the reader h′, and the tokens.
@@ -82,22 +80,23 @@ module _ {M : Type 1} (𝓤 : URA M) (H : Heap 𝓤) (A : Atoms 𝓤) (W : Given
         feqI ! (List Val) (pointer x ∷ []) (pointer x ∷ []) refl $ fjoin3 ! $ nothing ! $ owned ! (UInt w) (Is (UInt w)) (uint-makes 𝓤 H A W w) n (vint w n ∷ []) (refl, fits) $ fjoin ! $ move ! (1 ∷ 0 ∷ []) $ fjoin ! $ frame ! $ owned ! T (Is T) makes r (v ∷ []) is $ done !
 
     walks : (C : Calls 𝓤 H) (Λ : Loops 𝓤 H) (f : Fn) → Walked C Λ f → Walks 𝓤 H A (ended w T) (stayed w T) (WpFn 𝓤 H C Λ f) (clauses 𝓤 w T Says)
-    walks C Λ f walk = walked 𝓤 H A (ended w T) (stayed w T) (clauses 𝓤 w T Says) (WpFn 𝓤 H C Λ f) (λ κs. (ptr-vals, (uint-vals w, tt))) (λ κs. (mut-tells (named 0) (κs .0) (B (κs .1 .0)), (uint-tells w, tt)))
+    walks C Λ f walk = walked 𝓤 H A (ended w T) (stayed w T) (clauses 𝓤 w T Says) (WpFn 𝓤 H C Λ f) (λ κs. (ptr-vals, (uint-vals w, tt))) (λ κs. (mut-tells (named 0) (κs .0) (behind .row κs), (uint-tells w, tt)))
         (λ κs qs bounds a _ are. via 𝓤 _ (fst∗ 𝓤 _ (emp 𝓤)) (walk (borrow κs qs (a .0)) (a .0 .now) (a .1 .0) (are .1 .0 .1) _ (exits (borrow κs qs (a .0)) bounds (a .0 .now) (a .1 .0) (are .1 .0 .1)) .prf))
 
--- The method meets its contract, from a walk that knows of the callee its contract alone.
-module _ {M : Type 1} (𝓤 : URA M) (H : Heap 𝓤) (𝓜 : Model 𝓤 H) (𝓖 : GhostRules 𝓤 H) (𝓡 : Running 𝓤 H 𝓜) (w : Width) (T : RattleType) (Says : Ph1Bits → ℕ → T .Denot → Ph1Bits → Type 0) (γ : Env) (k : Name) (f : Fn) where
-  pub meets : Makes 𝓤 H (𝓖 .A) T (Is T) → Closed 𝓤 H (tables 𝓤 H 𝓜 𝓡 γ .C) (tables 𝓤 H 𝓜 𝓡 γ .Λ) k f → (core : Contract 𝓤) (g : Name) (callee : Routine) → γ g ≡ callee → Triple 𝓤 (𝓡 .run callee) core
+-- The method meets its contract, from a walk of its code that knows of the callee g its contract alone.
+module _ {M : Type 1} (𝓤 : URA M) (H : Heap 𝓤) (𝓜 : Model 𝓤 H) (𝓖 : GhostRules 𝓤 H) (𝓡 : Running 𝓤 H 𝓜) (γ : Env) (k : Name) (f : Fn) where
+  pub meets : Unfolds 𝓤 H 𝓜 𝓖 𝓡 γ k f → (w : Width) (T : RattleType) (Says : Ph1Bits → ℕ → T .Denot → Ph1Bits → Type 0) → Makes 𝓤 H (𝓖 .A) T (Is T) → (core : Contract 𝓤) (g : Name) (callee : Routine) → γ g ≡ callee → Triple 𝓤 (𝓡 .run callee) core
       → ((C : Calls 𝓤 H) (Λ : Loops 𝓤 H) → FmC 𝓤 H (givenOf 𝓤 H 𝓜 𝓖 .laws) C → Triple 𝓤 (C g) core → Walked 𝓤 H (𝓖 .A) (givenOf 𝓤 H 𝓜 𝓖) w T Says C Λ f)
-      → Meets 𝓤 H (𝓖 .A) (ended w T .signature) (𝓡 .run (γ k)) (closing 𝓤 H (𝓖 .A) (ended w T) (clauses 𝓤 w T Says))
+      → Triple 𝓤 (𝓡 .run (γ k)) (contract-of 𝓤 H (𝓖 .A) (ended w T) (clauses 𝓤 w T Says))
   unfolding tablesOf
-  meets makes unfolded core g callee calls met walk =
-      walk-enters 𝓤 H 𝓜 𝓖 𝓡 γ (ended w T) (stayed w T) (goes-ref 𝓤 H (𝓖 .A) (givenOf 𝓤 H 𝓜 𝓖) 2 0 tt behind, (goes-none 𝓤 H (𝓖 .A) (givenOf 𝓤 H 𝓜 𝓖) 2 (λ _. UInt w) yes (λ κs x f. refl), tt)) (clauses 𝓤 w T Says) k f unfolded
-      (walks 𝓤 H (𝓖 .A) (givenOf 𝓤 H 𝓜 𝓖) w T Says makes (tables 𝓤 H 𝓜 𝓡 γ .C) (tables 𝓤 H 𝓜 𝓡 γ .Λ) f
-      (walk (tables 𝓤 H 𝓜 𝓡 γ .C) (tables 𝓤 H 𝓜 𝓡 γ .Λ) (fmOf 𝓤 H (givenOf 𝓤 H 𝓜 𝓖 .laws) (tablesOf 𝓤 H 𝓜 (tables 𝓤 H 𝓜 𝓡 γ))) (cited 𝓤 H core 𝓜 𝓡 γ g callee calls met)))
+  meets unfolds w T Says makes core g callee calls met walk =
+      let W : Given 𝓤 H (𝓖 .A) = givenOf 𝓤 H 𝓜 𝓖 in
+      let 𝓣 : MachineTables 𝓤 H 𝓜 = tables 𝓤 H 𝓜 𝓡 γ in
+      walk-enters 𝓤 H 𝓜 𝓖 𝓡 γ k f unfolds (ended w T) (stayed w T) (goes-ref 𝓤 H (𝓖 .A) W 2 0 tt behind, (goes-none 𝓤 H (𝓖 .A) W 2 (λ _. UInt w) yes (λ κs x f. refl), tt)) (clauses 𝓤 w T Says)
+      (walks 𝓤 H (𝓖 .A) W w T Says makes (𝓣 .C) (𝓣 .Λ) f (walk (𝓣 .C) (𝓣 .Λ) (fmOf 𝓤 H (W .laws) (tablesOf 𝓤 H 𝓜 𝓣)) (cited 𝓤 H core 𝓜 𝓡 γ g callee calls met)))
 
 -- The reader's two fields, and what each owns.
-abbrev parts : (x : Borrow) → Ph1Bits → Values (D (x .κ′) .parts)
+abbrev parts : (x : Borrow) → Ph1Bits → Values (D x .parts)
 parts x h = (h .«data», (h .state, tt))
 
 abbrev pub data-owns : Borrow → Ph1Bits → Fml
@@ -108,21 +107,21 @@ state-owns s = R.the-row .own s (R′.lowered s ∷ [])
 
 -- The reader's cell as the code finds it.
 abbrev in-place : Borrow → Ph1Bits → Fml
-in-place x h = fat fullShare (T′.mir erased) (x .place .0) (x .place .1) (mach h)
+in-place x h = fat fullShare (T′.mir erased) (x .b) (x .o) (mach h)
 
 module _ {M : Type 1} {𝓤 : URA M} {H : Heap 𝓤} {A : Atoms 𝓤} {K : Type 0} {W : Given 𝓤 H A} {Γ : List (Item 𝓤)} {G : Goal 𝓤 H} where
   -- The borrow is opened: the reader's cell, spelled out, and that its parts are of their types.
   pub opens-up : K → Soaks G → (w : Width) (x : Borrow) (h : Ph1Bits) (n : ℕ)
       → (WT (mach h) → Seq K W (‵ (in-place x h) ∷ ‵ (own x h) ∷ ‵ (fobor (x .κ) (x .q) (body x)) ∷ ‵ (fobs (x .γ) (as-ghost x h)) ∷ ‵ (fauth (x .γ) (as-ghost x h)) ∷ raw (held 𝓤 A x) ∷ Γ) G) → Seq K W (‵ (owned-by w x h n) ∷ tokens 𝓤 A x ∷ Γ) G
   opens-up t z w x h n k =
-      fsplit t $ fsplit3 t $ drop t $ move t (2 ∷ []) $ drop t $ move t (2 ∷ []) $ split t $ move t (2 ∷ 3 ∷ 0 ∷ []) $ opens t z (B (x .κ′)) {h = h} (x .place .0) (x .place .1) (λ vs. spelt-out t x h fullShare vs (λ typed.
-      use1 W (‵ (in-place x h)) (W .laws .raw-at fullShare (T′.mir erased) (x .place .0) (x .place .1) (mach h)) $ k typed))
+      fsplit t $ fsplit3 t $ drop t $ move t (2 ∷ []) $ drop t $ move t (2 ∷ []) $ split t $ move t (2 ∷ 3 ∷ 0 ∷ []) $ opens t z (B x) {h = h} (x .b) (x .o) (λ vs. spelt-out t x h fullShare vs (λ typed.
+      use1 W (‵ (in-place x h)) (W .laws .raw-at fullShare (T′.mir erased) (x .b) (x .o) (mach h)) $ k typed))
 
   -- The reader is Copy: what its fields own is had beside what it owns.
   pub parted : K → (x : Borrow) (h : Ph1Bits) → Step K W (‵ (data-owns x h) ∷ ‵ (state-owns (h .state)) ∷ ‵ (own x h) ∷ Γ) G (‵ (own x h) ∷ Γ) G
   parted t x h = step (λ s.
-      use1 W (‵ (own x h) ⊛ ‵ (own x h)) (LL.copy (D (x .κ′)) (T′.the-copy (α (x .κ′))) 𝓤 H A W .twice h (mach h ∷ [])) $ split t $
-      use1 W (given (mach h ∷ [] ≡ mach h ∷ []) (‵ (all-own (D (x .κ′) .parts) (L (x .κ′)) (parts x h)))) (own-open 𝓤 H A W (D (x .κ′)) (L (x .κ′)) (parts x h) (mach h)) $ learn t (λ _.
+      use1 W (‵ (own x h) ⊛ ‵ (own x h)) (copies 𝓤 H A W x .twice h (mach h ∷ [])) $ split t $
+      use1 W (given (mach h ∷ [] ≡ mach h ∷ []) (‵ (all-own (D x .parts) (L x) (parts x h)))) (own-open 𝓤 H A W (D x) (L x) (parts x h) (mach h)) $ learn t (λ _.
       fsplit t $ move t (1 ∷ []) $ fsplit t $ move t (1 ∷ []) $ drop t $ move t (1 ∷ []) $ s))
 
   -- The borrow is closed at another state, which has been stored in the reader's cell.
@@ -130,6 +129,6 @@ module _ {M : Type 1} {𝓤 : URA M} {H : Heap 𝓤} {A : Atoms 𝓤} {K : Type 
       → Step K W (‵ (fobs (x .γ) (as-ghost x (at-state h s))) ∷ ‵ (fbor (x .κ) (body x)) ∷ ‵ (flft (x .κ) (x .q)) ∷ Γ) G
       (‵ (state-owns s) ∷ ‵ (own x h) ∷ ‵ (in-place x (at-state h s)) ∷ ‵ (fobor (x .κ) (x .q) (body x)) ∷ ‵ (fobs (x .γ) u) ∷ ‵ (fauth (x .γ) v) ∷ Γ) G
   closes-at t z x h s = step (λ next.
-      move t (1 ∷ 0 ∷ []) $ use2 W (‵ (own x (at-state h s))) (own-put 𝓤 H A W (D (x .κ′)) (L (x .κ′)) 1 (parts x h) s (mach h)) $
-      move t (1 ∷ []) $ use1 W (‵ (cell x fullShare (mach (at-state h s) ∷ []))) (W .laws .at-raw fullShare (T′.mir erased) (x .place .0) (x .place .1) (mach (at-state h s))) $
-      closes t z (B (x .κ′)) (at-state h s) (mach (at-state h s) ∷ []) (x .place .0) (x .place .1) $ next)
+      move t (1 ∷ 0 ∷ []) $ use2 W (‵ (own x (at-state h s))) (own-put 𝓤 H A W (D x) (L x) 1 (parts x h) s (mach h)) $
+      move t (1 ∷ []) $ use1 W (‵ (cell x fullShare (mach (at-state h s) ∷ []))) (W .laws .at-raw fullShare (T′.mir erased) (x .b) (x .o) (mach (at-state h s))) $
+      closes t z (B x) (at-state h s) (mach (at-state h s) ∷ []) (x .b) (x .o) $ next)

@@ -25,7 +25,6 @@ use denote.Slice.{sliceVal}
 use denote.Steps.{owned, nothing}
 use denote.Struct.Laws as LL
 use denote.Struct.Rest.{all-own, own-open}
-use denote.Triple.Spec.{tripleOf}
 use denote.Triple.Statement.{Contract, Triple}
 use Rattle.rules.specs.Reader.{read}
 use Rattle.ph1bits.specs.declared.Ph1Bits.{Ph1Bits}
@@ -40,7 +39,7 @@ use Rattle.bits.proofs.get.Symbol.{name as #core}
 use Rattle.bits.proofs.get.Met as core-thm
 use Rattle.ph1bits.proofs.Lent.{Borrow, pointer, held, at-state}
 use Rattle.ph1bits.proofs.MutSelf.{Walked, data-owns, state-owns, opens-up, parted, closes-at, meets}
-use Rattle.ph1bits.proofs.Walks.{calls-for, leave}
+use Rattle.ph1bits.proofs.Walks.{contract-of, calls-for, leave}
 use Rattle.ph1bits.proofs.Ph1Bits.get.Key.{name as #get}
 use Rattle.ph1bits.proofs.Ph1Bits.get.Statement as stated
 use Rattle.ph1bits.proofs.Ph1Bits.get.Code as code
@@ -54,7 +53,7 @@ Says h n r h′ = (r ≡ found h n .value) × (h′ ≡ stepped h n)
 module _ {M : Type 1} (𝓤 : URA M) (H : Heap 𝓤) (A : Atoms 𝓤) (at-mem : Memory → SProp 𝓤) (run : Routine → Fun 𝓤) where
   -- the contract that the proof cites, and what it is cited at
   abbrev Core : Contract 𝓤
-  Core = tripleOf 𝓤 H A core.signature (core.spec 𝓤 H A at-mem run)
+  Core = contract-of 𝓤 H A core.ended (core.clauses 𝓤 H A at-mem run)
 
   abbrev to : Borrow → Ph1Bits → ℕ → Core .Ghost
   to x h n = (((x .κ′, tt), (x .q′, tt), tt, (h .«data», (h .state, (n, tt))), (sliceVal (h .«data» .ptr) (length (h .«data» .now)) ∷ [], (R′.lowered (h .state) ∷ [], (vint w32 n ∷ [], tt)))), tt)
@@ -89,5 +88,5 @@ module _ {M : Type 1} (𝓤 : URA M) (H : Heap 𝓤) (A : Atoms 𝓤) (at-mem : 
 pub get-spec : {M : Type 1} → stated.statement M
 unfolding code.routine
 get-spec 𝓤 H 𝓜 𝓖 𝓡 =
-    meets 𝓤 H 𝓜 𝓖 𝓡 w32 u32 Says code.env #get code.function (uint-makes 𝓤 H (𝓖 .A) (givenOf 𝓤 H 𝓜 𝓖) w32) (code.unfolded 𝓤 H 𝓜 𝓡)
+    meets 𝓤 H 𝓜 𝓖 𝓡 code.env #get code.function (code.unfolded 𝓤 H 𝓜 𝓡) w32 u32 Says (uint-makes 𝓤 H (𝓖 .A) (givenOf 𝓤 H 𝓜 𝓖) w32)
     (Core 𝓤 H (𝓖 .A) (𝓜 .mem) (𝓡 .run)) #core core-def.routine code.calls-bits·get (core-thm.met 𝓤 H 𝓜 𝓖 𝓡) (walk 𝓤 H (𝓖 .A) (𝓜 .mem) (𝓡 .run) (givenOf 𝓤 H 𝓜 𝓖))

@@ -95,6 +95,6 @@ new-spec 𝓤 H 𝓜 𝓖 𝓡 =
     let W : Given 𝓤 H A = givenOf 𝓤 H 𝓜 𝓖 in
     let C : Calls 𝓤 H = tables 𝓤 H 𝓜 𝓡 code.env .C in
     let Λ : Loops 𝓤 H = tables 𝓤 H 𝓜 𝓡 code.env .Λ in
-    walk-enters 𝓤 H 𝓜 𝓖 𝓡 code.env new.ended stayed (goes-none-slice 𝓤 H A W 1 (0 ∷ []) tt (plain (λ _. u8)) yes, (goes-none 𝓤 H A W 1 (λ _. u64) yes (λ κs x f. refl), tt)) (new.clauses 𝓤 H A (𝓜 .mem) (𝓡 .run)) #new code.function (code.unfolded 𝓤 H 𝓜 𝓡)
+    walk-enters 𝓤 H 𝓜 𝓖 𝓡 code.env #new code.function (code.unfolded 𝓤 H 𝓜 𝓡) new.ended stayed (goes-none-slice 𝓤 H A W 1 (0 ∷ []) tt (plain (λ _. u8)) yes, (goes-none 𝓤 H A W 1 (λ _. u64) yes (λ κs x f. refl), tt)) (new.clauses 𝓤 H A (𝓜 .mem) (𝓡 .run))
     (walked 𝓤 H A new.ended stayed (new.clauses 𝓤 H A (𝓜 .mem) (𝓡 .run)) (WpFn 𝓤 H C Λ code.function) (λ κs. (slice-vals, (uint-vals w64, tt))) (λ κs. (shr-slice-tells (named 0) (κs .0) u8, (uint-tells w64, tt)))
     (λ κs qs bounds a g are. via 𝓤 _ (fst∗ 𝓤 _ (emp 𝓤)) (walk 𝓤 H A W (𝓜 .mem) (𝓡 .run) (κs .0) (qs .0) (a .0) (a .1 .0) (are .1 .0 .1) C Λ (are .0))))

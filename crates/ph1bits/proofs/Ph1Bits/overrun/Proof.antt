@@ -32,4 +32,4 @@ walk 𝓤 H A W C Λ x h K ends =
 pub overrun-spec : {M : Type 1} → stated.statement M
 unfolding code.routine
 overrun-spec 𝓤 H 𝓜 𝓖 𝓡 =
-    meets 𝓤 H 𝓜 𝓖 𝓡 bool (λ h r. r ≡ not (eqb (h .state .filler) 0)) code.env #overrun code.function (bool-makes 𝓤 H (𝓖 .A) (givenOf 𝓤 H 𝓜 𝓖)) (code.unfolded 𝓤 H 𝓜 𝓡) (walk 𝓤 H (𝓖 .A) (givenOf 𝓤 H 𝓜 𝓖))
+    meets 𝓤 H 𝓜 𝓖 𝓡 code.env #overrun code.function (code.unfolded 𝓤 H 𝓜 𝓡) bool (λ h r. r ≡ not (eqb (h .state .filler) 0)) (bool-makes 𝓤 H (𝓖 .A) (givenOf 𝓤 H 𝓜 𝓖)) (walk 𝓤 H (𝓖 .A) (givenOf 𝓤 H 𝓜 𝓖))

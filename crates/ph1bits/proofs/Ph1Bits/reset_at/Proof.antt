@@ -21,7 +21,6 @@ use denote.Plain.{uint-makes, nothing-makes}
 use denote.Builtin.{u64, unit}
 use denote.Steps.{owned, nothing}
 use denote.Struct.Laws as LL
-use denote.Triple.Spec.{tripleOf}
 use denote.Triple.Statement.{Contract, Triple}
 use Rattle.rules.specs.Reader.{reset-at as reset}
 use Rattle.ph1bits.specs.declared.Ph1Bits.{Ph1Bits}
@@ -34,7 +33,7 @@ use Rattle.bits.proofs.reset_at.Symbol.{name as #core}
 use Rattle.bits.proofs.reset_at.Met as core-thm
 use Rattle.ph1bits.proofs.Lent.{pointer, at-state}
 use Rattle.ph1bits.proofs.MutSelf.{Walked, state-owns, opens-up, parted, closes-at, meets}
-use Rattle.ph1bits.proofs.Walks.{calls-for, leave}
+use Rattle.ph1bits.proofs.Walks.{contract-of, calls-for, leave}
 use Rattle.ph1bits.proofs.Ph1Bits.reset_at.Key.{name as #reset-at}
 use Rattle.ph1bits.proofs.Ph1Bits.reset_at.Statement as stated
 use Rattle.ph1bits.proofs.Ph1Bits.reset_at.Code as code
@@ -45,7 +44,7 @@ Says h n r h′ = h′ ≡ moved h n
 module _ {M : Type 1} (𝓤 : URA M) (H : Heap 𝓤) (A : Atoms 𝓤) (at-mem : Memory → SProp 𝓤) (run : Routine → Fun 𝓤) where
   -- the contract that the proof cites, and what it is cited at
   abbrev Core : Contract 𝓤
-  Core = tripleOf 𝓤 H A core.signature (core.spec 𝓤 H A at-mem run)
+  Core = contract-of 𝓤 H A core.ended (core.clauses 𝓤 H A at-mem run)
 
   abbrev to : Ph1Bits → ℕ → Core .Ghost
   to h n = ((tt, tt, tt, (h .state, (n, tt)), (R′.lowered (h .state) ∷ [], (vint w64 n ∷ [], tt))), tt)
@@ -76,5 +75,5 @@ module _ {M : Type 1} (𝓤 : URA M) (H : Heap 𝓤) (A : Atoms 𝓤) (at-mem : 
 pub reset-at-spec : {M : Type 1} → stated.statement M
 unfolding code.routine
 reset-at-spec 𝓤 H 𝓜 𝓖 𝓡 =
-    meets 𝓤 H 𝓜 𝓖 𝓡 w64 unit Says code.env #reset-at code.function (nothing-makes 𝓤 H (𝓖 .A) (givenOf 𝓤 H 𝓜 𝓖)) (code.unfolded 𝓤 H 𝓜 𝓡)
+    meets 𝓤 H 𝓜 𝓖 𝓡 code.env #reset-at code.function (code.unfolded 𝓤 H 𝓜 𝓡) w64 unit Says (nothing-makes 𝓤 H (𝓖 .A) (givenOf 𝓤 H 𝓜 𝓖))
     (Core 𝓤 H (𝓖 .A) (𝓜 .mem) (𝓡 .run)) #core core-def.routine code.calls-bits·reset-at (core-thm.met 𝓤 H 𝓜 𝓖 𝓡) (walk 𝓤 H (𝓖 .A) (𝓜 .mem) (𝓡 .run) (givenOf 𝓤 H 𝓜 𝓖))
