@@ -55,7 +55,7 @@ clauses 𝓤 R Says κs a = record { ghost = Unit {0}; requires = λ _. emp 𝓤
 abbrev owned-by : Borrow → Ph1Bits → Fml
 owned-by x h = owns (ShrRef (named 0) (x .κ) (B x) ∷ []) (lent x h, tt) (pointer x ∷ [], tt)
 
--- What a share of it is a borrow of.
+-- What the borrow is of: a share of the reader in memory.
 abbrev part : Borrow → Ph1Bits → Share → Fml
 part x h s = partAt (B x) s h (x .b) (x .o)
 

@@ -1,4 +1,4 @@
--- What the walks of a function's code share, whatever its signature is: how one hears a callee's answer, how it lets go of a local, and how it ends as the theorem about the function's routine.
+-- What the walks of a function's code share, whatever its signature is: how a walk hears a callee's answer, how it lets go of a local, and how it ends as the theorem about the function's routine.
 use mathlib.Core.Path.{refl, sym, ap, subst}
 use Prim.Native.Nat.{ℕ, zero}
 use mathlib.Core.List.{List, [], _∷_}
@@ -29,7 +29,7 @@ use denote.Triple.Statement.{Contract, Triple}
 use denote.Triple.Table.{entered}
 use denote.Triple.Walked.{Stays, AllGo, Walks, walk-meets}
 
--- A function's contract; and of a call at y, the answer's type and what the tokens are.
+-- A function's contract; and, of a call at y, the type of the answer and the tokens.
 module _ {M : Type 1} (𝓤 : URA M) (H : Heap 𝓤) (A : Atoms 𝓤) (T : Ended) (c : Clauses 𝓤 T) where
   abbrev pub contract-of : Contract 𝓤
   contract-of = tripleOf 𝓤 H A (T .signature) (closing 𝓤 H A T c)
