@@ -11,13 +11,15 @@ use lib.ListN.{length, getD, take, drop, set, length-set, length-drop, drop-of-l
 use lib.Seq.{sets, length-sets, drop-cons, take-suc, set-at, getD-take, getD-drop, take-all, length-take-le, append-snoc, ext-getD}
 use borrow.Author.Tests.{le-ltb}
 use Rattle.rules.specs.Frame.{tabulate}
+use Rattle.maps.specs.Greatest.{greatest}
+use Rattle.maps.proofs.GreatestLaws.{left-more}
 use Rattle.blanking.specs.declared.Tally.{Tally}
 use Rattle.blanking.specs.Blanking.{Fill, marked, bit, count, unstated, blank-row, run, stretch, runs-from, row-runs, numbers}
-use Rattle.blanking.specs.Lent.{tally, greatest, meant, left-of, turns, by-turns}
+use Rattle.blanking.specs.Lent.{tally, meant, left-of, turns, by-turns}
 use Rattle.blanking.specs.declared.Filling.{Filling}
 use Rattle.blanking.specs.declared.Filling.the-variants.{Stated, Unstated}
 use Rattle.blanking.specs.declared.Turns.{Turns}
-use Rattle.blanking.proofs.ByteLaws.{bit-most, bit-set, start-is, left-more, none-marked, count-none}
+use Rattle.blanking.proofs.ByteLaws.{bit-most, bit-set, start-is, none-marked, count-none}
 use Rattle.blanking.proofs.RunLaws.{runs-step, runs-none, left-at, left-passed, left-run, stretch-most, stretch-marked}
 
 -- ── Counting ──

@@ -1,5 +1,5 @@
 -- What the functions ask of what they are lent, and what the loops over bytes find.
-use Prim.Native.Nat.{ℕ, zero, suc, _+_, _-_, _*_, _≤_, max}
+use Prim.Native.Nat.{ℕ, zero, suc, _+_, _-_, _*_, _≤_}
 use mathlib.Core.Bool.{cond}
 use mathlib.Core.Path.{_≡_}
 use mathlib.Core.List.{List, [], _∷_}
@@ -12,11 +12,6 @@ use Rattle.blanking.specs.declared.Turns.{Turns}
 use Rattle.blanking.specs.declared.Filling.{Filling}
 use Rattle.blanking.specs.declared.Filling.the-variants.{Stated, Unstated}
 use Rattle.blanking.specs.Blanking.{Fill, stated, unstated, Run, count, row-runs, runs-of}
-
--- The greatest byte, or 0.
-unfoldable pub greatest : List ℕ → ℕ
-greatest [] = 0
-greatest (b ∷ m) = max b (greatest m)
 
 -- How many samples are marked, and how many runs there are.
 abbrev pub tally : List ℕ → List Run → Tally
