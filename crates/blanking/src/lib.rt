@@ -6,9 +6,9 @@ ghost use Prim.Native.Nat.{_+_, _*_, _≤_, _<_};
 ghost use lib.Dec.{ltb};
 ghost use lib.ListN.{length, drop};
 ghost use lib.Seq.{sets};
-ghost use Rattle.blanking.specs.Blanking.{marked, bad-map, bit, blank-row, blanked, stretch, row-runs, runs-of, numbers};
+ghost use Rattle.blanking.specs.Blanking.{marked, bad-map, bit, blanked, stretch, row-runs, runs-of, numbers};
 ghost use Rattle.blanking.specs.Calls.{refused, blanked-done};
-ghost use Rattle.blanking.specs.Lent.{tally, meant, left-of, turns, by-turns, MapLent, RowLent, FrameLent};
+ghost use Rattle.blanking.specs.Lent.{tally, meant, left-of, turns, by-turns, MapLent, RowLent, RowBlanked, FrameLent};
 use maps::greatest_of;
 use rules::Answer;
 use rules::Size;
@@ -218,10 +218,10 @@ fn blank_marked(
     runs: &mut [u32],
     from: usize,
 ) -> usize
-    requires { ⌜ RowLent row (now map) from (now runs) × (length (now samples) ≡ length (now map)) ⌝ }
-    ensures { λ r. ⌜ r ≡ from + 3 * length (row-runs row (now (map .entry))) ⌝ }
-    ensures { λ _. ⌜ now (samples .exit) ≡ blank-row (meant fill) (now (samples .entry)) (now (map .entry)) ⌝ }
-    ensures { λ _. ⌜ now (runs .exit) ≡ sets (now (runs .entry)) from (numbers (row-runs row (now (map .entry)))) ⌝ }
+    requires { ⌜ RowLent row (now samples) (now map) from (now runs) ⌝ }
+    ensures { λ r. ⌜
+        RowBlanked (meant fill) row (now (samples .entry)) (now (map .entry)) from (now (runs .entry)) r (now (samples .exit)) (now (runs .exit))
+        ⌝ }
 {
     let mut at = from;
     let mut col: usize = 0;
@@ -249,10 +249,10 @@ fn blank_row(
     runs: &mut [u32],
     from: usize,
 ) -> usize
-    requires { ⌜ RowLent row (now map) from (now runs) × (length (now samples) ≡ length (now map)) ⌝ }
-    ensures { λ r. ⌜ r ≡ from + 3 * length (row-runs row (now (map .entry))) ⌝ }
-    ensures { λ _. ⌜ now (samples .exit) ≡ blank-row (meant fill) (now (samples .entry)) (now (map .entry)) ⌝ }
-    ensures { λ _. ⌜ now (runs .exit) ≡ sets (now (runs .entry)) from (numbers (row-runs row (now (map .entry)))) ⌝ }
+    requires { ⌜ RowLent row (now samples) (now map) from (now runs) ⌝ }
+    ensures { λ r. ⌜
+        RowBlanked (meant fill) row (now (samples .entry)) (now (map .entry)) from (now (runs .entry)) r (now (samples .exit)) (now (runs .exit))
+        ⌝ }
 {
     if greatest_of(map) == 0 {
         return from;
