@@ -33,7 +33,7 @@ use Rattle.frames.specs.Convert.{Call, found, decoded-samples, decoded-m
 
 -- ── Writing a decoded frame ──
 
--- A frame of which no sample is marked, and then none is above 16,383, can be written.
+-- A frame without a sample above 16,383 can be written.
 pub writable : {w h : ℕ} {f : List ℕ} → Frame w h f → too-bright f ≡ false → Writable V2 w h f
 writable {f = f} fits dim =
     record {
