@@ -1,17 +1,15 @@
 -- What bytes say, one by one and as a list.
-use mathlib.Core.Path.{_≡_, refl, sym, ap, ap₂, _∙_}
-use mathlib.Core.Bool.{Bool, true, false, _||_, _&&_, not, cond}
+use mathlib.Core.Path.{_≡_, refl, ap, ap₂, _∙_}
+use mathlib.Core.Bool.{Bool, true, false, _||_, _&&_, not}
 use mathlib.Core.List.{List, [], _∷_, _++_}
-use Prim.Native.Nat.{ℕ, zero, suc, _+_, _*_, _≤_, _<_, max}
+use Prim.Native.Nat.{ℕ, zero, suc, _+_, _≤_}
 use native.Mathlib.Omega.{arith}
-use native.Mathlib.Numerals.{add-one}
 use lib.Dec.{ltb}
-use lib.ListN.{length, getD, take, drop, drop-of-length-le}
-use lib.Seq.{drop-cons}
-use borrow.Author.Tests.{lt-ltb, le-ltb, ltb-true, ltb-false}
-use Rattle.rules.proofs.Tests.{neither}
+use lib.ListN.{length, getD}
+use borrow.Author.Tests.{lt-ltb, le-ltb, ltb-false}
+use Rattle.maps.specs.Greatest.{greatest}
+use Rattle.maps.proofs.GreatestLaws.{above-either}
 use Rattle.blanking.specs.Blanking.{marked, strange, bad-map, bit, count}
-use Rattle.blanking.specs.Lent.{greatest}
 
 -- ── A byte ──
 
@@ -47,36 +45,13 @@ start-is zero true = refl
 start-is (suc k) true = rw (le-ltb (suc k) 1 (omega arith), lt-ltb 0 (suc k) (omega arith))
 start-is before false = rw (le-ltb before 0 (omega arith))
 
--- ── The rest of a list ──
-
--- What is left at a place is the byte there, and what is left after it.
-pub left-more : (m : List ℕ) (i : ℕ) → i < length m → drop i m ≡ getD m i 0 ∷ drop (i + 1) m
-left-more m i h = rw (add-one i) (drop-cons m i 0 h)
-
 -- ── The greatest byte ──
-
-pub greatest-on : (m : List ℕ) (i most more : ℕ) → i < length m → more ≡ max most (getD m i 0)
-    → max most (greatest (drop i m)) ≡ max more (greatest (drop (i + 1) m))
-unfolding greatest
-greatest-on m i most more h e = rw (left-more m i h, e) (omega arith)
-
-pub greatest-gone : (m : List ℕ) (i most : ℕ) → length m ≤ i → max most (greatest (drop i m)) ≡ most
-unfolding greatest
-greatest-gone m i most h = rw (drop-of-length-le m {i = i} h) (omega arith)
-
--- One of two is above 3 if the greater is.
-above : (a b : ℕ) (t u : Bool) → ltb 3 a ≡ t → ltb 3 b ≡ u → ltb 3 (max a b) ≡ (ltb 3 a || ltb 3 b)
-above a b true u e q = let l = ltb-true 3 a e in rw e (lt-ltb 3 (max a b) (omega arith))
-above a b false true e q = let l = ltb-true 3 b q in rw (e, q) (lt-ltb 3 (max a b) (omega arith))
-above a b false false e q =
-    let l = ltb-false 3 a e in
-    let k = ltb-false 3 b q in rw (e, q) (le-ltb 3 (max a b) (omega arith))
 
 -- 14 is a matter of the greatest.
 pub bad-is : (m : List ℕ) → ltb 3 (greatest m) ≡ bad-map m
 unfolding bad-map strange greatest
 bad-is [] = refl
-bad-is (b ∷ m) = above b (greatest m) (ltb 3 b) (ltb 3 (greatest m)) refl refl ∙ ap (λ t. ltb 3 b || t) (bad-is m)
+bad-is (b ∷ m) = above-either 3 b (greatest m) ∙ ap (λ t. ltb 3 b || t) (bad-is m)
 
 -- Where the greatest is 0 every byte is.
 pub none-marked : (m : List ℕ) → greatest m ≡ 0 → (i : ℕ) → marked (getD m i 0) ≡ false

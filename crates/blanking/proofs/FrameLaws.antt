@@ -1,18 +1,18 @@
 -- What the loops over a frame's rows keep: what is done, with the rows that are left, is the whole frame's.
 use mathlib.Core.Path.{_≡_, refl, sym, ap, ap₂, _∙_}
-use mathlib.Core.List.{List, [], _∷_, _++_, append-nil, append-assoc}
-use Prim.Native.Nat.{ℕ, zero, suc, _+_, _-_, _*_, _≤_, _<_}
+use mathlib.Core.List.{List, [], _++_, append-assoc}
+use Prim.Native.Nat.{ℕ, suc, _+_, _-_, _*_, _≤_, _<_}
 use native.Mathlib.Omega.{arith}
 use native.Mathlib.Nat.{mul-comm, mul-le-mul, mul-le-mul-right, zero-mul, add-zero}
 use native.Mathlib.Numerals.{add-one}
-use lib.ListN.{length, take, drop, length-append, length-take, length-drop, drop-of-length-le, take-append-drop}
-use lib.Seq.{sets, length-sets, drop-drop, take-at, drop-at, take-all, length-take-le}
+use lib.ListN.{length, take, drop, length-append, length-drop, drop-of-length-le, take-append-drop}
+use lib.Seq.{sets, length-sets, drop-drop, take-at, drop-at, length-take-le}
 use borrow.Rule.Slice.PartMut.{midOf, putMid}
 use Rattle.rules.specs.declared.answer.Size.{Size}
 use Rattle.rules.specs.Frame.{cells}
 use Rattle.blanking.specs.declared.Tally.{Tally}
-use Rattle.blanking.specs.Blanking.{Fill, count, blank-row, blank-rows, blanked, row-runs, rows-runs, runs-of, numbers}
-use Rattle.blanking.specs.Lent.{tally, MapLent, RowLent, FrameLent}
+use Rattle.blanking.specs.Blanking.{Fill, count, blank-rows, blanked, row-runs, rows-runs, runs-of, numbers}
+use Rattle.blanking.specs.Lent.{tally, MapLent, RowLent, RowBlanked, FrameLent}
 use Rattle.blanking.proofs.ByteLaws.{count-append, count-most}
 use Rattle.blanking.proofs.RunLaws.{runs-same, rows-most, numbers-length, numbers-append, sets-append}
 use Rattle.blanking.proofs.RowLaws.{blank-row-length}
@@ -133,22 +133,20 @@ module _ {fill : Fill} {z : Size} {f₀ m runs₀ f runs : List ℕ} {at row : �
   room-f : row * w + w ≤ length f
   room-f = omega (arith, room, b .kept, p .written, p .map-lent .read)
 
-  pub row-lent : RowLent row (part m) at runs × (length (part f) ≡ length (part m))
-  row-lent = (
-    record {
-      few = omega (arith, p .map-lent .high);
-      wide = omega (arith, row-length w row m room, p .map-lent .wide);
-      room = omega (arith, b .place, listed, p .room, b .kept-runs);
-    },
-    row-length w row f room-f ∙ sym (row-length w row m room),
-  )
+  pub row-lent : RowLent row (part f) (part m) at runs
+  row-lent =
+      record {
+        few = omega (arith, p .map-lent .high);
+        wide = omega (arith, row-length w row m room, p .map-lent .wide);
+        written = row-length w row f room-f ∙ sym (row-length w row m room);
+        room = omega (arith, b .place, listed, p .room, b .kept-runs);
+      }
 
-  pub rows-blanked-more : (new runs′ : List ℕ) (at′ : ℕ) → at′ ≡ at + 3 * length (row-runs row (part m)) → new ≡ blank-row fill (part f) (part m)
-      → runs′ ≡ sets runs at (numbers (row-runs row (part m)))
+  pub rows-blanked-more : (new runs′ : List ℕ) (at′ : ℕ) → RowBlanked fill row (part f) (part m) at runs at′ new runs′
       → RowsBlanked fill z f₀ m runs₀ (putMid (row * w) (row * w + w - row * w) f new) runs′ at′ (row + 1)
   unfolding blank-rows
-  rows-blanked-more new runs′ at′ e is q =
-      let wide : length new ≡ w = ap length is ∙ blank-row-length fill (part f) (part m) ∙ row-length w row f room-f in
+  rows-blanked-more new runs′ at′ r =
+      let wide : length new ≡ w = ap length (r .samples-left) ∙ blank-row-length fill (part f) (part m) ∙ row-length w row f room-f in
       let t : length (take (row * w) f) ≡ row * w = length-take-le (row * w) f (omega (arith, room-f)) in
       let front : length (take (row * w) f ++ new) ≡ (row + 1) * w = length-append (take (row * w) f) new ∙ omega (arith, t, wide) in
       let rest : drop (row * w + w - row * w) (drop (row * w) f) ≡ drop ((row + 1) * w) f =
@@ -157,22 +155,22 @@ module _ {fill : Fill} {z : Size} {f₀ m runs₀ f runs : List ℕ} {at row : �
       ap (λ l. take (row * w) f ++ (new ++ l)) rest ∙ sym (append-assoc (take (row * w) f) new (drop ((row + 1) * w) f)) in
       let after = blank-rows fill w (z .height - (row + 1)) (drop ((row + 1) * w) f) (drop ((row + 1) * w) m) in
       let step : blank-rows fill w (z .height - row) (drop (row * w) f) (drop (row * w) m) ≡ new ++ after =
-      rw (rows-left w (z .height) row h, next-row w (z .height) row h f, next-row w (z .height) row h m, ← row-part w row f, ← row-part w row m, ← is) in
+      rw (rows-left w (z .height) row h, next-row w (z .height) row h f, next-row w (z .height) row h m, ← row-part w row f, ← row-part w row m, ← r .samples-left) in
       let long : length (numbers (row-runs row (part m))) ≡ 3 * length (row-runs row (part m)) = numbers-length (row-runs row (part m)) in
       let left-runs = rows-runs w (z .height - (row + 1)) (row + 1) (drop ((row + 1) * w) m) in
       rw all
       record {
         below = omega arith;
         kept = length-append (take (row * w) f ++ new) (drop ((row + 1) * w) f) ∙ omega (arith, front, length-drop ((row + 1) * w) f, room-f, b .kept);
-        kept-runs = ap length q ∙ length-sets runs at (numbers (row-runs row (part m))) ∙ b .kept-runs;
+        kept-runs = ap length (r .runs-left) ∙ length-sets runs at (numbers (row-runs row (part m))) ∙ b .kept-runs;
         samples-are =
             ap₂ (λ x y. x ++ blank-rows fill w (z .height - (row + 1)) y (drop ((row + 1) * w) m))
             (take-at (take (row * w) f ++ new) (drop ((row + 1) * w) f) ((row + 1) * w) front)
             (drop-at (take (row * w) f ++ new) (drop ((row + 1) * w) f) ((row + 1) * w) front)
             ∙ append-assoc (take (row * w) f) new after ∙ ap (λ x. take (row * w) f ++ x) (sym step) ∙ b .samples-are;
-        place = omega (arith, b .place, listed, e);
+        place = omega (arith, b .place, listed, r .place);
         lists =
-            ap₂ (λ l k. sets l k (numbers left-runs)) q (e ∙ ap (λ n. at + n) (sym long))
+            ap₂ (λ l k. sets l k (numbers left-runs)) (r .runs-left) (r .place ∙ ap (λ n. at + n) (sym long))
             ∙ sym (sets-append (numbers (row-runs row (part m))) (numbers left-runs) runs at)
             ∙ ap (sets runs at) (sym (ap numbers (runs-next w (z .height) row h m) ∙ numbers-append (row-runs row (part m)) left-runs)) ∙ b .lists;
       }

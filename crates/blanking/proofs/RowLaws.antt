@@ -11,13 +11,15 @@ use lib.ListN.{length, getD, take, drop, set, length-set, length-drop, drop-of-l
 use lib.Seq.{sets, length-sets, drop-cons, take-suc, set-at, getD-take, getD-drop, take-all, length-take-le, append-snoc, ext-getD}
 use borrow.Author.Tests.{le-ltb}
 use Rattle.rules.specs.Frame.{tabulate}
+use Rattle.maps.specs.Greatest.{greatest}
+use Rattle.maps.proofs.GreatestLaws.{left-more}
 use Rattle.blanking.specs.declared.Tally.{Tally}
 use Rattle.blanking.specs.Blanking.{Fill, marked, bit, count, unstated, blank-row, run, stretch, runs-from, row-runs, numbers}
-use Rattle.blanking.specs.Lent.{tally, greatest, meant, left-of, turns, by-turns}
+use Rattle.blanking.specs.Lent.{tally, meant, left-of, turns, by-turns, RowBlanked}
 use Rattle.blanking.specs.declared.Filling.{Filling}
 use Rattle.blanking.specs.declared.Filling.the-variants.{Stated, Unstated}
 use Rattle.blanking.specs.declared.Turns.{Turns}
-use Rattle.blanking.proofs.ByteLaws.{bit-most, bit-set, start-is, left-more, none-marked, count-none}
+use Rattle.blanking.proofs.ByteLaws.{bit-most, bit-set, start-is, none-marked, count-none}
 use Rattle.blanking.proofs.RunLaws.{runs-step, runs-none, left-at, left-passed, left-run, stretch-most, stretch-marked}
 
 -- ── Counting ──
@@ -89,7 +91,7 @@ module _ (fill : Fill) (row map : List ℕ) where
   blank-row-get c h = tabulate-get (length row) 0 _ c 0 h ∙ rw (zero-add c)
 
   -- Where nothing is marked all stays.
-  pub blank-row-none : greatest map ≡ 0 → blank-row fill row map ≡ row
+  blank-row-none : greatest map ≡ 0 → blank-row fill row map ≡ row
   blank-row-none e =
       ext-getD 0 (blank-row fill row map) row blank-row-length (λ c h. blank-row-get c (rw blank-row-length at h) ∙ rw (none-marked map e c))
 
@@ -236,9 +238,6 @@ module _ (fill : Filling) (row₀ map : List ℕ) where
   pub filled-unmarked : {row : List ℕ} {i : ℕ} → Filled want row₀ row i → i < length row₀ → marked (getD map i 0) ≡ false → Filled want row₀ row (i + 1)
   filled-unmarked {row} {i} f h e = filled-passed long f h (blank-row-get (meant fill) row₀ map i h ∙ rw e)
 
-  pub filled-done : {row : List ℕ} {i : ℕ} → Filled want row₀ row i → length row₀ ≤ i → row ≡ want
-  filled-done f h = filled-all long f h
-
 -- ── Listing ──
 
 -- What is listed from a place on, with the runs that are left at a column.
@@ -278,14 +277,24 @@ module _ {row : ℕ} {m : List ℕ} {from : ℕ} {runs₀ runs : List ℕ} {at c
           lists = rw (q, three) (rw next at (g .lists));
         }
 
-pub listed-all : {row : ℕ} {m : List ℕ} {from : ℕ} {runs₀ runs : List ℕ} {at col : ℕ} → length m ≤ col → Listed row m from runs₀ runs at col
-    → (at ≡ from + 3 * length (row-runs row m)) × (runs ≡ sets runs₀ from (numbers (row-runs row m)))
-unfolding runs-from numbers
-listed-all {row} {m} {from} {runs₀} {runs} {at} {col} h g =
-    let none = drop-of-length-le m {i = col} h in (omega (arith, rw none at (g .place)), rw none at (g .lists))
+-- ── A row's call ──
 
--- A row with nothing marked.
-pub nothing-listed : (row : ℕ) (m : List ℕ) (from : ℕ) (runs : List ℕ) → greatest m ≡ 0
-    → (from ≡ from + 3 * length (row-runs row m)) × (runs ≡ sets runs from (numbers (row-runs row m)))
-unfolding numbers
-nothing-listed row m from runs e = let none : row-runs row m ≡ [] = runs-none row _ 0 m e in (omega (arith, ap length none), rw none)
+module _ (fill : Filling) {row : ℕ} {m : List ℕ} {from : ℕ} {samples₀ runs₀ : List ℕ} where
+  -- Where nothing is left at a column all is set and listed.
+  pub row-blanked : {samples runs : List ℕ} {at col : ℕ} → Listed row m from runs₀ runs at col → Filled (blank-row (meant fill) samples₀ m) samples₀ samples col
+      → length samples₀ ≡ length m → length m ≤ col → RowBlanked (meant fill) row samples₀ m from runs₀ at samples runs
+  unfolding runs-from numbers
+  row-blanked {samples} {runs} {at} {col} g f e h =
+      let none = drop-of-length-le m {i = col} h in
+      record {
+        place = omega (arith, rw none at (g .place));
+        samples-left = filled-all (blank-row-length (meant fill) samples₀ m) f (omega arith);
+        runs-left = rw none at (g .lists);
+      }
+
+  -- A row with nothing marked stays.
+  pub row-unmarked : greatest m ≡ 0 → RowBlanked (meant fill) row samples₀ m from runs₀ from samples₀ runs₀
+  unfolding numbers
+  row-unmarked e =
+      let none : row-runs row m ≡ [] = runs-none row _ 0 m e in
+      record { place = omega (arith, ap length none); samples-left = sym (blank-row-none (meant fill) samples₀ m e); runs-left = rw none }

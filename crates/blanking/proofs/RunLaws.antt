@@ -5,13 +5,14 @@ use mathlib.Core.List.{List, [], _∷_, _++_}
 use Prim.Native.Nat.{ℕ, zero, suc, _+_, _*_, _≤_, _<_}
 use native.Mathlib.Omega.{arith}
 use native.Mathlib.Numerals.{add-one}
-use native.Mathlib.Nat.{add-zero, add-suc, suc-add}
+use native.Mathlib.Nat.{add-zero}
 use lib.ListN.{length, getD, take, drop, drop-of-length-le, length-append, length-take, length-drop}
 use lib.Seq.{sets, drop-drop}
 use Rattle.blanking.specs.Blanking.{marked, bit, Run, run, stretch, runs-from, row-runs, rows-runs, numbers}
-use Rattle.blanking.specs.Lent.{greatest}
-use Rattle.blanking.proofs.ByteLaws.{zero-unmarked, bit-most, left-more}
+use Rattle.blanking.proofs.ByteLaws.{zero-unmarked, bit-most}
 use Rattle.rules.proofs.Tests.{by-test}
+use Rattle.maps.specs.Greatest.{greatest}
+use Rattle.maps.proofs.GreatestLaws.{left-more}
 
 -- ── How many ──
 

@@ -1,22 +1,18 @@
--- What the functions ask of what they are lent, and what the loops over bytes find.
-use Prim.Native.Nat.{ℕ, zero, suc, _+_, _-_, _*_, _≤_, max}
+-- What the functions ask of what they are lent, what the loops over bytes find, and what a row's call leaves.
+use Prim.Native.Nat.{ℕ, zero, suc, _+_, _-_, _*_, _≤_}
 use mathlib.Core.Bool.{cond}
 use mathlib.Core.Path.{_≡_}
 use mathlib.Core.List.{List, [], _∷_}
 use lib.Dec.{ltb}
 use lib.ListN.{length, getD}
+use lib.Seq.{sets}
 use Rattle.rules.specs.declared.answer.Size.{Size}
 use Rattle.rules.specs.Frame.{cells}
 use Rattle.blanking.specs.declared.Tally.{Tally}
 use Rattle.blanking.specs.declared.Turns.{Turns}
 use Rattle.blanking.specs.declared.Filling.{Filling}
 use Rattle.blanking.specs.declared.Filling.the-variants.{Stated, Unstated}
-use Rattle.blanking.specs.Blanking.{Fill, stated, unstated, Run, count, row-runs, runs-of}
-
--- The greatest byte, or 0.
-unfoldable pub greatest : List ℕ → ℕ
-greatest [] = 0
-greatest (b ∷ m) = max b (greatest m)
+use Rattle.blanking.specs.Blanking.{Fill, stated, unstated, blank-row, Run, count, row-runs, runs-of, numbers}
 
 -- How many samples are marked, and how many runs there are.
 abbrev pub tally : List ℕ → List Run → Tally
@@ -47,11 +43,18 @@ pub record MapLent (z : Size) (map : List ℕ) : Type 0 where
   pub high : z .height ≤ 16_384
   pub read : length map ≡ cells z
 
--- A row's map bytes, its number, and room in the list of runs from a place on.
-pub record RowLent (row : ℕ) (map : List ℕ) (at : ℕ) (runs : List ℕ) : Type 0 where
+-- A row's number, its samples and map bytes, and room in the list of runs from a place on.
+pub record RowLent (row : ℕ) (samples map : List ℕ) (from : ℕ) (runs : List ℕ) : Type 0 where
   pub few : row ≤ 16_384
   pub wide : length map ≤ 16_384
-  pub room : at + 3 * length (row-runs row map) ≤ length runs
+  pub written : length samples ≡ length map
+  pub room : from + 3 * length (row-runs row map) ≤ length runs
+
+-- A row blanked and its runs listed: where the next row's go, the samples, and the list.
+pub record RowBlanked (fill : Fill) (row : ℕ) (samples map : List ℕ) (from : ℕ) (runs : List ℕ) (next : ℕ) (samples′ runs′ : List ℕ) : Type 0 where
+  pub place : next ≡ from + 3 * length (row-runs row map)
+  pub samples-left : samples′ ≡ blank-row fill samples map
+  pub runs-left : runs′ ≡ sets runs from (numbers (row-runs row map))
 
 -- A frame and its map, and a list with room for its runs.
 pub record FrameLent (z : Size) (samples map runs : List ℕ) : Type 0 where

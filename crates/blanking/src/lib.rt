@@ -2,13 +2,14 @@
 // rule.
 ghost use mathlib.Core.Path.{_≡_};
 ghost use mathlib.Core.List.{[], _∷_};
-ghost use Prim.Native.Nat.{_+_, _*_, _≤_, _<_, max};
+ghost use Prim.Native.Nat.{_+_, _*_, _≤_, _<_};
 ghost use lib.Dec.{ltb};
 ghost use lib.ListN.{length, drop};
 ghost use lib.Seq.{sets};
-ghost use Rattle.blanking.specs.Blanking.{marked, bad-map, bit, blank-row, blanked, stretch, run, row-runs, runs-of, numbers};
+ghost use Rattle.blanking.specs.Blanking.{marked, bad-map, bit, blanked, stretch, row-runs, runs-of, numbers};
 ghost use Rattle.blanking.specs.Calls.{refused, blanked-done};
-ghost use Rattle.blanking.specs.Lent.{greatest, tally, meant, left-of, turns, by-turns, MapLent, RowLent, FrameLent};
+ghost use Rattle.blanking.specs.Lent.{tally, meant, left-of, turns, by-turns, MapLent, RowLent, RowBlanked, FrameLent};
+use maps::greatest_of;
 use rules::Answer;
 use rules::Size;
 
@@ -52,26 +53,6 @@ impl Blanked {
 pub struct Tally {
     pub marked: usize,
     pub runs: usize,
-}
-
-// The greater of two bytes.
-fn greater(a: u8, b: u8) -> u8
-    ensures { λ r. ⌜ r ≡ max a b ⌝ }
-{
-    if a < b { b } else { a }
-}
-
-// The greatest byte, or 0. A loop that never leaves early can take many bytes at once.
-fn greatest_of(map: &[u8]) -> u8
-    ensures { λ r. ⌜ r ≡ greatest (now (map .entry)) ⌝ }
-{
-    let mut most: u8 = 0;
-    let mut i: usize = 0;
-    while i < map.len() {
-        most = greater(most, map[i]);
-        i += 1;
-    }
-    most
 }
 
 // 14: a byte is one that no map has.
@@ -237,10 +218,10 @@ fn blank_marked(
     runs: &mut [u32],
     from: usize,
 ) -> usize
-    requires { ⌜ RowLent row (now map) from (now runs) × (length (now samples) ≡ length (now map)) ⌝ }
-    ensures { λ r. ⌜ r ≡ from + 3 * length (row-runs row (now (map .entry))) ⌝ }
-    ensures { λ _. ⌜ now (samples .exit) ≡ blank-row (meant fill) (now (samples .entry)) (now (map .entry)) ⌝ }
-    ensures { λ _. ⌜ now (runs .exit) ≡ sets (now (runs .entry)) from (numbers (row-runs row (now (map .entry)))) ⌝ }
+    requires { ⌜ RowLent row (now samples) (now map) from (now runs) ⌝ }
+    ensures { λ r. ⌜
+        RowBlanked (meant fill) row (now (samples .entry)) (now (map .entry)) from (now (runs .entry)) r (now (samples .exit)) (now (runs .exit))
+        ⌝ }
 {
     let mut at = from;
     let mut col: usize = 0;
@@ -268,10 +249,10 @@ fn blank_row(
     runs: &mut [u32],
     from: usize,
 ) -> usize
-    requires { ⌜ RowLent row (now map) from (now runs) × (length (now samples) ≡ length (now map)) ⌝ }
-    ensures { λ r. ⌜ r ≡ from + 3 * length (row-runs row (now (map .entry))) ⌝ }
-    ensures { λ _. ⌜ now (samples .exit) ≡ blank-row (meant fill) (now (samples .entry)) (now (map .entry)) ⌝ }
-    ensures { λ _. ⌜ now (runs .exit) ≡ sets (now (runs .entry)) from (numbers (row-runs row (now (map .entry)))) ⌝ }
+    requires { ⌜ RowLent row (now samples) (now map) from (now runs) ⌝ }
+    ensures { λ r. ⌜
+        RowBlanked (meant fill) row (now (samples .entry)) (now (map .entry)) from (now (runs .entry)) r (now (samples .exit)) (now (runs .exit))
+        ⌝ }
 {
     if greatest_of(map) == 0 {
         return from;

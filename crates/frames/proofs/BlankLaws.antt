@@ -1,23 +1,23 @@
 -- What the entries that blank owe: each refusal is the definition's, and else what was set and listed is.
-use mathlib.Core.Path.{_≡_, sym, ap, ap₂, _∙_}
+use mathlib.Core.Path.{_≡_, sym, ap, _∙_}
 use mathlib.Core.Bool.{Bool, true, false, _||_, cond}
 use mathlib.Core.List.{List, _++_}
 use Prim.Native.Nat.{ℕ, _+_, _*_, _≤_}
 use native.Mathlib.Omega.{arith}
 use lib.Dec.{ltb, eqb}
-use lib.ListN.{length, take, drop}
+use lib.ListN.{length, drop}
 use lib.Seq.{sets, sets-eq, length-take-le}
-use borrow.Author.Tests.{ne-eqb, ltb-false}
+use borrow.Author.Tests.{ne-eqb, ltb-false, le-ltb}
 use Rattle.rules.specs.declared.answer.Size.{Size}
 use Rattle.rules.specs.Frame.{cells}
 use Rattle.rules.specs.Answer.{too-large, first-of, scratch-bytes}
 use Rattle.refusals.specs.Lending.{short}
 use Rattle.refusals.specs.declared.Lending.the-variants.{Nothing, Length}
-use Rattle.refusals.proofs.RefusalLaws.{room, cells-most, long-enough}
+use Rattle.refusals.proofs.RefusalLaws.{Room, room, long-enough}
 use Rattle.blanking.specs.declared.Blanked.{Blanked}
 use Rattle.blanking.specs.declared.Tally.{Tally}
-use Rattle.blanking.specs.Blanking.{Fill, count, bad-map, blanked, numbers}
-use Rattle.blanking.specs.Calls.{Call, call, frame-of, marks-of, found, short-runs, refusal, refused, blanked-done, blank-answer, unless-refused, samples-after, runs-after, Yields}
+use Rattle.blanking.specs.Blanking.{bad-map, blanked, numbers}
+use Rattle.blanking.specs.Calls.{Call, frame-of, marks-of, found, short-runs, refusal, refused, blanked-done, blank-answer, unless-refused, samples-after, runs-after, Yields}
 use Rattle.blanking.specs.Lent.{tally, MapLent, FrameLent}
 use Rattle.blanking.proofs.RunLaws.{numbers-length, rows-most}
 use Rattle.rules.proofs.Tests.{by-test}
@@ -27,92 +27,96 @@ abbrev pub early : Size → ℕ → ℕ → ℕ
 early z samples map =
     first-of (too-large z) false (ltb samples (cells z) || short Nothing (z .height)) (short (Length map) (cells z) || short Nothing (scratch-bytes z))
 
-module _ (fill : Fill) (samples map : List ℕ) (w h : ℕ) (runs : List ℕ) where
-  abbrev c : Call
-  c = call fill samples map w h runs
+-- What is known once tests are passed: 1, 3 and 4 ..
+pub record Lent (c : Call) : Type 0 where
+  pub room : Room (c .size) (length (c .samples)) Nothing (Length (length (c .map))) Nothing
+  pub left : refusal c ≡ cond (bad-map (marks-of c)) 14 (cond (short-runs c) 13 0)
 
-  refused-yields : (k : ℕ) (r : Blanked) → refusal c ≡ k → (k ≡ 0 → ⊥) → r ≡ refused k → Yields c r samples runs
+-- .. then 14 ..
+pub record Good (c : Call) : Type 0 where
+  pub lent : Lent c
+  pub good : bad-map (marks-of c) ≡ false
+
+-- .. and 13.
+pub record Fits (c : Call) : Type 0 where
+  pub good : Good c
+  pub list-room : 3 * length (found c) ≤ length (c .runs)
+  pub none-holds : refusal c ≡ 0
+
+module _ {c : Call} where
+  refused-yields : (k : ℕ) {r : Blanked} → refusal c ≡ k → (k ≡ 0 → ⊥) → r ≡ refused k → Yields c r (c .samples) (c .runs)
   unfolding blank-answer samples-after runs-after unless-refused
-  refused-yields k r e n q =
+  refused-yields k e n q =
       let t : eqb (refusal c) 0 ≡ false = ap (λ m. eqb m 0) e ∙ ne-eqb k 0 n in
       record { answered = q ∙ sym (rw t (ap refused e)); samples-left = sym (rw t); runs-left = sym (rw t) }
 
-  module _ (k : ℕ) (e : k ≡ early (c .size) (length samples) (length map)) where
+  module _ {k : ℕ} (e : k ≡ early (c .size) (length (c .samples)) (length (c .map))) where
     -- 1, 3 and 4.
-    pub early-yields : (r : Blanked) → (k ≡ 0 → ⊥) → r ≡ refused k → Yields c r samples runs
+    pub early-yields : {r : Blanked} → (k ≡ 0 → ⊥) → r ≡ refused k → Yields c r (c .samples) (c .runs)
     unfolding refusal first-of short
-    early-yields r n q = refused-yields k r (by-test (too-large (c .size))
+    early-yields n q = refused-yields k (by-test (too-large (c .size))
         (λ f. rw f (sym (rw f at e)))
-        (λ f. rw f (by-test (ltb (length samples) (cells (c .size)))
+        (λ f. rw f (by-test (ltb (length (c .samples)) (cells (c .size)))
         (λ g. rw g (sym (rw (f, g) at e)))
-        (λ g. rw g (by-test (ltb (length map) (cells (c .size)))
+        (λ g. rw g (by-test (ltb (length (c .map)) (cells (c .size)))
         (λ e₁. rw e₁ (sym (rw (f, g, e₁) at e)))
         (λ e₁. rw e₁ (absurd (n (rw (f, g, e₁) at e))))))))) n q
 
-    -- After them.
-    module _ (z : k ≡ 0) where
-      late : refusal c ≡ cond (bad-map (marks-of c)) 14 (cond (short-runs c) 13 0)
-      unfolding refusal first-of short
-      late =
-          by-test (too-large (c .size))
-          (λ f. rw f (absurd (let q : 0 ≡ 1 = (rw f at (sym z ∙ e)) in omega arith)))
-          (λ f. rw f (by-test (ltb (length samples) (cells (c .size)))
-          (λ g. rw g (absurd (let q : 0 ≡ 3 = (rw (f, g) at (sym z ∙ e)) in omega arith)))
-          (λ g. rw g (by-test (ltb (length map) (cells (c .size)))
-          (λ e₁. rw e₁ (absurd (let q : 0 ≡ 4 = (rw (f, g, e₁) at (sym z ∙ e)) in omega arith)))
-          (λ e₁. rw e₁)))))
+    pub lent : k ≡ 0 → Lent c
+    unfolding refusal too-large
+    lent passed =
+        let r = room (c .size) false (length (c .samples)) Nothing (Length (length (c .map))) Nothing k e passed in
+        record { room = r; left = rw (le-ltb _ _ (r .wide), le-ltb _ _ (r .high), le-ltb _ _ (r .samples-enough), le-ltb _ _ (long-enough _ _ (r .map-enough))) }
 
-      -- The frame and its map are there.
-      pub samples-there : w * h ≤ length samples
-      samples-there = room (c .size) false (length samples) Nothing (Length (length map)) Nothing k e z .samples-enough
+  module _ (l : Lent c) where
+    pub map-there : cells (c .size) ≤ length (c .map)
+    map-there = long-enough _ _ (l .room .map-enough)
 
-      pub map-there : w * h ≤ length map
-      map-there = long-enough (length map) (w * h) (room (c .size) false (length samples) Nothing (Length (length map)) Nothing k e z .map-enough)
+    pub map-lent : MapLent (c .size) (marks-of c)
+    map-lent = record { wide = l .room .wide; high = l .room .high; read = length-take-le _ (c .map) map-there }
 
-      pub map-lent : MapLent (c .size) (marks-of c)
-      map-lent =
-          let p = room (c .size) false (length samples) Nothing (Length (length map)) Nothing k e z in
-          record { wide = p .wide; high = p .high; read = length-take-le (w * h) map map-there }
+    -- There are no more runs than samples.
+    pub runs-few : {t : Tally} → t ≡ tally (marks-of c) (found c) → t .runs ≤ 268_435_456
+    runs-few told = omega (arith, ap (λ x. x .runs) told, rows-most (c .size .width) (c .size .height) 0 (marks-of c), map-lent .read, l .room .few)
 
-      pub cells-few : w * h ≤ 268_435_456
-      cells-few = cells-most w h (map-lent .wide) (map-lent .high)
+    module _ {bad : Bool} (tested : bad ≡ bad-map (marks-of c)) where
+      -- 14.
+      pub bad-yields : {r : Blanked} → bad ≡ true → r ≡ refused 14 → Yields c r (c .samples) (c .runs)
+      bad-yields t q = refused-yields 14 (l .left ∙ rw (← tested, t)) (λ p. let x : 14 ≡ 0 = p in omega arith) q
 
-      module _ (bad : Bool) (tested : bad ≡ bad-map (marks-of c)) where
-        -- 14.
-        pub bad-yields : (r : Blanked) → bad ≡ true → r ≡ refused 14 → Yields c r samples runs
-        bad-yields r t q = refused-yields 14 r (late ∙ rw (← tested, t)) (λ p. let x : 14 ≡ 0 = p in omega arith) q
+      pub good : bad ≡ false → Good c
+      good f = record { lent = l; good = sym tested ∙ f }
 
-        module _ (good : bad ≡ false) (t : Tally) (told : t ≡ tally (marks-of c) (found c)) where
-          -- There are no more runs than samples.
-          pub runs-few : t .runs ≤ 268_435_456
-          runs-few = omega (arith, ap (λ x. x .runs) told, rows-most w h 0 (marks-of c), map-lent .read, cells-few)
+  module _ (g : Good c) {t : Tally} (told : t ≡ tally (marks-of c) (found c)) {s : Bool} (test : s ≡ ltb (length (c .runs)) (3 * t .runs)) where
+    last : refusal c ≡ cond s 13 0
+    unfolding short-runs
+    last = g .lent .left ∙ rw (g .good) (ap (λ x. cond x 13 0) (ap (λ x. ltb (length (c .runs)) (3 * x .runs)) (sym told) ∙ sym test))
 
-          module _ (s : Bool) (test : s ≡ ltb (length runs) (3 * t .runs)) where
-            last : refusal c ≡ cond s 13 0
-            unfolding short-runs
-            last = late ∙ rw (← tested, good) (ap (λ x. cond x 13 0) (ap (λ x. ltb (length runs) (3 * x .runs)) (sym told) ∙ sym test))
+    -- 13.
+    pub short-yields : {r : Blanked} → s ≡ true → r ≡ refused 13 → Yields c r (c .samples) (c .runs)
+    short-yields q a = refused-yields 13 (last ∙ rw q) (λ p. let x : 13 ≡ 0 = p in omega arith) a
 
-            -- 13.
-            pub short-yields : (r : Blanked) → s ≡ true → r ≡ refused 13 → Yields c r samples runs
-            short-yields r q a = refused-yields 13 r (last ∙ rw q) (λ p. let x : 13 ≡ 0 = p in omega arith) a
+    pub fits : s ≡ false → Fits c
+    fits enough =
+        record {
+          good = g;
+          list-room = omega (arith, ltb-false (length (c .runs)) (3 * t .runs) (sym test ∙ enough), ap (λ x. x .runs) told);
+          none-holds = last ∙ rw enough;
+        }
 
-            -- Done.
-            module _ (enough : s ≡ false) where
-              list-room : 3 * length (found c) ≤ length runs
-              list-room = omega (arith, ltb-false (length runs) (3 * t .runs) (sym test ∙ enough), ap (λ x. x .runs) told)
+  -- Done.
+  module _ (p : Fits c) where
+    pub frame-lent : FrameLent (c .size) (frame-of c) (marks-of c) (c .runs)
+    frame-lent = record { map-lent = map-lent (p .good .lent); written = length-take-le _ (c .samples) (p .good .lent .room .samples-enough); room = p .list-room }
 
-              pub frame-lent : FrameLent (c .size) (frame-of c) (marks-of c) runs
-              frame-lent = record { map-lent = map-lent; written = length-take-le (w * h) samples samples-there; room = list-room }
-
-              pub done-yields : (r : Blanked) (f l : List ℕ) → r ≡ blanked-done (t .marked) (t .runs) → f ≡ blanked fill (c .size) (frame-of c) (marks-of c)
-                  → l ≡ sets runs 0 (numbers (found c)) → Yields c r (f ++ drop (w * h) samples) l
-              unfolding blank-answer samples-after runs-after unless-refused
-              done-yields r f l a is lists =
-                  let ok : refusal c ≡ 0 = last ∙ rw enough in
-                  let long = numbers-length (found c) in
-                  let end : 0 + length (numbers (found c)) ≡ 3 * length (found c) = omega (arith, long) in
-                  record {
-                    answered = rw ok (a ∙ ap (λ x. blanked-done (x .marked) (x .runs)) told);
-                    samples-left = rw ok (ap (λ x. x ++ drop (w * h) samples) is);
-                    runs-left = rw ok (lists ∙ sets-eq (numbers (found c)) runs 0 (omega (arith, long, list-room)) ∙ ap (λ n. numbers (found c) ++ drop n runs) end);
-                  }
+    pub done-yields : {t : Tally} {r : Blanked} {f l : List ℕ} → t ≡ tally (marks-of c) (found c) → r ≡ blanked-done (t .marked) (t .runs)
+        → f ≡ blanked (c .fill) (c .size) (frame-of c) (marks-of c) → l ≡ sets (c .runs) 0 (numbers (found c)) → Yields c r (f ++ drop (cells (c .size)) (c .samples)) l
+    unfolding blank-answer samples-after runs-after unless-refused
+    done-yields told a is lists =
+        let long = numbers-length (found c) in
+        let end : 0 + length (numbers (found c)) ≡ 3 * length (found c) = omega (arith, long) in
+        record {
+          answered = rw (p .none-holds) (a ∙ ap (λ x. blanked-done (x .marked) (x .runs)) told);
+          samples-left = rw (p .none-holds) (ap (λ x. x ++ drop (cells (c .size)) (c .samples)) is);
+          runs-left = rw (p .none-holds) (lists ∙ sets-eq (numbers (found c)) (c .runs) 0 (omega (arith, long, p .list-room)) ∙ ap (λ n. numbers (found c) ++ drop n (c .runs)) end);
+        }

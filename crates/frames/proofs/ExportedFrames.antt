@@ -1,6 +1,6 @@
 -- Nothing of an earlier frame is left in what is exported: two calls of the export that follow alike decoders' calls, and are done,
 -- answer the same, leave the same samples and runs, and write the same stream and the same offsets.
-use Prim.Native.Nat.{ℕ, _*_}
+use Prim.Native.Nat.{ℕ}
 use mathlib.Core.Path.{_≡_, refl, sym, ap, ap₂, _∙_, subst}
 use mathlib.Core.List.{List, _++_}
 use lib.Dec.{eqb}

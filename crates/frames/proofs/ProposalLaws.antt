@@ -1,5 +1,5 @@
 -- What the check of a proposal owes: each number is the definition's, and else the frame is decoded and compared.
-use Prim.Native.Nat.{ℕ, suc, _+_, _*_, _<_, _≤_}
+use Prim.Native.Nat.{ℕ, suc, _+_, _<_, _≤_}
 use mathlib.Core.Bool.{Bool, true, false, _||_, _&&_, cond}
 use mathlib.Core.Path.{_≡_, sym, ap, _∙_}
 use mathlib.Core.List.{List}
@@ -10,10 +10,9 @@ use lib.ListN.{length, getD, take, drop, drop-of-length-le}
 use lib.Seq.{drop-cons, length-take-le, length-front}
 use borrow.Author.Tests.{ne-eqb, eq-eqb, lt-ltb, le-ltb}
 use Rattle.rules.specs.declared.answer.Answer.{Answer}
-use Rattle.rules.specs.declared.answer.Size.{Size}
 use Rattle.rules.specs.Frame.{cells}
 use Rattle.rules.specs.Answer as Rules
-use Rattle.rules.specs.Answer.{done, refused, too-large, short-samples, short-offsets, scratch-bytes, first-of, ask, direct, buffers}
+use Rattle.rules.specs.Answer.{done, refused, too-large, short-samples, short-offsets, scratch-bytes, first-of, buffers}
 use Rattle.rules.proofs.V0Cells.{decoded-length}
 use Rattle.refusals.specs.Lending.{short}
 use Rattle.refusals.specs.declared.Lending.the-variants.{Nothing, Length}
@@ -24,9 +23,9 @@ use Rattle.writers.specs.Calls.{too-bright}
 use Rattle.writers.specs.Writer.{stream-for}
 use Rattle.frame_writer.specs.declared.format.Format.the-variants.{V0}
 use Rattle.frame_writer.specs.Frames.{Writable}
-use Rattle.packed.specs.Proposal.{Proposal, proposal, frame-of, before, scratch-after, same, answer, Yields}
+use Rattle.packed.specs.Proposal.{Proposal, frame-of, before, scratch-after, same, answer, Yields}
 use Rattle.packed.specs.Proposal as Proposals
-use Rattle.packed.proofs.Exactly.{Begun, begun, frame, scratch-is}
+use Rattle.packed.proofs.Exactly.{Begun, begun, before-done, frame, scratch-is}
 use Rattle.frames.proofs.WriterLaws as Writer
 use Rattle.rules.proofs.Tests.{by-test}
 
@@ -47,131 +46,146 @@ same-gone f g i t e l = rw (drop-of-length-le f {i = i} l, drop-of-length-le g {
 
 -- ── Before decoding ──
 
-module _ (s offsets : List ℕ) (w h : ℕ) (meant : List ℕ) (n : ℕ) where
-  abbrev z : Size
-  z = record { width = w; height = h }
+-- What is tested after 1, and 3 of the samples meant: 9, and 3 of the scratch and of the offsets.
+abbrev pub later : Proposal → ℕ → ℕ
+later p n = cond (too-bright (frame-of p)) 9 (cond (short-samples (Proposals.asked p) (Rules.lent n none 0)) 3 0)
 
-  abbrev p : Proposal
-  p = proposal s offsets w h meant
+-- What is known once tests are passed: 1, and 3 of the samples meant ..
+pub record MeantLent (p : Proposal) (n : ℕ) : Type 0 where
+  pub room : Room (p .size) (length (p .meant)) Nothing Nothing Nothing
+  pub left : Proposals.early p n ≡ later p n
 
-  refused-before : (k : ℕ) (r : Answer) → Proposals.early p n ≡ k → (k ≡ 0 → ⊥) → r ≡ refused k → r ≡ before p n
-  unfolding before
-  refused-before k r e ne q = q ∙ sym (rw (e, ne-eqb k 0 ne))
+-- .. then 9 ..
+pub record Dim (p : Proposal) (n : ℕ) : Type 0 where
+  pub meant : MeantLent p n
+  pub dim : too-bright (frame-of p) ≡ false
 
-  module _ (k : ℕ) (e : k ≡ Writer.early z (length meant)) where
-    -- 1, and 3 of the samples meant.
-    pub early-before : (r : Answer) → (k ≡ 0 → ⊥) → r ≡ refused k → r ≡ before p n
-    unfolding Proposals.early first-of short
-    early-before r ne q = refused-before k r (go (too-large z) (ltb (length meant) (cells z)) e) ne q
-      where
-        late : ℕ
-        late = cond (too-bright (frame-of p)) 9 (cond (short-samples (Proposals.asked p) (Rules.lent n none 0)) 3 0)
+-- .. then 3 of the scratch and of the offsets ..
+pub record AllLent (p : Proposal) (n : ℕ) : Type 0 where
+  pub dim : Dim p n
+  pub room : Room (p .size) n (Length (length (p .offsets))) Nothing Nothing
+  pub early-none : Proposals.early p n ≡ 0
 
-        go : (t1 t3 : Bool) → k ≡ first-of t1 false (t3 || false) (false || false) → cond t1 1 (cond t3 3 late) ≡ k
-        go true t3 q = sym q
-        go false true q = sym q
-        go false false q = absurd (ne q)
+-- .. and 17 to 19.
+pub record Clean (p : Proposal) (n : ℕ) : Type 0 where
+  pub lent : AllLent p n
+  pub clean : verdict (p .stream) (p .offsets) (p .size) .number ≡ 0
 
-    module _ (passed : k ≡ 0) (b : Bool) (bright : b ≡ too-bright (take (w * h) meant)) where
-      pub meant-lent : Room z (length meant) Nothing Nothing Nothing
-      meant-lent = room z false (length meant) Nothing Nothing Nothing k e passed
+refused-before : (p : Proposal) (n k : ℕ) {r : Answer} → Proposals.early p n ≡ k → (k ≡ 0 → ⊥) → r ≡ refused k → r ≡ before p n
+unfolding before
+refused-before p n k e ne q = q ∙ sym (rw (e, ne-eqb k 0 ne))
 
-      large-not : too-large z ≡ false
-      unfolding too-large
-      large-not = rw (le-ltb _ _ (meant-lent .wide), le-ltb _ _ (meant-lent .high))
+module _ (p : Proposal) (n : ℕ) {k : ℕ} (e : k ≡ Writer.early (p .size) (length (p .meant))) where
+  -- 1, and 3 of the samples meant.
+  pub early-before : {r : Answer} → (k ≡ 0 → ⊥) → r ≡ refused k → r ≡ before p n
+  unfolding Proposals.early first-of short
+  early-before ne q = refused-before p n k (go (too-large (p .size)) (ltb (length (p .meant)) (cells (p .size))) e) ne q
+    where
+      go : (t1 t3 : Bool) → k ≡ first-of t1 false (t3 || false) (false || false) → cond t1 1 (cond t3 3 (later p n)) ≡ k
+      go true t3 q = sym q
+      go false true q = sym q
+      go false false q = absurd (ne q)
 
-      -- What is left to be tested.
-      after-bright : Proposals.early p n ≡ cond b 9 (cond (short-samples (Proposals.asked p) (Rules.lent n none 0)) 3 0)
-      unfolding Proposals.early
-      after-bright = rw (large-not, le-ltb _ _ (meant-lent .samples-enough), bright)
+  pub meant-lent : k ≡ 0 → MeantLent p n
+  unfolding Proposals.early too-large
+  meant-lent passed =
+      let r = room (p .size) false (length (p .meant)) Nothing Nothing Nothing k e passed in
+      record { room = r; left = rw (le-ltb _ _ (r .wide), le-ltb _ _ (r .high), le-ltb _ _ (r .samples-enough)) }
 
-      -- 9.
-      pub bright-before : (r : Answer) → b ≡ true → r ≡ refused 9 → r ≡ before p n
-      bright-before r t q = refused-before 9 r (after-bright ∙ rw t) (λ x. let y : 9 ≡ 0 = x in omega arith) q
+module _ {p : Proposal} {n : ℕ} where
+  module _ (m : MeantLent p n) {b : Bool} (bright : b ≡ too-bright (frame-of p)) where
+    -- 9.
+    pub bright-before : {r : Answer} → b ≡ true → r ≡ refused 9 → r ≡ before p n
+    bright-before t q = refused-before p n 9 (m .left ∙ rw (← bright, t)) (λ x. let y : 9 ≡ 0 = x in omega arith) q
 
-      module _ (dim : b ≡ false) (j : ℕ)
-          (second : j ≡ first-of (too-large z) false (ltb n (cells z) || short (Length (length offsets)) h) (short Nothing (cells z) || short Nothing (scratch-bytes z))) where
-        second-is : j ≡ cond (short-samples (Proposals.asked p) (Rules.lent n none 0)) 3 0
-        unfolding first-of short short-samples short-offsets
-        second-is = second ∙ rw large-not
+    pub dim : b ≡ false → Dim p n
+    dim t = record { meant = m; dim = sym bright ∙ t }
 
-        -- 3 of the scratch and of the offsets.
-        pub short-before : (r : Answer) → (j ≡ 0 → ⊥) → r ≡ refused j → r ≡ before p n
-        short-before r ne q = refused-before j r (after-bright ∙ rw dim (sym second-is)) ne q
+  module _ (d : Dim p n) {j : ℕ} (second : j ≡ first-of (too-large (p .size)) false (ltb n (cells (p .size)) || short (Length (length (p .offsets))) (p .size .height))
+      (short Nothing (cells (p .size)) || short Nothing (scratch-bytes (p .size)))) where
+    early-is : Proposals.early p n ≡ j
+    unfolding first-of short short-samples short-offsets too-large
+    early-is =
+        let r = d .meant .room in
+        d .meant .left ∙ rw (d .dim) (sym (second ∙ rw (le-ltb _ _ (r .wide), le-ltb _ _ (r .high))))
 
-        module _ (lent : j ≡ 0) where
-          pub checkable : Lends z offsets
-          checkable =
-              let q = room z false n (Length (length offsets)) Nothing Nothing j second lent in
-              record { width = q .wide; height = q .high; offsets-enough = long-enough _ _ (q .offsets-enough) }
+    -- 3 of the scratch and of the offsets.
+    pub short-before : {r : Answer} → (j ≡ 0 → ⊥) → r ≡ refused j → r ≡ before p n
+    short-before ne q = refused-before p n j early-is ne q
 
-          pub writable : Writable V0 w h (take (w * h) meant)
-          writable = Writer.writable w h meant k b e passed bright dim
+    pub all-lent : j ≡ 0 → AllLent p n
+    all-lent passed = record { dim = d; room = room (p .size) false n (Length (length (p .offsets))) Nothing Nothing j second passed; early-none = early-is ∙ passed }
 
-          early-none : Proposals.early p n ≡ 0
-          early-none = after-bright ∙ rw dim (sym second-is ∙ lent)
+  module _ (l : AllLent p n) where
+    pub checkable : Lends (p .size) (p .offsets)
+    checkable = record { width = l .room .wide; height = l .room .high; offsets-enough = long-enough _ _ (l .room .offsets-enough) }
 
-          module _ (v : Answer) (told : v ≡ verdict s offsets z) where
-            -- 17 to 19.
-            pub fault-before : (v .number ≡ 0 → ⊥) → v ≡ before p n
-            unfolding before
-            fault-before ne = told ∙ sym (rw (early-none, ne-eqb (verdict s offsets z .number) 0 (λ x. ne (ap (λ a. a .number) told ∙ x))))
+    pub writable : Writable V0 (p .size .width) (p .size .height) (frame-of p)
+    writable = Writer.writable (p .size .width) (p .size .height) (p .meant) (l .dim .meant .room) (l .dim .dim)
 
-            module _ (clean : v .number ≡ 0) (m : ℕ) (is : m ≡ length (stream-for z (take (w * h) meant))) where
-              left : before p n ≡ cond (ltb m (length s)) (refused 21) done
-              unfolding before Proposals.longer
-              left = rw (early-none, eq-eqb (verdict s offsets z .number) 0 (sym (ap (λ a. a .number) told) ∙ clean), is)
+    module _ {v : Answer} (told : v ≡ verdict (p .stream) (p .offsets) (p .size)) where
+      -- 17 to 19.
+      pub fault-before : (v .number ≡ 0 → ⊥) → v ≡ before p n
+      unfolding before
+      fault-before ne = told ∙ sym (rw (l .early-none, ne-eqb (verdict (p .stream) (p .offsets) (p .size) .number) 0 (λ x. ne (ap (λ a. a .number) told ∙ x))))
 
-              -- 21.
-              pub long-before : (r : Answer) → m < length s → r ≡ refused 21 → r ≡ before p n
-              long-before r l q = q ∙ sym (left ∙ rw (lt-ltb m (length s) l))
+      pub clean : v .number ≡ 0 → Clean p n
+      clean e = record { lent = l; clean = sym (ap (λ a. a .number) told) ∙ e }
 
-              pub done-before : (r : Answer) → length s ≤ m → r ≡ done → r ≡ before p n
-              done-before r l q = q ∙ sym (left ∙ rw (le-ltb m (length s) l))
+  module _ (c : Clean p n) {m : ℕ} (is : m ≡ length (stream-for (p .size) (frame-of p))) where
+    left : before p n ≡ cond (ltb m (length (p .stream))) (refused 21) done
+    unfolding before Proposals.longer
+    left = rw (c .lent .early-none, eq-eqb _ 0 (c .clean), is)
+
+    -- 21.
+    pub long-before : {r : Answer} → m < length (p .stream) → r ≡ refused 21 → r ≡ before p n
+    long-before l q = q ∙ sym (left ∙ rw (lt-ltb m (length (p .stream)) l))
+
+    pub done-before : {r : Answer} → length (p .stream) ≤ m → r ≡ done → r ≡ before p n
+    done-before l q = q ∙ sym (left ∙ rw (le-ltb m (length (p .stream)) l))
 
 -- ── Decoding, and after it ──
 
-module _ (s offsets : List ℕ) (w h : ℕ) (meant scratch : List ℕ) (v : Answer) (told : v ≡ before (proposal s offsets w h meant) (length scratch)) where
-  abbrev p′ : Proposal
-  p′ = proposal s offsets w h meant
-
+module _ {p : Proposal} {scratch : List ℕ} {v : Answer} (told : v ≡ before p (length scratch)) where
   -- A refusal leaves the scratch as it was.
-  pub kept-yields : (v .number ≡ 0 → ⊥) → Yields p′ scratch v scratch
+  pub kept-yields : (v .number ≡ 0 → ⊥) → Yields p scratch v scratch
   unfolding answer scratch-after
   kept-yields ne =
-      let t : eqb (before p′ (length scratch) .number) 0 ≡ false = ne-eqb _ 0 (λ x. ne (ap (λ a. a .number) told ∙ x)) in
+      let t : eqb (before p (length scratch) .number) 0 ≡ false = ne-eqb _ 0 (λ x. ne (ap (λ a. a .number) told ∙ x)) in
       record { answered = told ∙ sym (rw t); scratch-left = sym (rw t) }
 
-  module _ (none-yet : v .number ≡ 0) where
-    starts : before p′ (length scratch) .number ≡ 0
-    starts = sym (ap (λ a. a .number) told) ∙ none-yet
+pub ready : {p : Proposal} {n : ℕ} {v : Answer} → v ≡ before p n → v .number ≡ 0 → Begun p n
+ready {p} {n} told e = begun p n (sym (ap (λ a. a .number) told) ∙ e)
 
-    pub ready : Begun p′ (length scratch)
-    ready = begun p′ (length scratch) starts
+-- The frame is decoded into the scratch.
+pub record Decoded (p : Proposal) (scratch left : List ℕ) : Type 0 where
+  pub begun : Begun p (length scratch)
+  pub left-is : left ≡ scratch-after p scratch
 
-    module _ (a : Answer) (left : List ℕ) (y : Rules.Yields (ask direct s offsets w h) (buffers scratch none none) a (buffers left none none)) where
-      left-is : left ≡ scratch-after p′ scratch
-      unfolding scratch-after
-      left-is = y .samples ∙ sym (rw (eq-eqb (before p′ (length scratch) .number) 0 starts))
+pub frame-decoded : {p : Proposal} {scratch left : List ℕ} {a : Answer} → Begun p (length scratch) → Rules.Yields (Proposals.asked p) (Proposals.found scratch) a (buffers left none none)
+    → Decoded p scratch left
+unfolding scratch-after
+frame-decoded {p} {scratch} b y = record { begun = b; left-is = y .samples ∙ sym (rw (before-done p (length scratch) b)) }
 
-      -- The frame lies in its buffer, and so does the one meant.
-      pub scratch-room : w * h ≤ length left
-      scratch-room =
-          let n = cells (p′ .size) in
-          let whole = length-front scratch (frame p′ scratch) n (decoded-length s offsets (p′ .size) (take n scratch)) in
-          omega (arith, ap length (left-is ∙ scratch-is p′ scratch ready), whole, ready .scratch-enough)
+module _ {p : Proposal} {scratch left : List ℕ} (d : Decoded p scratch left) where
+  -- The frame lies in its buffer, and so does the one meant.
+  pub scratch-room : cells (p .size) ≤ length left
+  scratch-room =
+      let n = cells (p .size) in
+      let whole = length-front scratch (frame p scratch) n (decoded-length (p .stream) (p .offsets) (p .size) (take n scratch)) in
+      omega (arith, ap length (d .left-is ∙ scratch-is p scratch (d .begun)), whole, d .begun .scratch-enough)
 
-      pub as-long : length (take (w * h) left) ≡ length (take (w * h) meant)
-      as-long = length-take-le (w * h) left scratch-room ∙ sym (length-take-le (w * h) meant (ready .meant-enough))
+  pub as-long : length (take (cells (p .size)) left) ≡ length (frame-of p)
+  as-long = length-take-le _ left scratch-room ∙ sym (length-take-le _ (p .meant) (d .begun .meant-enough))
 
-      module _ (t : Bool) (compared : t ≡ same (take (w * h) left) (take (w * h) meant)) where
-        answer-is : answer p′ scratch ≡ cond t done (refused 20)
-        unfolding answer
-        answer-is = rw (eq-eqb (before p′ (length scratch) .number) 0 starts, ← left-is, ← compared)
+  module _ {t : Bool} (compared : t ≡ same (take (cells (p .size)) left) (frame-of p)) where
+    answer-is : answer p scratch ≡ cond t done (refused 20)
+    unfolding answer
+    answer-is = rw (before-done p (length scratch) (d .begun), ← d .left-is, ← compared)
 
-        -- 20; else all is as it is meant.
-        pub other-yields : (r : Answer) → t ≡ false → r ≡ refused 20 → Yields p′ scratch r left
-        other-yields r f q = record { answered = q ∙ sym (answer-is ∙ rw f); scratch-left = left-is }
+    -- 20; else all is as it is meant.
+    pub other-yields : {r : Answer} → t ≡ false → r ≡ refused 20 → Yields p scratch r left
+    other-yields f q = record { answered = q ∙ sym (answer-is ∙ rw f); scratch-left = d .left-is }
 
-        pub taken-yields : (r : Answer) → t ≡ true → r ≡ done → Yields p′ scratch r left
-        taken-yields r f q = record { answered = q ∙ sym (answer-is ∙ rw f); scratch-left = left-is }
+    pub taken-yields : {r : Answer} → t ≡ true → r ≡ done → Yields p scratch r left
+    taken-yields f q = record { answered = q ∙ sym (answer-is ∙ rw f); scratch-left = d .left-is }

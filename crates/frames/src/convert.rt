@@ -1,10 +1,11 @@
 // V0 into V2: decoding with the map, then the V2 writer.
 ghost use mathlib.Core.Path.{_≡_};
-ghost use Prim.Native.Nat.{_*_, _≤_, _%_, max};
+ghost use Prim.Native.Nat.{_*_, _%_};
 ghost use lib.ListN.{length};
 ghost use Rattle.frames.specs.Convert.{any-marked, Frame, late-answer, late-stream, call, Yields};
 use frame_writer::measure::v2_length;
 use frame_writer::write::write_v2;
+use maps::greatest_of;
 use refusals::Lending;
 use refusals::is_too_small;
 use refusals::refuse;
@@ -14,24 +15,11 @@ use samsung::decode_v0_reference_map;
 use writers::Written;
 use writers::is_too_bright;
 
-// The larger of two map bytes.
-fn larger(a: u8, b: u8) -> u8
-    ensures { λ r. ⌜ r ≡ max a b ⌝ }
-{
-    if a < b { b } else { a }
-}
-
-// 16: a map byte is not 0. A loop that never leaves early can take many bytes at once.
+// 16: a map byte is not 0.
 fn is_marked(map: &[u8]) -> bool
     ensures { λ r. ⌜ r ≡ any-marked (now (map .entry)) ⌝ }
 {
-    let mut most: u8 = 0;
-    let mut i: usize = 0;
-    while i < map.len() {
-        most = larger(most, map[i]);
-        i += 1;
-    }
-    0 < most
+    0 < greatest_of(map)
 }
 
 // Writes a decoded frame as V2. Refusals 16, 9 and 10, which change nothing.

@@ -1,9 +1,11 @@
-// What a map's bytes become, of V0 and V2 alike: all old at entry, filler at a block's end, and the parts of two in an average.
+// What a map's bytes become, of V0 and V2 alike: all old at entry, filler at a block's end, and the parts of two in an average. And
+// the greatest of them, by which maps are tested.
 ghost use mathlib.Core.Path.{_≡_};
-ghost use Prim.Native.Nat.{_+_, _^_, _≤_, _<_};
+ghost use Prim.Native.Nat.{_+_, _^_, _≤_, _<_, max};
 ghost use lib.ListN.{length, replicate};
 ghost use Rattle.rules.specs.Frame.{change-cells};
 ghost use Rattle.rules.specs.Map.{with-filler, either-part};
+ghost use Rattle.maps.specs.Greatest.{greatest};
 
 // The bytes of a block.
 const BLOCK: usize = 16;
@@ -76,4 +78,24 @@ pub fn either_part(a: u8, b: u8) -> u8
     ensures { λ r. ⌜ r ≡ either-part a b ⌝ }
 {
     a | b
+}
+
+// The greater of two bytes.
+fn greater(a: u8, b: u8) -> u8
+    ensures { λ r. ⌜ r ≡ max a b ⌝ }
+{
+    if a < b { b } else { a }
+}
+
+// The greatest byte, or 0. A loop that never leaves early can take many bytes at once.
+pub fn greatest_of(map: &[u8]) -> u8
+    ensures { λ r. ⌜ r ≡ greatest (now (map .entry)) ⌝ }
+{
+    let mut most: u8 = 0;
+    let mut i: usize = 0;
+    while i < map.len() {
+        most = greater(most, map[i]);
+        i += 1;
+    }
+    most
 }

@@ -2,37 +2,28 @@
 -- proposals that are to be taken (`Accepted`), and of what `razvolk_write_v0` made, its stream and its table cut to what was written.
 -- What it took, a call of any exported V0 decoder that is lent enough decodes over any buffer, which ends with done, leaves the samples
 -- meant, and a map that is all 0; and a call for clean frames takes it.
-use denote.Ref.{now}
 use Rattle.samsung.proofs.Isolation.{Made}
 use Rattle.samsung.proofs.Isolation as Entries
-use Rattle.writers.specs.Calls.{call}
-use Rattle.packed.specs.Proposal.{proposal}
 use Rattle.profile.proofs.Lists as Clean-lists
 use Rattle.packed.proofs.Returned.{Checked, Wrote, Claim, claim}
+use Rattle.frames.proofs.Proposed as Checking
 use Rattle.razvolk.proofs.Isolation.{final, Cleaned, cleaned}
-use Rattle.razvolk.proofs.RoundTrip.{Writes, asked}
+use Rattle.razvolk.proofs.RoundTrip.{Writes}
 use Rattle.razvolk.proofs.proposal.razvolk_check_packed.Kinds as check-kinds
 use Rattle.razvolk.proofs.proposal.razvolk_check_packed.Reads as check-reads
 use Rattle.razvolk.proofs.proposal.razvolk_check_packed.Statement as check-stated
 use Rattle.razvolk.proofs.proposal.razvolk_check_packed.Met as check-thm
 
--- A call of the check, by its arguments, its result and what it left.
+-- A call of the check, and what it is as a call of its entry.
 abbrev pub Checks : Type 0
 Checks = Made check-kinds.ps check-kinds.r check-reads.Learnt
 
 unfoldable pub checks : Checks → Checked
-checks c =
-    record {
-      proposal = proposal (now (c .args .0)) (now (c .args .1 .0)) (c .args .1 .1 .0) (c .args .1 .1 .1 .0) (now (c .args .1 .1 .1 .1 .0));
-      scratch = now (c .args .1 .1 .1 .1 .1 .0);
-      answered = c .result;
-      left = now (c .exit .1 .1 .1 .1 .1 .0);
-      yields = c .learnt;
-    }
+checks c = Checking.checks (record { κs = c .κs; args = c .args; result = c .result; exit = c .exit; learnt = c .learnt })
 
 -- The writer's calls and those for clean frames.
 unfoldable pub writes : Writes → Wrote
-writes w = record { call = asked w; answered = w .result; stream = now (w .exit .1 .1 .1 .0); offsets = now (w .exit .1 .1 .1 .1 .0); yields = w .learnt }
+writes w = Checking.writes (record { κs = w .κs; args = w .args; result = w .result; exit = w .exit; learnt = w .learnt })
 
 abbrev pub clean-checked : Cleaned → Clean-lists.Checked
 clean-checked c = Entries.checked (cleaned c)

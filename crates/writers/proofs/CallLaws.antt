@@ -1,17 +1,18 @@
 -- What a call of the V0 writer leaves when it is done: buffers that are decoded to the samples that it was lent.
-use Prim.Native.Nat.{ℕ, suc, _+_, _-_, _^_, _<_, _≤_, max}
+use Prim.Native.Nat.{ℕ, _+_, _-_, _^_, _<_, _≤_}
 use mathlib.Core.Bool.{Bool, true, false, _||_, cond}
-use mathlib.Core.Path.{_≡_, refl, sym, ap, _∙_}
+use mathlib.Core.Path.{_≡_, refl, ap, _∙_}
 use mathlib.Core.List.{List, [], _∷_, _++_}
 use native.Mathlib.Omega.{arith}
-use lib.ListN.{length, getD, take, drop, length-append, length-take, length-drop, drop-of-length-le}
-use lib.Seq.{drop-cons}
+use lib.ListN.{length, take, drop, length-append, length-take, length-drop}
 use lib.Dec.{ltb, lit<}
-use borrow.Author.Tests.{ltb-true, ltb-false, lt-ltb, le-ltb}
+use borrow.Author.Tests.{ltb-false, le-ltb}
 use Rattle.rules.specs.Frame.{cells}
 use Rattle.rules.specs.Answer.{too-large}
 use Rattle.rules.proofs.Cells.{All, nil, more, all-map, all-append, all-drop, all-get}
-use Rattle.rules.proofs.Tests.{neither, by-test}
+use Rattle.rules.proofs.Tests.{neither}
+use Rattle.maps.specs.Greatest.{greatest}
+use Rattle.maps.proofs.GreatestLaws.{above-either}
 use Rattle.writers.specs.Calls.{Call, frame-of, stream-of, offsets-of, any-above, too-bright, short-output, write-refusal, unless-refused, stream-after, offsets-after}
 use Rattle.writers.proofs.Ahead.{Stream}
 use Rattle.writers.proofs.V0RoundTrip.{Holds, written-holds, stream-below}
@@ -26,25 +27,11 @@ none-above most (a ∷ f) e = let q = neither _ _ e in more (ltb-false most a (q
 pub not-bright : (f : List ℕ) → too-bright f ≡ false → All (λ a. a < 16_384) f
 not-bright f e = all-map (λ a. a ≤ 16_383) (λ a. a < 16_384) (λ a l. omega arith) (none-above 16_383 f e)
 
--- The greatest number before place i, and then those from there on: one step, and the end.
-pub above-on : (most : ℕ) (f : List ℕ) (i top next : ℕ) → i < length f → next ≡ max top (getD f i 0)
-    → (ltb most top || any-above most (drop i f)) ≡ (ltb most next || any-above most (drop (i + 1) f))
-unfolding any-above
-above-on most f i top next l e =
-    let one : i + 1 ≡ suc i = omega arith in
-    ap (λ l. ltb most top || any-above most l) (drop-cons f i 0 l ∙ ap (λ j. getD f i 0 ∷ drop j f) (sym one))
-    ∙ by-test (ltb most top)
-    (λ p. rw p (rw (lt-ltb most (max top (getD f i 0)) (omega (arith, ltb-true most top p)))))
-    (λ p. rw p (by-test (ltb most (getD f i 0))
-    (λ q. rw q (rw (lt-ltb most (max top (getD f i 0)) (omega (arith, ltb-true most (getD f i 0) q)))))
-    (λ q. rw q (rw (le-ltb most (max top (getD f i 0)) (omega (arith, ltb-false most top p, ltb-false most (getD f i 0) q))))))) ∙ ap (λ m. ltb most m || any-above most (drop (i + 1) f)) (sym e)
-  where
-    rest : Bool
-    rest = any-above most (drop (i + 1) f)
-
-pub above-gone : (most : ℕ) (f : List ℕ) (i top : ℕ) → length f ≤ i → (ltb most top || any-above most (drop i f)) ≡ ltb most top
-unfolding any-above
-above-gone most f i top l = rw (drop-of-length-le f {i = i} l) (by-test (ltb most top) (λ e. rw e) (λ e. rw e))
+-- A number is above a bound if the greatest is.
+pub above-is : (most : ℕ) (f : List ℕ) → ltb most (greatest f) ≡ any-above most f
+unfolding any-above greatest
+above-is most [] = le-ltb most 0 (omega arith)
+above-is most (a ∷ f) = above-either most a (greatest f) ∙ ap (λ t. ltb most a || t) (above-is most f)
 
 -- What a call that is done has passed.
 pub record Passed (c : Call) : Type 0 where

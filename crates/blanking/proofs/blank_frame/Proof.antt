@@ -69,7 +69,7 @@ loop-again : tie.Need-loop-again Inv-loop μ-loop
 loop-again c =
     let b = then1 (after-blank-row c .before) in
     let r = after-blank-row c .blank-row in
-    rows-blanked-more (b .before .before .loop .inv) (at-start (b .before) .pre) (omega arith) _ _ _ (r .ensures .0) (r .ensures .1 .0) (r .ensures .1 .1)
+    rows-blanked-more (b .before .before .loop .inv) (at-start (b .before) .pre) (omega arith) _ _ _ (r .ensures)
 
 same-length : tie.Need-same-length Inv-loop μ-loop
 same-length c = search needs

@@ -8,7 +8,7 @@ use Rattle.blanking.specs.Blanking.{marked, blank-row}
 use Rattle.blanking.specs.Lent.{meant}
 use Rattle.blanking.proofs.ByteLaws.{zero-unmarked, other-marked}
 use Rattle.blanking.proofs.RunLaws.{stretch-more}
-use Rattle.blanking.proofs.RowLaws.{Filled, filled-none, filled-unmarked, filled-run, filled-done, Listed, listed-none, listed-passed, run-within, run-room, listed-run, listed-all}
+use Rattle.blanking.proofs.RowLaws.{Filled, filled-none, filled-unmarked, filled-run, Listed, listed-none, listed-passed, run-within, run-room, listed-run, row-blanked}
 use borrow.Author.Needs.{needs}
 use Rattle.blanking.proofs.blank_marked.Statement.{statement}
 use Rattle.blanking.proofs.blank_marked.Tie as tie
@@ -67,19 +67,19 @@ run-in c = run-within (at-loop c .loop .inv .0) (omega arith) (met c) (c .stretc
 set-run-requires : tie.Need-set-run-requires Inv-loop μ-loop
 set-run-requires c κs =
     let d = c .before .before .before in
-    omega (arith, run-in d, at-loop d .loop .inv .1 .kept, at-start (at-loop d) .pre .1)
+    omega (arith, run-in d, at-loop d .loop .inv .1 .kept, at-start (at-loop d) .pre .written)
 
 put-run-requires : tie.Need-put-run-requires Inv-loop μ-loop
 put-run-requires c κs =
     let d = after-stretch-at (c .before .before) in
-    let p = at-start (at-loop d) .pre .0 in
+    let p = at-start (at-loop d) .pre in
     (run-room (at-loop d .loop .inv .0) (omega arith) (met d) _ (d .stretch-at .ensures) (p .room), (p .few, (omega (arith, p .wide), omega (arith, p .wide, run-in d))))
 
 add-at : tie.Need-add-at Inv-loop μ-loop
 add-at c =
     let d = after-stretch-at (after-samples c) in
     let l = at-loop d in
-    omega (arith, run-room (l .loop .inv .0) (omega arith) (met d) _ (d .stretch-at .ensures) (at-start l .pre .0 .room))
+    omega (arith, run-room (l .loop .inv .0) (omega arith) (met d) _ (d .stretch-at .ensures) (at-start l .pre .room))
 
 add-col-2 : tie.Need-add-col-2 Inv-loop μ-loop
 add-col-2 c = omega (arith, run-in (after-stretch-at (after-samples c)))
@@ -97,7 +97,7 @@ loop-again-2 c =
     let s = at-start (at-loop d) in
     let a = s .args in (
       listed-run (l .inv .0) (omega arith) (met d) (d .stretch-at .result) (d .stretch-at .ensures) _ (c .before .before .put-run .ensures),
-      filled-run (a .fill) (a .samples .now) (a .map .now) (d .stretch-at .result) _ _ (l .inv .1) (s .pre .1) (run-in d) (d .stretch-at .ensures) (after-samples c .before .before .before .turns-at .ensures) (after-samples c .before .set-run .ensures),
+      filled-run (a .fill) (a .samples .now) (a .map .now) (d .stretch-at .result) _ _ (l .inv .1) (s .pre .written) (run-in d) (d .stretch-at .ensures) (after-samples c .before .before .before .turns-at .ensures) (after-samples c .before .set-run .ensures),
     )
 
 same-length : tie.Need-same-length Inv-loop μ-loop
@@ -108,10 +108,9 @@ same-length-2 c = search needs
 
 returns : tie.Need-returns Inv-loop μ-loop
 returns c =
-    let l = c .before .loop in
-    let a = at-start (c .before) .args in
-    let listed = listed-all (omega arith) (l .inv .0) in
-    (listed .0, (filled-done (a .fill) (a .samples .now) (a .map .now) (l .inv .1) (omega arith), listed .1))
+    let i = c .before .loop .inv in
+    let s = at-start (c .before) in
+    row-blanked (s .args .fill) (i .0) (i .1) (s .pre .written) (omega arith)
 
 pub blank-marked-spec : {M : Type 1} → statement M
 blank-marked-spec =

@@ -1,7 +1,6 @@
 -- Where the greatest byte is 0 nothing is marked; else both are done.
 use mathlib.Core.Path.{sym, _∙_}
-use Rattle.blanking.specs.Lent.{meant}
-use Rattle.blanking.proofs.RowLaws.{blank-row-none, nothing-listed}
+use Rattle.blanking.proofs.RowLaws.{row-unmarked}
 use borrow.Author.Needs.{needs}
 use Rattle.blanking.proofs.blank_row.Statement.{statement}
 use Rattle.blanking.proofs.blank_row.Tie as tie
@@ -11,10 +10,7 @@ greatest-of-requires c κs = search needs
 
 returns : tie.Need-returns
 returns c =
-    let a = c .before .before .before .before .before .args in
-    let none = sym (c .before .greatest-of .ensures) ∙ c .if1 .taken in
-    let listed = nothing-listed (a .row) (a .map .now) (a .from) (a .runs .now) none in
-    (listed .0, (sym (blank-row-none (meant (a .fill)) (a .samples .now) (a .map .now) none), listed .1))
+    row-unmarked (c .before .before .before .before .before .args .fill) (sym (c .before .greatest-of .ensures) ∙ c .if1 .taken)
 
 blank-marked-requires : tie.Need-blank-marked-requires
 blank-marked-requires c κs = search needs

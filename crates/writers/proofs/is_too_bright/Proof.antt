@@ -1,24 +1,24 @@
--- What is left of the samples, and the greatest of those before, are as bright as the whole.
-use Prim.Native.Nat.{_≤_, _-_}
-use mathlib.Core.Bool.{_||_}
-use mathlib.Core.Path.{_≡_, refl, sym, _∙_}
+-- What is left of the samples, and the greatest of those before, have the whole's greatest, and a sample is too bright if that is.
+use Prim.Native.Nat.{_≤_, _-_, max}
+use mathlib.Core.Path.{_≡_, sym, ap, _∙_}
 use native.Mathlib.Omega.{arith}
 use lib.Dec.{ltb}
 use lib.ListN.{length, drop}
 use borrow.Author.Needs.{needs}
-use Rattle.writers.specs.Calls.{too-bright}
-use Rattle.writers.proofs.CallLaws.{above-on, above-gone}
+use Rattle.maps.specs.Greatest.{greatest}
+use Rattle.maps.proofs.GreatestLaws.{greatest-on, greatest-gone}
+use Rattle.writers.proofs.CallLaws.{above-is}
 use Rattle.writers.proofs.is_too_bright.Statement.{statement}
 use Rattle.writers.proofs.is_too_bright.Tie as tie
 
 abbrev Inv-loop : tie.InvT-loop
-Inv-loop samples most₀ i₀ most i = (i ≤ length samples) × (too-bright samples ≡ (ltb 16_383 most || too-bright (drop i samples)))
+Inv-loop samples most₀ i₀ most i = (i ≤ length samples) × (greatest samples ≡ max most (greatest (drop i samples)))
 
 abbrev μ-loop : tie.MeasureT-loop
 μ-loop samples most₀ i₀ most i = length samples - i
 
 loop-holds : tie.Need-loop-holds Inv-loop μ-loop
-loop-holds c = (omega arith, refl)
+loop-holds c = (omega arith, omega arith)
 
 mul-brighter : tie.Need-mul-brighter Inv-loop μ-loop
 mul-brighter c = search needs
@@ -39,13 +39,13 @@ loop-again : tie.Need-loop-again Inv-loop μ-loop
 loop-again c =
     let l = c .before .before .before .loop in
     let f = c .before .before .before .before .before .args .samples .now in
-    (omega arith, l .inv .1 ∙ above-on 16_383 f (l .i) (l .most) (c .brighter .result) (omega arith) (c .brighter .ensures))
+    (omega arith, l .inv .1 ∙ greatest-on f (l .i) (l .most) (c .brighter .result) (omega arith) (c .brighter .ensures))
 
 returns : tie.Need-returns Inv-loop μ-loop
 returns c =
     let l = c .before .loop in
     let f = c .before .before .before .args .samples .now in
-    sym (l .inv .1 ∙ above-gone 16_383 f (l .i) (l .most) (omega arith))
+    ap (ltb 16_383) (sym (l .inv .1 ∙ greatest-gone f (l .i) (l .most) (omega arith))) ∙ above-is 16_383 f
 
 pub is-too-bright-spec : {M : Type 1} → statement M
 is-too-bright-spec =

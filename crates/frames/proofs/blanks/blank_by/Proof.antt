@@ -2,11 +2,46 @@
 use mathlib.Core.Path.{sym}
 use native.Mathlib.Omega.{arith}
 use lib.Seq.{length-take-le}
-use Rattle.blanking.specs.Lent.{meant}
-use Rattle.frames.proofs.BlankLaws.{early-yields, samples-there, map-there, map-lent, cells-few, bad-yields, runs-few, short-yields, frame-lent, done-yields}
 use borrow.Author.Needs.{needs}
+use Rattle.blanking.specs.Calls.{Call, call}
+use Rattle.blanking.specs.Lent.{meant}
+use Rattle.frames.proofs.BlankLaws.{Lent, lent, Good, good, Fits, fits, map-there, map-lent, runs-few, frame-lent, early-yields, bad-yields, short-yields, done-yields}
 use Rattle.frames.proofs.blanks.blank_by.Statement.{statement}
 use Rattle.frames.proofs.blanks.blank_by.Tie as tie
+
+-- ── Points ──
+
+-- Each test that was passed, from the point after the next; and the arguments.
+abbrev else1 : tie.Else2 → tie.Else1
+else1 c = c .before .before .before
+
+abbrev else2 : tie.Else3 → tie.Else2
+else2 c = c .before .before .before .before
+
+abbrev else3 : tie.After-blank-frame → tie.Else3
+else3 c = c .before .before .before .before
+
+abbrev after-blank-frame : tie.After-done → tie.After-blank-frame
+after-blank-frame c = c .before .before .before .before .before
+
+-- What is asked and lent.
+abbrev asked : tie.Else1 → Call
+asked c =
+    let a = c .before .before .before .before .before .args in
+    call (meant (a .fill)) (a .samples .now) (a .map .now) (a .width) (a .height) (a .runs .now)
+
+-- ── What is known there ──
+
+known-lent : (c : tie.Else1) → Lent (asked c)
+known-lent c = lent (c .before .refuse .ensures) (c .if1 .left)
+
+known-good : (c : tie.Else2) → Good (asked (else1 c))
+known-good c = good (known-lent (else1 c)) (c .before .is-bad-map .ensures) (c .if2 .left)
+
+known-fits : (c : tie.Else3) → Fits (asked (else1 (else2 c)))
+known-fits c = fits (known-good (else2 c)) (c .before .before .tally-frame .ensures) (c .before .is-short-list .ensures) (c .if3 .left)
+
+-- ── Answers ──
 
 refuse-requires : tie.Need-refuse-requires
 refuse-requires c κs = search needs
@@ -14,36 +49,14 @@ refuse-requires c κs = search needs
 refused-requires : tie.Need-refused-requires
 refused-requires c κs = search needs
 
--- Places that the answers look back at.
-abbrev at-start : tie.After-refuse → tie.Start
-at-start c = c .before .before .before .before
-
-abbrev after-refuse : tie.After-is-bad-map → tie.After-refuse
-after-refuse c = c .before .before .before
-
-abbrev after-is-bad-map : tie.After-is-short-list → tie.After-is-bad-map
-after-is-bad-map c = c .before .before .before .before
-
-abbrev after-is-short-list : tie.After-blank-frame-arg3 → tie.After-is-short-list
-after-is-short-list c = c .before .before .before .before
-
-abbrev after-blank-frame : tie.After-done → tie.After-blank-frame
-after-blank-frame c = c .before .before .before .before .before
-
 returns : tie.Need-returns
-returns c =
-    let a = at-start (c .before .before) .args in
-    early-yields (meant (a .fill)) (a .samples .now) (a .map .now) (a .width) (a .height) (a .runs .now) _ (c .before .before .refuse .ensures) _ (c .before .if1 .taken) (c .refused .ensures)
+returns c = early-yields (c .before .before .refuse .ensures) (c .before .if1 .taken) (c .refused .ensures)
 
 mul-n : tie.Need-mul-n
-mul-n c =
-    let a = at-start (c .before) .args in
-    let few = cells-few (meant (a .fill)) (a .samples .now) (a .map .now) (a .width) (a .height) (a .runs .now) _ (c .before .refuse .ensures) (c .if1 .left) in omega arith
+mul-n c = omega (arith, known-lent c .room .few)
 
 slice-aggregate-is-bad-map : tie.Need-slice-aggregate-is-bad-map
-slice-aggregate-is-bad-map c =
-    let a = at-start (c .before .before) .args in
-    sym (length-take-le _ _ (map-there (meant (a .fill)) (a .samples .now) (a .map .now) (a .width) (a .height) (a .runs .now) _ (c .before .before .refuse .ensures) (c .before .if1 .left)))
+slice-aggregate-is-bad-map c = sym (length-take-le _ _ (map-there (known-lent (c .before))))
 
 is-bad-map-requires : tie.Need-is-bad-map-requires
 is-bad-map-requires c κs = search needs
@@ -52,61 +65,36 @@ refused-requires-2 : tie.Need-refused-requires-2
 refused-requires-2 c κs = search needs
 
 returns-2 : tie.Need-returns-2
-returns-2 c =
-    let d = after-refuse (c .before .before) in
-    let a = at-start d .args in
-    bad-yields (meant (a .fill)) (a .samples .now) (a .map .now) (a .width) (a .height) (a .runs .now) _ (d .refuse .ensures) (c .before .before .before .before .if1 .left) _ (c .before .before .is-bad-map .ensures) _ (c .before .if2 .taken) (c .refused2 .ensures)
+returns-2 c = let b = c .before .before in bad-yields (known-lent (b .before .before)) (b .is-bad-map .ensures) (c .before .if2 .taken) (c .refused2 .ensures)
 
 slice-aggregate-tally-frame : tie.Need-slice-aggregate-tally-frame
-slice-aggregate-tally-frame c =
-    let d = after-refuse (c .before .before) in
-    let a = at-start d .args in
-    sym (length-take-le _ _ (map-there (meant (a .fill)) (a .samples .now) (a .map .now) (a .width) (a .height) (a .runs .now) _ (d .refuse .ensures) (c .before .before .before .before .if1 .left)))
+slice-aggregate-tally-frame c = sym (length-take-le _ _ (map-there (known-good (c .before) .lent)))
 
 tally-frame-requires : tie.Need-tally-frame-requires
-tally-frame-requires c κs =
-    let d = after-refuse (c .before .before) in
-    let a = at-start d .args in
-    map-lent (meant (a .fill)) (a .samples .now) (a .map .now) (a .width) (a .height) (a .runs .now) _ (d .refuse .ensures) (c .before .before .before .before .if1 .left)
+tally-frame-requires c κs = map-lent (known-good (c .before) .lent)
 
 is-short-list-requires : tie.Need-is-short-list-requires
-is-short-list-requires c κs =
-    let d = after-refuse (c .before .before .before) in
-    let a = at-start d .args in
-    runs-few (meant (a .fill)) (a .samples .now) (a .map .now) (a .width) (a .height) (a .runs .now) _ (d .refuse .ensures) (c .before .before .before .before .before .if1 .left) _ (c .before .before .before .is-bad-map .ensures) (c .before .before .if2 .left) _ (c .tally-frame .ensures)
+is-short-list-requires c κs = runs-few (known-good (c .before .before) .lent) (c .tally-frame .ensures)
 
 refused-requires-3 : tie.Need-refused-requires-3
 refused-requires-3 c κs = search needs
 
 returns-3 : tie.Need-returns-3
 returns-3 c =
-    let d = after-is-bad-map (c .before .before) in
-    let a = at-start (after-refuse d) .args in
-    short-yields (meant (a .fill)) (a .samples .now) (a .map .now) (a .width) (a .height) (a .runs .now) _ (after-refuse d .refuse .ensures) (d .before .before .if1 .left) _ (d .is-bad-map .ensures) (c .before .before .before .before .before .if2 .left) _ (c .before .before .before .tally-frame .ensures) _ (c .before .before .is-short-list .ensures) _ (c .before .if3 .taken) (c .refused3 .ensures)
+    let b = c .before .before in
+    short-yields (known-good (b .before .before .before)) (b .before .tally-frame .ensures) (b .is-short-list .ensures) (c .before .if3 .taken) (c .refused3 .ensures)
 
 slice-relend-prefix-blank-frame : tie.Need-slice-relend-prefix-blank-frame
-slice-relend-prefix-blank-frame c =
-    let d = after-is-bad-map (c .before) in
-    let a = at-start (after-refuse d) .args in
-    samples-there (meant (a .fill)) (a .samples .now) (a .map .now) (a .width) (a .height) (a .runs .now) _ (after-refuse d .refuse .ensures) (d .before .before .if1 .left)
+slice-relend-prefix-blank-frame c = known-fits c .good .lent .room .samples-enough
 
 slice-aggregate-blank-frame : tie.Need-slice-aggregate-blank-frame
-slice-aggregate-blank-frame c =
-    let d = after-is-bad-map (c .before .before) in
-    let a = at-start (after-refuse d) .args in
-    sym (length-take-le _ _ (samples-there (meant (a .fill)) (a .samples .now) (a .map .now) (a .width) (a .height) (a .runs .now) _ (after-refuse d .refuse .ensures) (d .before .before .if1 .left)))
+slice-aggregate-blank-frame c = sym (length-take-le _ _ (known-fits (c .before) .good .lent .room .samples-enough))
 
 slice-aggregate-blank-frame-2 : tie.Need-slice-aggregate-blank-frame-2
-slice-aggregate-blank-frame-2 c =
-    let d = after-is-bad-map (c .before .before .before) in
-    let a = at-start (after-refuse d) .args in
-    sym (length-take-le _ _ (map-there (meant (a .fill)) (a .samples .now) (a .map .now) (a .width) (a .height) (a .runs .now) _ (after-refuse d .refuse .ensures) (d .before .before .if1 .left)))
+slice-aggregate-blank-frame-2 c = sym (length-take-le _ _ (map-there (known-fits (c .before .before) .good .lent)))
 
 blank-frame-requires : tie.Need-blank-frame-requires
-blank-frame-requires c κs =
-    let d = after-is-bad-map (after-is-short-list c) in
-    let a = at-start (after-refuse d) .args in
-    frame-lent (meant (a .fill)) (a .samples .now) (a .map .now) (a .width) (a .height) (a .runs .now) _ (after-refuse d .refuse .ensures) (d .before .before .if1 .left) _ (d .is-bad-map .ensures) (after-is-short-list c .before .before .before .if2 .left) _ (after-is-short-list c .before .tally-frame .ensures) _ (after-is-short-list c .is-short-list .ensures) (c .before .before .before .if3 .left)
+blank-frame-requires c κs = frame-lent (known-fits (c .before .before .before))
 
 done-requires : tie.Need-done-requires
 done-requires c κs = search needs
@@ -119,10 +107,9 @@ same-length-2 c = search needs
 
 returns-4 : tie.Need-returns-4
 returns-4 c =
-    let d = after-is-short-list (after-blank-frame c .before) in
-    let d₀ = after-refuse (after-is-bad-map d) in
-    let a = at-start d₀ .args in
-    done-yields (meant (a .fill)) (a .samples .now) (a .map .now) (a .width) (a .height) (a .runs .now) _ (d₀ .refuse .ensures) (after-is-bad-map d .before .before .if1 .left) _ (after-is-bad-map d .is-bad-map .ensures) (d .before .before .before .if2 .left) _ (d .before .tally-frame .ensures) _ (d .is-short-list .ensures) (after-blank-frame c .before .before .before .before .if3 .left) _ _ _ (c .done .ensures) (after-blank-frame c .blank-frame .ensures .0) (after-blank-frame c .blank-frame .ensures .1)
+    let blanked = after-blank-frame c in
+    let f = else3 blanked in
+    done-yields (known-fits f) (f .before .before .tally-frame .ensures) (c .done .ensures) (blanked .blank-frame .ensures .0) (blanked .blank-frame .ensures .1)
 
 pub blank-by-spec : {M : Type 1} → statement M
 blank-by-spec =

@@ -1,14 +1,13 @@
 -- A refusal comes before anything is written; then the scratch holds what the decoder leaves, and the comparison decides.
-use Prim.Native.Nat.{_*_, _≤_}
 use mathlib.Core.Path.{sym}
 use native.Mathlib.Omega.{arith}
 use lib.ListN.{length}
 use lib.Seq.{length-take-le}
 use borrow.Author.Needs.{needs}
 use Rattle.refusals.proofs.RefusalLaws.{cells-most}
-use Rattle.packed.specs.Proposal.{proposal}
+use Rattle.packed.specs.Proposal.{Proposal, proposal}
 use Rattle.packed.proofs.Exactly.{Begun}
-use Rattle.frames.proofs.ProposalLaws.{kept-yields, ready, scratch-room, as-long, other-yields, taken-yields}
+use Rattle.frames.proofs.ProposalLaws.{kept-yields, ready, Decoded, frame-decoded, scratch-room, as-long, other-yields, taken-yields}
 use Rattle.frames.proofs.proposal.check_packed.Statement.{statement}
 use Rattle.frames.proofs.proposal.check_packed.Tie as tie
 
@@ -30,26 +29,21 @@ decoded c = c .before .before
 abbrev compared : tie.After-is-same → tie.After-slice-known2
 compared c = c .before .before .before
 
--- What is known there.
-begun : (c : tie.Else1) → let a = start (told c) .args in Begun (proposal (a .src .now) (a .offsets .now) (a .width) (a .height) (a .meant .now)) (length (a .scratch .now))
-begun c =
-    let a = start (told c) .args in
-    ready (a .src .now) (a .offsets .now) (a .width) (a .height) (a .meant .now) (a .scratch .now) _ (told c .check-before .ensures) (c .if1 .left)
+-- What is known there, of what is proposed.
+abbrev asked : tie.Else1 → Proposal
+asked c = let a = start (told c) .args in proposal (a .src .now) (a .offsets .now) (a .width) (a .height) (a .meant .now)
 
-room : (c : tie.After-decode-v0-reference) → let a = start (told (passed c)) .args in a .width * a .height ≤ length (c .decode-v0-reference .last .1 .1 .1 .1 .0)
-room c =
-    let a = start (told (passed c)) .args in
-    scratch-room (a .src .now) (a .offsets .now) (a .width) (a .height) (a .meant .now) (a .scratch .now) _ (told (passed c) .check-before .ensures) (passed c .if1 .left)
-    _ _ (c .decode-v0-reference .ensures)
+begun : (c : tie.Else1) → Begun (asked c) (length (start (told c) .args .scratch .now))
+begun c = ready (told c .check-before .ensures) (c .if1 .left)
+
+frame-there : (c : tie.After-decode-v0-reference) → Decoded (asked (passed c)) (start (told (passed c)) .args .scratch .now) (c .decode-v0-reference .last .1 .1 .1 .1 .0)
+frame-there c = frame-decoded (begun (passed c)) (c .decode-v0-reference .ensures)
 
 check-before-requires : tie.Need-check-before-requires
 check-before-requires c κs = search needs
 
 returns : tie.Need-returns
-returns c =
-    let t = c .before .before in
-    let a = start t .args in
-    kept-yields (a .src .now) (a .offsets .now) (a .width) (a .height) (a .meant .now) (a .scratch .now) _ (t .check-before .ensures) (c .if1 .taken)
+returns c = kept-yields (c .before .before .check-before .ensures) (c .if1 .taken)
 
 decode-v0-reference-requires : tie.Need-decode-v0-reference-requires
 decode-v0-reference-requires c κs = search needs
@@ -58,21 +52,16 @@ mul-n : tie.Need-mul-n
 mul-n c = let b = begun (passed (decoded c)) in record { fits = omega (arith, cells-most _ _ (b .wide) (b .high)) }
 
 slice-reshare-prefix-is-same : tie.Need-slice-reshare-prefix-is-same
-slice-reshare-prefix-is-same c = room (decoded c)
+slice-reshare-prefix-is-same c = scratch-room (frame-there (decoded c))
 
 slice-aggregate-is-same : tie.Need-slice-aggregate-is-same
-slice-aggregate-is-same c = sym (length-take-le _ _ (room (decoded (c .before))))
+slice-aggregate-is-same c = sym (length-take-le _ _ (scratch-room (frame-there (decoded (c .before)))))
 
 slice-aggregate-is-same-2 : tie.Need-slice-aggregate-is-same-2
 slice-aggregate-is-same-2 c = sym (length-take-le _ _ (begun (passed (decoded (c .before .before))) .meant-enough))
 
 is-same-requires : tie.Need-is-same-requires
-is-same-requires c κs =
-    let d = decoded (c .before .before) in
-    let p = passed d in
-    let a = start (told p) .args in
-    as-long (a .src .now) (a .offsets .now) (a .width) (a .height) (a .meant .now) (a .scratch .now) _ (told p .check-before .ensures) (p .if1 .left)
-    _ _ (d .decode-v0-reference .ensures)
+is-same-requires c κs = as-long (frame-there (decoded (c .before .before)))
 
 done-requires : tie.Need-done-requires
 done-requires c κs = search needs
@@ -81,13 +70,7 @@ same-length : tie.Need-same-length
 same-length c = search needs
 
 returns-2 : tie.Need-returns-2
-returns-2 c =
-    let s = c .before .before in
-    let d = decoded (compared s) in
-    let p = passed d in
-    let a = start (told p) .args in
-    taken-yields (a .src .now) (a .offsets .now) (a .width) (a .height) (a .meant .now) (a .scratch .now) _ (told p .check-before .ensures) (p .if1 .left)
-    _ _ (d .decode-v0-reference .ensures) _ (s .is-same .ensures) _ (c .before .if2 .taken) (c .done .ensures)
+returns-2 c = let s = c .before .before in taken-yields (frame-there (decoded (compared s))) (s .is-same .ensures) (c .before .if2 .taken) (c .done .ensures)
 
 refused-requires : tie.Need-refused-requires
 refused-requires c κs = search needs
@@ -96,13 +79,7 @@ same-length-2 : tie.Need-same-length-2
 same-length-2 c = search needs
 
 returns-3 : tie.Need-returns-3
-returns-3 c =
-    let s = c .before .before in
-    let d = decoded (compared s) in
-    let p = passed d in
-    let a = start (told p) .args in
-    other-yields (a .src .now) (a .offsets .now) (a .width) (a .height) (a .meant .now) (a .scratch .now) _ (told p .check-before .ensures) (p .if1 .left)
-    _ _ (d .decode-v0-reference .ensures) _ (s .is-same .ensures) _ (c .before .if2 .left) (c .refused .ensures)
+returns-3 c = let s = c .before .before in other-yields (frame-there (decoded (compared s))) (s .is-same .ensures) (c .before .if2 .left) (c .refused .ensures)
 
 pub check-packed-spec : {M : Type 1} → statement M
 check-packed-spec =

@@ -1,13 +1,13 @@
 -- What is left of the bytes, and the greatest of those before, have the whole's greatest.
 use borrow.Author.Needs.{needs}
 use Prim.Native.Nat.{_≤_, _-_, max}
-use mathlib.Core.Path.{_≡_, refl, sym, _∙_}
+use mathlib.Core.Path.{_≡_, sym, _∙_}
 use native.Mathlib.Omega.{arith}
 use lib.ListN.{length, drop}
-use Rattle.blanking.specs.Lent.{greatest}
-use Rattle.blanking.proofs.ByteLaws.{greatest-on, greatest-gone}
-use Rattle.blanking.proofs.greatest_of.Statement.{statement}
-use Rattle.blanking.proofs.greatest_of.Tie as tie
+use Rattle.maps.specs.Greatest.{greatest}
+use Rattle.maps.proofs.GreatestLaws.{greatest-on, greatest-gone}
+use Rattle.maps.proofs.greatest_of.Statement.{statement}
+use Rattle.maps.proofs.greatest_of.Tie as tie
 
 abbrev Inv-loop : tie.InvT-loop
 Inv-loop map most₀ i₀ most i = (i ≤ length map) × (greatest map ≡ max most (greatest (drop i map)))
