@@ -4,8 +4,3 @@ pub mod WriterLaws
 pub mod BlankLaws
 pub mod ExportLaws
 pub mod ExportedFrames
-pub mod ConvertLaws
-pub mod Converted
-pub mod ConvertExamples
-pub mod ProposalLaws
-pub mod Proposed

@@ -1,5 +1,3 @@
 -- What the calls answer, and what they leave.
 pub mod Moved
 pub mod Export
-pub mod Convert
-pub mod ConvertExamples

@@ -11,8 +11,8 @@ use Rattle.rules.specs.Answer.{Ask, ask, v2, done, refusal, marks, map-after, l
 use Rattle.rules.proofs.Cells.{All}
 use Rattle.rules.proofs.Isolation.{Returned}
 use Rattle.samsung.proofs.Isolation.{Made}
-use Rattle.frames.specs.Convert.{Call, call, frame-of, if-decoded}
-use Rattle.frames.proofs.Converted.{Passed, passed, again, answered-done, samples-back, no-marks-back}
+use Rattle.transcode.specs.Convert.{Call, call, frame-of, if-decoded}
+use Rattle.transcode.proofs.Converted.{Passed, passed, again, answered-done, samples-back, no-marks-back}
 use Rattle.razvolk.proofs.Isolation.{Export, exported}
 use Rattle.razvolk.proofs.convert.razvolk_v0_to_v2.Kinds as convert-kinds
 use Rattle.razvolk.proofs.convert.razvolk_v0_to_v2.Reads as convert-reads

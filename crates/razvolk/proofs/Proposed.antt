@@ -6,7 +6,7 @@ use Rattle.samsung.proofs.Isolation.{Made}
 use Rattle.samsung.proofs.Isolation as Entries
 use Rattle.profile.proofs.Lists as Clean-lists
 use Rattle.packed.proofs.Returned.{Checked, Wrote, Claim, claim}
-use Rattle.frames.proofs.Proposed as Checking
+use Rattle.transcode.proofs.Proposed as Checking
 use Rattle.razvolk.proofs.Isolation.{final, Cleaned, cleaned}
 use Rattle.razvolk.proofs.RoundTrip.{Writes}
 use Rattle.razvolk.proofs.proposal.razvolk_check_packed.Kinds as check-kinds

@@ -1,6 +1,6 @@
 // V0 into V2.
-ghost use Rattle.frames.specs.Convert.{call, Yields};
-use frames::v0_to_v2;
+ghost use Rattle.transcode.specs.Convert.{call, Yields};
+use transcode::v0_to_v2;
 use writers::Written;
 
 #[no_mangle]

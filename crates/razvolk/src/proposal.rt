@@ -18,5 +18,5 @@ pub extern "C" fn razvolk_check_packed(
         (now (scratch .entry)) r (now (scratch .exit))
         ⌝ }
 {
-    frames::check_packed(src, offsets, width, height, meant, scratch)
+    transcode::check_packed(src, offsets, width, height, meant, scratch)
 }

@@ -2,8 +2,8 @@
 use mathlib.Core.Bool.{Bool, true, false, _&&_}
 use mathlib.Core.Path.{_≡_, refl}
 use borrow.Author.Tests.{eq-eqb, ne-eqb}
-use Rattle.frames.proofs.proposal.still_same.Statement.{statement}
-use Rattle.frames.proofs.proposal.still_same.Tie as tie
+use Rattle.transcode.proofs.proposal.still_same.Statement.{statement}
+use Rattle.transcode.proofs.proposal.still_same.Tie as tie
 
 and-true : (t : Bool) → t ≡ (t && true)
 and-true true = refl

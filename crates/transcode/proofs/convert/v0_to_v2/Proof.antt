@@ -2,11 +2,11 @@
 use mathlib.Core.Path.{refl, sym}
 use native.Mathlib.Omega.{arith}
 use lib.Seq.{length-take-le}
-use Rattle.frames.specs.Convert.{Call, call}
-use Rattle.frames.proofs.ConvertLaws.{Lent, lent, Decoded, decoded, early-yields, width-yields, samples-room, map-room, frame-fits, converted}
+use Rattle.transcode.specs.Convert.{Call, call}
+use Rattle.transcode.proofs.ConvertLaws.{Lent, lent, Decoded, decoded, early-yields, width-yields, samples-room, map-room, frame-fits, converted}
 use borrow.Author.Needs.{needs}
-use Rattle.frames.proofs.convert.v0_to_v2.Statement.{statement}
-use Rattle.frames.proofs.convert.v0_to_v2.Tie as tie
+use Rattle.transcode.proofs.convert.v0_to_v2.Statement.{statement}
+use Rattle.transcode.proofs.convert.v0_to_v2.Tie as tie
 
 -- ── Points ──
 

@@ -7,9 +7,9 @@ use borrow.Author.Needs.{needs}
 use Rattle.refusals.proofs.RefusalLaws.{cells-most}
 use Rattle.packed.specs.Proposal.{Proposal, proposal}
 use Rattle.packed.proofs.Exactly.{Begun}
-use Rattle.frames.proofs.ProposalLaws.{kept-yields, ready, Decoded, frame-decoded, scratch-room, as-long, other-yields, taken-yields}
-use Rattle.frames.proofs.proposal.check_packed.Statement.{statement}
-use Rattle.frames.proofs.proposal.check_packed.Tie as tie
+use Rattle.transcode.proofs.ProposalLaws.{kept-yields, ready, Decoded, frame-decoded, scratch-room, as-long, other-yields, taken-yields}
+use Rattle.transcode.proofs.proposal.check_packed.Statement.{statement}
+use Rattle.transcode.proofs.proposal.check_packed.Tie as tie
 
 -- ── Points ──
 

@@ -3,8 +3,8 @@ use mathlib.Core.Path.{ap, _∙_}
 use lib.Dec.{ltb}
 use borrow.Author.Needs.{needs}
 use Rattle.writers.proofs.CallLaws.{above-is}
-use Rattle.frames.proofs.convert.is_marked.Statement.{statement}
-use Rattle.frames.proofs.convert.is_marked.Tie as tie
+use Rattle.transcode.proofs.convert.is_marked.Statement.{statement}
+use Rattle.transcode.proofs.convert.is_marked.Tie as tie
 
 greatest-of-requires : tie.Need-greatest-of-requires
 greatest-of-requires c κs = search needs

@@ -19,9 +19,9 @@ use Rattle.writers.specs.Calls.{too-bright}
 use Rattle.writers.specs.V2Writer.{stream-for}
 use Rattle.writers.proofs.CallLaws.{not-bright, over-stream}
 use Rattle.writers.proofs.V2RoundTrip.{Holds, written-holds, stream-below}
 use Rattle.frames.specs.Moved.{size}
-use Rattle.frames.specs.Convert.{Call, call, frame-of, marks-of, early, any-marked, late, late-answer, late-stream, if-decoded, Yields}
-use Rattle.frames.proofs.ConvertLaws.{Lent as Early, early-passed, frame-whole}
+use Rattle.transcode.specs.Convert.{Call, call, frame-of, marks-of, early, any-marked, late, late-answer, late-stream, if-decoded, Yields}
+use Rattle.transcode.proofs.ConvertLaws.{Lent as Early, early-passed, frame-whole}
 
 module _ (source offsets : List ℕ) (w h : ℕ) (samples map stream : List ℕ) where
   abbrev c : Call

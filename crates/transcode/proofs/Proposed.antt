@@ -5,14 +5,14 @@ use Rattle.samsung.proofs.Isolation.{Made, ended, checked}
 use Rattle.writers.specs.Calls.{call}
 use Rattle.packed.specs.Proposal.{proposal}
 use Rattle.packed.proofs.Returned.{Checked, Wrote, Claim, claim}
-use Rattle.frames.proofs.proposal.check_packed.Kinds as check-kinds
-use Rattle.frames.proofs.proposal.check_packed.Reads as check-reads
-use Rattle.frames.proofs.proposal.check_packed.Statement as check-stated
-use Rattle.frames.proofs.proposal.check_packed.Met as check-thm
+use Rattle.transcode.proofs.proposal.check_packed.Kinds as check-kinds
+use Rattle.transcode.proofs.proposal.check_packed.Reads as check-reads
+use Rattle.transcode.proofs.proposal.check_packed.Statement as check-stated
+use Rattle.transcode.proofs.proposal.check_packed.Met as check-thm
 use Rattle.frames.proofs.writer.write_v0.Kinds as write-kinds
 use Rattle.frames.proofs.writer.write_v0.Reads as write-reads
 use Rattle.frames.proofs.writer.write_v0.Statement as write-stated
 use Rattle.frames.proofs.writer.write_v0.Met as write-thm
 
 -- A call of the check, and one of the writer, each by its arguments, its result and what it left.
 abbrev pub Checks : Type 0

@@ -5,9 +5,9 @@ use native.Mathlib.Omega.{arith}
 use lib.Seq.{length-take-le}
 use borrow.Author.Needs.{needs}
 use Rattle.packed.specs.Proposal.{Proposal, proposal}
-use Rattle.frames.proofs.ProposalLaws.{MeantLent, meant-lent, Dim, dim, AllLent, all-lent, Clean, clean, early-before, bright-before, short-before, checkable, writable, fault-before, long-before, done-before}
-use Rattle.frames.proofs.proposal.check_before.Statement.{statement}
-use Rattle.frames.proofs.proposal.check_before.Tie as tie
+use Rattle.transcode.proofs.ProposalLaws.{MeantLent, meant-lent, Dim, dim, AllLent, all-lent, Clean, clean, early-before, bright-before, short-before, checkable, writable, fault-before, long-before, done-before}
+use Rattle.transcode.proofs.proposal.check_before.Statement.{statement}
+use Rattle.transcode.proofs.proposal.check_before.Tie as tie
 
 -- ── Points ──
 

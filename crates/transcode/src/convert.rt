@@ -2,7 +2,7 @@
 ghost use mathlib.Core.Path.{_≡_};
 ghost use Prim.Native.Nat.{_*_, _%_};
 ghost use lib.ListN.{length};
-ghost use Rattle.frames.specs.Convert.{any-marked, Frame, late-answer, late-stream, call, Yields};
+ghost use Rattle.transcode.specs.Convert.{any-marked, Frame, late-answer, late-stream, call, Yields};
 use frame_writer::measure::v2_length;
 use frame_writer::write::write_v2;
 use maps::greatest_of;

@@ -6,9 +6,9 @@ use native.Mathlib.Omega.{arith}
 use lib.ListN.{length, drop}
 use borrow.Author.Needs.{needs}
 use Rattle.packed.specs.Proposal.{same}
-use Rattle.frames.proofs.ProposalLaws.{same-on, same-gone}
-use Rattle.frames.proofs.proposal.is_same.Statement.{statement}
-use Rattle.frames.proofs.proposal.is_same.Tie as tie
+use Rattle.transcode.proofs.ProposalLaws.{same-on, same-gone}
+use Rattle.transcode.proofs.proposal.is_same.Statement.{statement}
+use Rattle.transcode.proofs.proposal.is_same.Tie as tie
 
 abbrev Inv-loop : tie.InvT-loop
 Inv-loop frame meant alike₀ i₀ alike i = (i ≤ length frame) × (same frame meant ≡ (alike && same (drop i frame) (drop i meant)))

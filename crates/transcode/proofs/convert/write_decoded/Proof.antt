@@ -3,11 +3,11 @@ use mathlib.Core.Bool.{false}
 use mathlib.Core.Path.{_≡_, sym, _∙_}
 use native.Mathlib.Omega.{arith}
 use Rattle.writers.specs.Calls.{too-bright}
-use Rattle.frames.specs.Convert.{any-marked}
-use Rattle.frames.proofs.ConvertLaws.{marked-wrote, bright-wrote, writable, short-wrote, done-wrote}
+use Rattle.transcode.specs.Convert.{any-marked}
+use Rattle.transcode.proofs.ConvertLaws.{marked-wrote, bright-wrote, writable, short-wrote, done-wrote}
 use borrow.Author.Needs.{needs}
-use Rattle.frames.proofs.convert.write_decoded.Statement.{statement}
-use Rattle.frames.proofs.convert.write_decoded.Tie as tie
+use Rattle.transcode.proofs.convert.write_decoded.Statement.{statement}
+use Rattle.transcode.proofs.convert.write_decoded.Tie as tie
 
 -- ── Points ──
 

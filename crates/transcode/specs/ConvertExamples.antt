@@ -5,7 +5,7 @@ use mathlib.Core.List.{List, [], _∷_, _++_}
 use lib.ListN.{length, replicate}
 use Rattle.writers.specs.declared.Written.{Written}
 use Rattle.writers.specs.Calls.{refused, written}
-use Rattle.frames.specs.Convert.{late-answer, late-stream}
+use Rattle.transcode.specs.Convert.{late-answer, late-stream}
 
 pub record Example : Type 0 where
   pub samples : List ℕ

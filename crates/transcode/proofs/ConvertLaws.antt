@@ -28,8 +28,8 @@ use Rattle.writers.specs.V2Writer.{stream-for}
 use Rattle.writers.proofs.CallLaws.{not-bright}
 use Rattle.frame_writer.specs.declared.format.Format.the-variants.{V2}
 use Rattle.frame_writer.specs.Frames.{Writable}
 use Rattle.frames.specs.Moved.{size}
-use Rattle.frames.specs.Convert.{Call, found, decoded-samples, decoded-map, frame-of, early, any-marked, late, Frame, late-answer, late-stream, if-decoded, Yields}
+use Rattle.transcode.specs.Convert.{Call, found, decoded-samples, decoded-map, frame-of, early, any-marked, late, Frame, late-answer, late-stream, if-decoded, Yields}
 
 -- ── Writing a decoded frame ──
 
