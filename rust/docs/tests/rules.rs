@@ -4,7 +4,7 @@ use docs::definitions::{citations, definitions};
 use docs::{hold, text, texts};
 
 /// The crates whose `specs/` are rules.
-const CRATES: [&str; 8] = ["rules", "bands", "profile", "blanking", "writers", "packed", "frames", "late"];
+const CRATES: [&str; 9] = ["rules", "bands", "profile", "blanking", "writers", "packed", "frames", "transcode", "late"];
 
 #[test]
 fn every_definition_of_the_rules_is_told() {
