@@ -1,13 +1,11 @@
 -- A frame in which no word was missing carries no filler: V0 whose count is 0, and accepted V2. Its map is then as a map was that knew
 -- no filler. So V0 without an upward block in rows 0 and 1, and accepted V2 of a width divisible by 16, have a map that is all 0.
-use Prim.Native.Nat.{ℕ, zero, suc, _+_, _*_, _/_, _%_, _≤_, _<_, min, max}
-use mathlib.Core.Bool.{Bool, false, not}
-use mathlib.Core.Path.{_≡_, refl, sym, ap, ap₂, _∙_}
-use mathlib.Core.Logic.{_≢_}
-use mathlib.Core.List.{List, [], _∷_, _++_}
+use Prim.Native.Nat.{ℕ, zero, suc, _+_, _*_, _/_, _%_, _≤_, _<_, min}
+use mathlib.Core.Bool.{Bool, false}
+use mathlib.Core.Path.{_≡_, refl, ap₂, _∙_}
+use mathlib.Core.List.{List, [], _∷_}
 use native.Mathlib.Omega.{arith}
 use lib.Dec.{lit<}
-use lib.IntN.{ℤ}
 use lib.ListN.{getD, replicate}
 use lib.Seq.{sets}
 use Rattle.rules.specs.declared.answer.Size.{Size}
@@ -27,19 +25,16 @@ use Rattle.rules.specs.V2 as V2
 use Rattle.rules.specs.Map.{all-old, old-part, v0-marks, v2-marks, v0-map, v2-map}
 use Rattle.rules.proofs.Cells.{All, nil, more, all-append, all-get, all-set, Each, none, both}
 use Rattle.rules.proofs.Parts.{either-below}
-use Rattle.rules.proofs.Longer.{Longer, Sure}
 use Rattle.rules.proofs.V0Blocks.{block, after}
-use Rattle.rules.proofs.V0Longer.{block-sure}
+use Rattle.rules.proofs.Traced.{leads-kept}
+use Rattle.rules.proofs.V0Traced.{block-traced}
 use Rattle.rules.proofs.V0NoMarks as V0Old
 use Rattle.rules.proofs.V0NoMarks.{NoUpward, no-marks}
-use Rattle.rules.proofs.V2Longer.{block-filler, blocks-sure}
+use Rattle.rules.proofs.V2Longer.{block-filler}
+use Rattle.rules.proofs.V2Traced.{blocks-traced}
 use Rattle.rules.proofs.V2NoMarks as V2Old
 use Rattle.rules.proofs.V2NoMarks.{v2-unmarked}
 use Rattle.rules.proofs.V2Rows.{then-rows-cases}
-
--- A stream is as long as itself.
-itself : (s : List ℕ) → Longer s s
-itself s b n e = refl
 
 none-there : (b : Bits) → b .filler ≡ 0 → has-filler b ≡ false
 none-there b e = rw e
@@ -61,7 +56,7 @@ module _ (s : List ℕ) (first : ℕ) (predict : ℕ → Bool → ℕ → Predic
   blocks-clear zero col st e = (e, nil)
   blocks-clear (suc n) col st e =
       let q = blocks-clear n (col + 16) (after s first predict col st) e in
-      (block-sure s s (itself s) first predict col st .kept (q .0), more (none-there (block s first predict col st .bits) (q .0)) (q .1))
+      (leads-kept (block-traced s first predict col st .leads) (q .0), more (none-there (block s first predict col st .bits) (q .0)) (q .1))
 
 module _ (s offsets : List ℕ) (z : Size) where
   row-clear : (row : ℕ) → V0.row-blocks s z row (getD offsets row 0) .bits .filler ≡ 0 → All Clear (V0.row-blocks s z row (getD offsets row 0) .blocks)
@@ -153,8 +148,8 @@ module _ (s : List ℕ) (h : V2Hdr) (w : ℕ) where
       go : (o : V2Block) → p .outcome ≡ o → ((b′ : Bits) (st′ : V2Row) → rest b′ st′ .bits .filler ≡ 0 → All V2Clear (rest b′ st′ .blocks))
           → V2.then o (p .block) rest .bits .filler ≡ 0 → All V2Clear (V2.then o (p .block) rest .blocks)
       go (Next b′ st′) q r e =
-          let z = blocks-sure s s (itself s) h w row k (col + 16) b′ st′ (p .mode) .kept e in
-          more (block-filler s s (itself s) h w row col b st mode b′ st′ q ∙ none-there b′ z) (r b′ st′ e)
+          let z = leads-kept (blocks-traced s h w row k (col + 16) b′ st′ (p .mode) .leads) e in
+          more (block-filler s h w row col b st mode b′ st′ q ∙ none-there b′ z) (r b′ st′ e)
       go (EarlyMotion b′) q r e = nil
       go (Outside b′) q r e = nil
       go (LongDifference b′) q r e = nil
