@@ -8,7 +8,7 @@ use mathlib.Core.List.{List, [], _∷_, _++_}
 use native.Mathlib.Omega.{arith}
 use native.Mathlib.Decide.{ℕ-discrete}
 use native.Mathlib.Nat.{mul-comm, add-zero}
-use lib.ListN.{length, getD, set, replicate, length-set, length-replicate}
+use lib.ListN.{length, getD, set, length-set, length-replicate}
 use lib.Seq.{sets, getD-set-same, getD-set-other, length-sets}
 use lib.Dec.{ltb, eqb}
 use borrow.Author.Tests.{ltb-false, le-ltb, eqb-false}
@@ -19,17 +19,17 @@ use Rattle.rules.specs.declared.v2.V2Row.{V2Row}
 use Rattle.rules.specs.declared.v2.V2Block.{V2Block}
 use Rattle.rules.specs.declared.v2.V2Block.the-variants.{Next, EarlyMotion, Outside, LongDifference}
 use Rattle.rules.specs.Frame.{cells, tabulate}
-use Rattle.rules.specs.V2.{Kind, Base, given, copied, averaged, motion-averages, repeated, referred, base, refers-before, base-refusal, Block, Parsed, read-block, Row, then, blocks, fresh-row, fresh-mode, aligned, read-row, rows, read-frame, header, base-cell, block-cells, write, apply, frame}
+use Rattle.rules.specs.V2.{Kind, Base, given, copied, averaged, motion-averages, repeated, referred, base, refers-before, base-refusal, Block, Parsed, read-block, Row, then, blocks, fresh-row, fresh-mode, aligned, read-row, rows, read-frame, header, base-cell, block-cells, apply, frame}
 use Rattle.rules.specs.Map.{old-part, either-part, v2-marks, v2-map, all-old}
 use Rattle.rules.specs.Answer.{v2, Ask, Lent, stream-answer, answer, frame-marks, marks}
 use Rattle.rules.specs.Ranges.{reference-5}
-use Rattle.rules.proofs.Cells.{Each, none, both, each-get}
+use Rattle.rules.proofs.Cells.{Each, each-get}
 use Rattle.rules.proofs.Parts.{either-first}
 use Rattle.rules.proofs.V0NoMarks.{all-joined}
 use Rattle.rules.proofs.V2Cells.{Joined, frame-joined, write-plain}
 use Rattle.rules.proofs.Refusals.{passed, answer-passed, v2-size-least}
 use Rattle.rules.proofs.V2Rows.{then-rows-cases}
-use Rattle.rules.proofs.V2Places.{further, reference-is, reference-before}
+use Rattle.rules.proofs.V2Places.{reference-is, reference-before}
 use Rattle.rules.proofs.V2References.{reference-least}
 use Rattle.rules.proofs.V2Bounds.{next-state, next-unrefused}
 use Rattle.rules.proofs.Tests.{by-test}

@@ -8,13 +8,12 @@ use mathlib.Core.Bool.{Bool, true, false, _||_, _&&_, cond}
 use native.Mathlib.Decide.{ℕ-discrete}
 use native.Mathlib.Nat.{mul-le-mul-right}
 use native.Mathlib.Omega.{arith}
-use lib.Dec.{eqb, ltb, leb, lit≤}
-use lib.IntN.{ℤ, pos, negsuc, natAbs, subℕ, _+ℤ_}
-use lib.ListN.{getD}
+use lib.Dec.{eqb, ltb, lit≤}
+use lib.IntN.{pos, negsuc, natAbs, subℕ, _+ℤ_}
 use borrow.Author.Tests.{lt-ltb, le-ltb, lt-leb, ltb-true, ltb-false, eqb-true}
 use Rattle.rules.specs.declared.answer.Size.{Size}
 use Rattle.rules.specs.Frame.{cells}
-use Rattle.rules.specs.V2.{motion-offsets, reference, refers-before, base-refusal}
+use Rattle.rules.specs.V2.{reference, refers-before, base-refusal}
 use Rattle.rules.specs.References.{outside, strays, any-strays, tested-refusal}
 use Rattle.rules.specs.Ranges.{offset-4, reference-5}
 use Rattle.rules.proofs.Cells.{All, nil, more, all-get}
