@@ -16,8 +16,6 @@ use Rattle.rules.specs.declared.v0.V0Op.{V0Op}
 use Rattle.rules.specs.declared.v0.V0Row.{V0Row}
 use Rattle.rules.specs.declared.v2.V2Hdr.{V2Hdr}
 use Rattle.rules.specs.declared.v2.V2Row.{V2Row}
-use Rattle.rules.specs.declared.v2.V2Block.{V2Block}
-use Rattle.rules.specs.declared.v2.V2Block.the-variants.{Next, EarlyMotion, Outside, LongDifference}
 use Rattle.rules.specs.Reader.{most-filler, has-filler}
 use Rattle.rules.specs.Frame.{cells, tabulate}
 use Rattle.rules.specs.V0 as V0
@@ -34,7 +32,7 @@ use Rattle.rules.proofs.V2Longer.{block-filler}
 use Rattle.rules.proofs.V2Traced.{blocks-traced}
 use Rattle.rules.proofs.V2NoMarks as V2Old
 use Rattle.rules.proofs.V2NoMarks.{v2-unmarked}
-use Rattle.rules.proofs.V2Rows.{then-rows-cases}
+use Rattle.rules.proofs.V2Rows.{then-cases, then-rows-cases}
 
 none-there : (b : Bits) → b .filler ≡ 0 → has-filler b ≡ false
 none-there b e = rw e
@@ -134,25 +132,14 @@ V2Clear b = b .filler ≡ false
 module _ (s : List ℕ) (h : V2Hdr) (w : ℕ) where
   v2-blocks-clear : (row k col : ℕ) (b : Bits) (st : V2Row) (mode : List (List ℕ)) → V2.blocks s h w row k col b st mode .bits .filler ≡ 0
       → All V2Clear (V2.blocks s h w row k col b st mode .blocks)
-  unfolding V2.blocks V2.then
-  v2-blocks-clear row zero col b st mode e = nil
-  v2-blocks-clear row (suc k) col b st mode e =
-      go (p .outcome) refl (λ b′ st′. v2-blocks-clear row k (col + 16) b′ st′ (p .mode)) e
-    where
-      p : V2.Parsed
-      p = V2.read-block s h w row col b st mode
-
-      rest : Bits → V2Row → V2.Row
-      rest b′ st′ = V2.blocks s h w row k (col + 16) b′ st′ (p .mode)
-
-      go : (o : V2Block) → p .outcome ≡ o → ((b′ : Bits) (st′ : V2Row) → rest b′ st′ .bits .filler ≡ 0 → All V2Clear (rest b′ st′ .blocks))
-          → V2.then o (p .block) rest .bits .filler ≡ 0 → All V2Clear (V2.then o (p .block) rest .blocks)
-      go (Next b′ st′) q r e =
-          let z = leads-kept (blocks-traced s h w row k (col + 16) b′ st′ (p .mode) .leads) e in
-          more (block-filler s h w row col b st mode b′ st′ q ∙ none-there b′ z) (r b′ st′ e)
-      go (EarlyMotion b′) q r e = nil
-      go (Outside b′) q r e = nil
-      go (LongDifference b′) q r e = nil
+  unfolding V2.blocks
+  v2-blocks-clear row zero col b st mode = λ e. nil
+  v2-blocks-clear row (suc k) col b st mode =
+      let p = V2.read-block s h w row col b st mode in
+      then-cases (λ q. q .bits .filler ≡ 0 → All V2Clear (q .blocks)) (p .outcome) (p .block) _
+      (λ b′ st′ q e. let z = leads-kept (blocks-traced s h w row k (col + 16) b′ st′ (p .mode) .leads) e in
+      more (block-filler s h w row col b st mode b′ st′ q ∙ none-there b′ z) (v2-blocks-clear row k (col + 16) b′ st′ (p .mode) e))
+      (λ n b′ l m e. nil)
 
   v2-row-clear : (row : ℕ) (b : Bits) → V2.read-row s h w row b .bits .filler ≡ 0 → All V2Clear (V2.read-row s h w row b .blocks)
   unfolding V2.read-row

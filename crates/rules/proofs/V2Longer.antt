@@ -1,7 +1,7 @@
 -- V2 of a longer stream: up to the first missing word both are read alike, so their blocks are the same; what follows in the shorter
 -- one are blocks with filler.
 use Prim.Native.Nat.{ℕ, zero, suc, _+_, _*_, _/_, _≤_}
-use mathlib.Core.Bool.{Bool, true, false}
+use mathlib.Core.Bool.{true}
 use mathlib.Core.Path.{_≡_, refl, sym, ap, _∙_}
 use mathlib.Core.Logic.{_≢_}
 use mathlib.Core.List.{List, [], _∷_, _++_, append-nil}
@@ -13,14 +13,13 @@ use Rattle.rules.specs.declared.answer.Size.{Size}
 use Rattle.rules.specs.declared.reader.Bits.{Bits}
 use Rattle.rules.specs.declared.v2.V2Hdr.{V2Hdr}
 use Rattle.rules.specs.declared.v2.V2Row.{V2Row}
-use Rattle.rules.specs.declared.v2.V2Block.{V2Block}
-use Rattle.rules.specs.declared.v2.V2Block.the-variants.{Next, EarlyMotion, Outside, LongDifference}
+use Rattle.rules.specs.declared.v2.V2Block.the-variants.{Next}
 use Rattle.rules.specs.Reader.{has-filler}
 use Rattle.rules.specs.V2.{header, aligned, fresh-row, fresh-mode, Block, Parsed, read-block, state-after, Row, then, blocks, read-row, Frame, then-rows, rows, read-frame}
 use Rattle.rules.proofs.Cells.{All, nil, more, all-map}
 use Rattle.rules.proofs.Longer.{Longer, Sure, sure}
 use Rattle.rules.proofs.Traced.{leads-kept}
-use Rattle.rules.proofs.V2Rows.{then-rows-cases}
+use Rattle.rules.proofs.V2Rows.{then-cases, then-rows-cases}
 use Rattle.rules.proofs.V2Traced.{written, then-seen, then-is, header-traced, block-traced, row-traced}
 use Rattle.rules.proofs.Tests.{by-test}
 
@@ -55,25 +54,14 @@ module _ (s : List ℕ) (h : V2Hdr) (w row : ℕ) where
   -- From a state with filler on every block has filler.
   blocks-filled : (k col : ℕ) (b : Bits) (st : V2Row) (mode : List (List ℕ)) → b .filler ≢ 0
       → All (λ x. x .filler ≡ true) (blocks s h w row k col b st mode .blocks)
-  unfolding blocks then
+  unfolding blocks
   blocks-filled zero col b st mode e = nil
   blocks-filled (suc k) col b st mode e =
-      go (read-block s h w row col b st mode .outcome) refl (λ b′ st′. blocks-filled k (col + 16) b′ st′ (read-block s h w row col b st mode .mode))
-    where
-      p : Parsed
-      p = read-block s h w row col b st mode
-
-      rest : Bits → V2Row → Row
-      rest b′ st′ = blocks s h w row k (col + 16) b′ st′ (p .mode)
-
-      go : (o : V2Block) → p .outcome ≡ o → ((b′ : Bits) (st′ : V2Row) → b′ .filler ≢ 0 → All (λ x. x .filler ≡ true) (rest b′ st′ .blocks))
-          → All (λ x. x .filler ≡ true) (then o (p .block) rest .blocks)
-      go (Next b′ st′) q r =
-          let m : b′ .filler ≢ 0 = λ z. e (block-kept col b st mode b′ st′ q z) in
-          more (block-filler col b st mode b′ st′ q ∙ filler-there b′ m) (r b′ st′ m)
-      go (EarlyMotion b′) q r = nil
-      go (Outside b′) q r = nil
-      go (LongDifference b′) q r = nil
+      let p = read-block s h w row col b st mode in
+      then-cases (λ q. All (λ x. x .filler ≡ true) (q .blocks)) (p .outcome) (p .block) _
+      (λ b′ st′ q. let m : b′ .filler ≢ 0 = λ z. e (block-kept col b st mode b′ st′ q z) in
+      more (block-filler col b st mode b′ st′ q ∙ filler-there b′ m) (blocks-filled k (col + 16) b′ st′ (p .mode) m))
+      (λ n b′ l m. nil)
 
 module _ (s u : List ℕ) (longer : Longer s u) (h : V2Hdr) (w row : ℕ) where
   blocks-split : (k col : ℕ) (b : Bits) (st : V2Row) (mode : List (List ℕ))
@@ -81,37 +69,27 @@ module _ (s u : List ℕ) (longer : Longer s u) (h : V2Hdr) (w row : ℕ) where
   unfolding blocks then-seen
   blocks-split zero col b st mode = apart nil
   blocks-split (suc k) col b st mode =
-      rw (then-is (p s .outcome) (p s .block) _, then-is (p u .outcome) (p u .block) _)
-      (go (p s .outcome) refl (λ b′ st′. blocks-split k (col + 16) b′ st′ (p s .mode))
-      (λ b′ st′. blocks-filled s h w row k (col + 16) b′ st′ (p s .mode)))
+      then-cases (λ q. Split (q .blocks) (other .blocks)) (p s .outcome) (p s .block) _
+      (λ b′ st′ e. by-test (eqb (b′ .filler) 0)
+      (λ z. rw (as-seen (ap (λ o. state-after o .filler) e ∙ eqb-true (b′ .filler) 0 z), e) (same (blocks-split k (col + 16) b′ st′ (p s .mode))))
+      (λ z. let m : b′ .filler ≢ 0 = eqb-false (b′ .filler) 0 z in
+      apart (more (block-filler s h w row col b st mode b′ st′ e ∙ filler-there b′ m) (blocks-filled s h w row k (col + 16) b′ st′ (p s .mode) m))))
+      (λ n b′ l m. apart nil)
     where
       p : List ℕ → Parsed
       p v = read-block v h w row col b st mode
 
-      rest : List ℕ → List (List ℕ) → Bits → V2Row → Row
-      rest v m b′ st′ = blocks v h w row k (col + 16) b′ st′ m
+      rest : List (List ℕ) → Bits → V2Row → Row
+      rest m b′ st′ = blocks u h w row k (col + 16) b′ st′ m
 
       other : Row
-      other = then-seen (p u .outcome) (written (p u .outcome) (p u .block)) (rest u (p u .mode))
+      other = then (p u .outcome) (p u .block) (rest (p u .mode))
 
       -- Where no word was missing by the block's end, the other stream has the same block.
-      as-seen : state-after (p s .outcome) .filler ≡ 0 → other ≡ then-seen (p s .outcome) (written (p s .outcome) (p s .block)) (rest u (p s .mode))
-      as-seen e = ap (λ x. then-seen (x .outcome) (x .blocks) (rest u (x .mode))) (sym (sure s u longer (block-traced s h w row col b st mode) .same e))
-
-      go : (o : V2Block) → p s .outcome ≡ o → ((b′ : Bits) (st′ : V2Row) → Split (rest s (p s .mode) b′ st′ .blocks) (rest u (p s .mode) b′ st′ .blocks))
-          → ((b′ : Bits) (st′ : V2Row) → b′ .filler ≢ 0 → All (λ x. x .filler ≡ true) (rest s (p s .mode) b′ st′ .blocks))
-          → Split (then-seen o (written o (p s .block)) (rest s (p s .mode)) .blocks) (other .blocks)
-      go (Next b′ st′) e r f = at (eqb (b′ .filler) 0) refl
-        where
-          at : (t : Bool) → eqb (b′ .filler) 0 ≡ t → Split (p s .block ∷ rest s (p s .mode) b′ st′ .blocks) (other .blocks)
-          at true z =
-              rw (as-seen (ap (λ o. state-after o .filler) e ∙ eqb-true (b′ .filler) 0 z), e) (same (r b′ st′))
-          at false z =
-              let m : b′ .filler ≢ 0 = eqb-false (b′ .filler) 0 z in
-              apart (more (block-filler s h w row col b st mode b′ st′ e ∙ filler-there b′ m) (f b′ st′ m))
-      go (EarlyMotion b′) e r f = apart nil
-      go (Outside b′) e r f = apart nil
-      go (LongDifference b′) e r f = apart nil
+      as-seen : state-after (p s .outcome) .filler ≡ 0 → other ≡ then-seen (p s .outcome) (written (p s .outcome) (p s .block)) (rest (p s .mode))
+      as-seen e =
+          then-is (p u .outcome) (p u .block) _
+          ∙ ap (λ x. then-seen (x .outcome) (x .blocks) (rest (x .mode))) (sym (sure s u longer (block-traced s h w row col b st mode) .same e))
 
 -- ── A frame ──
 
@@ -206,30 +184,16 @@ module _ (s : List ℕ) (h : V2Hdr) (w : ℕ) where
 
   blocks-run : (row k col : ℕ) (b : Bits) (st : V2Row) (mode : List (List ℕ))
       → Run (row * w + col) (row * w + col + 16 * k) (blocks s h w row k col b st mode .blocks)
-  unfolding blocks then
+  unfolding blocks
   blocks-run row zero col b st mode = let l : row * w + col ≤ row * w + col + 0 = omega arith in stop l
   blocks-run row (suc k) col b st mode =
-      go (p .outcome) (λ b′ st′. blocks-run row k (col + 16) b′ st′ (p .mode))
-    where
-      p : Parsed
-      p = read-block s h w row col b st mode
-
-      rest : Bits → V2Row → Row
-      rest b′ st′ = blocks s h w row k (col + 16) b′ st′ (p .mode)
-
-      on : row * w + col ≤ row * w + col + 16 * suc k
-      on = omega arith
-
-      go : (o : V2Block) → ((b′ : Bits) (st′ : V2Row) → Run (row * w + (col + 16)) (row * w + (col + 16) + 16 * k) (rest b′ st′ .blocks))
-          → Run (row * w + col) (row * w + col + 16 * suc k) (then o (p .block) rest .blocks)
-      go (Next b′ st′) r =
-          let e = place-is row col b st mode in
-          let l : row * w + col ≤ p .block .place = omega arith in
-          let on : Run (p .block .place + 16) (row * w + col + 16 * suc k) (rest b′ st′ .blocks) = run-widen (r b′ st′) (omega arith) (omega arith) in
-          step l on
-      go (EarlyMotion b′) r = stop on
-      go (Outside b′) r = stop on
-      go (LongDifference b′) r = stop on
+      let p = read-block s h w row col b st mode in
+      let on : row * w + col ≤ row * w + col + 16 * suc k = omega arith in
+      then-cases (λ q. Run (row * w + col) (row * w + col + 16 * suc k) (q .blocks)) (p .outcome) (p .block) _
+      (λ b′ st′ q. let e = place-is row col b st mode in
+      let l : row * w + col ≤ p .block .place = omega arith in
+      step l (run-widen (blocks-run row k (col + 16) b′ st′ (p .mode)) (omega arith) (omega arith)))
+      (λ n b′ l m. stop on)
 
   row-run : (row : ℕ) (b : Bits) → Run (row * w) (suc row * w) (read-row s h w row b .blocks)
   unfolding read-row
