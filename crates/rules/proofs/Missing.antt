@@ -22,7 +22,7 @@ use Rattle.rules.specs.V2 as V2
 use Rattle.rules.proofs.Cells.{All, nil, more}
 use Rattle.rules.proofs.V2Rows.{then-rows-cases}
 use Rattle.rules.proofs.ReaderLaws.{fetched-there, fetched-missing, counted-there, counted-more, read-held, read-next}
-use Rattle.rules.proofs.Tests.{by-test}
+use Rattle.rules.proofs.Tests.{by-test, or-true, or-false}
 use Rattle.rules.proofs.Traced.{Field, Leads, arrived, next}
 use Rattle.rules.proofs.V0Blocks.{after}
 use Rattle.rules.proofs.V0Traced.{block-traced}
@@ -80,15 +80,7 @@ none-missing s r z = let e = run-counts s r (omega arith) in (λ q. omega arith,
 counted-flag : (n : ℕ) (t : Bool) → not (eqb (counted n t) 0) ≡ not (eqb n 0) || t
 counted-flag n true =
     ap (λ (k : ℕ). not (eqb k 0)) (counted-more n) ∙ ap not (ne-eqb (min (n + 1) most-filler) 0 (λ e. omega arith)) ∙ sym (or-true (not (eqb n 0)))
-  where
-    or-true : (x : Bool) → x || true ≡ true
-    or-true true = refl
-    or-true false = refl
 counted-flag n false = ap (λ (k : ℕ). not (eqb k 0)) (counted-there n) ∙ sym (or-false (not (eqb n 0)))
-  where
-    or-false : (x : Bool) → x || false ≡ x
-    or-false true = refl
-    or-false false = refl
 
 flag-append : (s : List ℕ) (o : Bool) (ps qs : List ℕ) → flag-after s o (ps ++ qs) ≡ flag-after s (flag-after s o ps) qs
 unfolding flag-after

@@ -6,7 +6,7 @@ use mathlib.Core.Path.{_≡_, refl, ap₂, _∙_}
 use mathlib.Core.List.{List, [], _∷_}
 use native.Mathlib.Omega.{arith}
 use lib.Dec.{lit<}
-use lib.ListN.{getD, replicate}
+use lib.ListN.{getD}
 use lib.Seq.{sets}
 use Rattle.rules.specs.declared.answer.Size.{Size}
 use Rattle.rules.specs.declared.reader.Bits.{Bits}
@@ -21,7 +21,7 @@ use Rattle.rules.specs.Frame.{cells, tabulate}
 use Rattle.rules.specs.V0 as V0
 use Rattle.rules.specs.V2 as V2
 use Rattle.rules.specs.Map.{all-old, old-part, v0-marks, v2-marks, v0-map, v2-map}
-use Rattle.rules.proofs.Cells.{All, nil, more, all-append, all-get, all-set, Each, none, both}
+use Rattle.rules.proofs.Cells.{All, nil, more, all-append, all-get, all-replicate, all-set, Each, none, both}
 use Rattle.rules.proofs.Parts.{either-below}
 use Rattle.rules.proofs.V0Blocks.{block, after}
 use Rattle.rules.proofs.Traced.{leads-kept}
@@ -36,10 +36,6 @@ use Rattle.rules.proofs.V2Rows.{then-cases, then-rows-cases}
 
 none-there : (b : Bits) → b .filler ≡ 0 → has-filler b ≡ false
 none-there b e = rw e
-
-entry : (n : ℕ) → All (λ x. x < 2) (replicate n 1)
-entry zero = nil
-entry (suc n) = more (lit< tt) (entry n)
 
 -- ── V0 ──
 
@@ -109,7 +105,7 @@ exchange-low w (suc n) row h = exchange-low w n (row + 2) (columns-low w row (w 
 -- V0 whose count of missing words is 0 has no byte with 2 ..
 pub v0-no-filler : (s offsets : List ℕ) (z : Size) → V0.frame-filler s offsets z ≡ 0 → All Low (v0-map s offsets z)
 unfolding V0.frame-filler v0-map V0.frame V0.exchange
-v0-no-filler s offsets z e = exchange-low (z .width) (z .height / 2) 0 (write-low (rows-clear s offsets z (z .height) 0 0 e .1) (entry (cells z)))
+v0-no-filler s offsets z e = exchange-low (z .width) (z .height / 2) 0 (write-low (rows-clear s offsets z (z .height) 0 0 e .1) (all-replicate Low (cells z) (lit< tt)))
 
 -- .. so that its map is that of first parts alone, as a map was that knew no filler ..
 pub v0-as-before : (s offsets : List ℕ) (z : Size) → V0.frame-filler s offsets z ≡ 0 → v0-map s offsets z ≡ V0.frame V0Old.old-kind s offsets z (all-old z)
@@ -176,7 +172,7 @@ pub v2-no-filler : (s : List ℕ) (z : Size) → V2.read-frame s z .answer .numb
 unfolding v2-map V2.frame V2.read-frame
 v2-no-filler s z e =
     let x = V2.header s in
-    v2-apply-low (v2-rows-clear s (x .hdr) (z .width) (z .height) 0 (x .bits) e) (entry (cells z))
+    v2-apply-low (v2-rows-clear s (x .hdr) (z .width) (z .height) 0 (x .bits) e) (all-replicate Low (cells z) (lit< tt))
 
 -- .. its map is that of first parts alone ..
 pub v2-as-before : (s : List ℕ) (z : Size) → V2.read-frame s z .answer .number ≡ 0 → v2-map s z ≡ V2.frame V2Old.old-kind s z (all-old z)

@@ -7,7 +7,7 @@ use native.Mathlib.Nat.{mul-le-mul}
 use native.Mathlib.Omega.{arith}
 use lib.Dec.{eqb, ltb, lit≤, lit<}
 use lib.IntN.{ℤ, pos, negsuc, natAbs, negℤ, subℕ, _+ℤ_, _*ℤ_}
-use lib.ListN.{getD, set, replicate}
+use lib.ListN.{getD, replicate}
 use lib.Pow.{pow-mono, pow-pos}
 use lib.Signed.{mag, natAbs-le}
 use borrow.Author.Tests.{ltb-false, eqb-true}
@@ -21,7 +21,7 @@ use Rattle.rules.specs.declared.v2.V2Block.the-variants.{Next}
 use Rattle.rules.specs.Reader.{fresh, read, four}
 use Rattle.rules.specs.Ranges.{Between, not-above, not-below, ScaleAt, Small, Fits}
 use Rattle.rules.specs.V2.{field-widths, header, top, option-2, option-4, scale-steps, rescaled, read-scale, read-motion, Base, given, copied, averaged, repeated, referred, base, motion-averages, refers-before, base-refusal, lengths-bit, Moded, length-step, lengths-from, no-lengths, flagged-lengths, read-lengths, position, Differences, difference-step, differences-from, read-differences, tail, based-tail, Block, read-block, blocks, fresh-row, fresh-mode, aligned, read-row, rows, read-frame, base-cell, average, value, sample-kind}
-use Rattle.rules.proofs.Cells.{All, nil, more, all-append, all-get, all-map, each-of, all-of, each-set}
+use Rattle.rules.proofs.Cells.{All, nil, more, all-append, all-get, all-map, all-set, all-replicate}
 use Rattle.rules.proofs.ReaderLaws.{read-below, fields-below, read-signed-mag}
 use Rattle.rules.proofs.V2Rows.{then-cases, then-rows-cases}
 use Rattle.rules.proofs.Tests.{by-test}
@@ -108,13 +108,6 @@ motion-most s h motion b l =
     (λ f. rw f (by-test (eqb (read s b 1 .value) 0) (λ e. rw e (omega (arith, read-below s (read s b 1 .bits) 3))) (λ e. rw e l)))
 
 -- ── 4. lengths ──
-
-all-set : {A : Type 0} (P : A → Type 0) {xs : List A} → All P xs → (j : ℕ) {v : A} → P v → All P (set xs j v)
-all-set P ps j {v} p = all-of P (each-set (λ a b. P a) (each-of P ps) j {b = v} p)
-
-all-replicate : {A : Type 0} (P : A → Type 0) (n : ℕ) {v : A} → P v → All P (replicate n v)
-all-replicate P zero p = nil
-all-replicate P (suc n) p = more p (all-replicate P n p)
 
 abbrev pub Most : ℕ → ℕ → Type 0
 Most n x = x ≤ n
