@@ -2,7 +2,7 @@
 -- read of every stream u that agrees with s in its first p bytes. Whatever is made of fields has one; and what the reader's position
 -- says of the words.
 use Prim.Native.Nat.{ℕ, _+_, _*_, _^_, _≤_, _<_, min}
-use mathlib.Core.Bool.{Bool, true, false, cond, _&&_}
+use mathlib.Core.Bool.{false, _&&_}
 use mathlib.Core.Path.{_≡_, refl, sym, ap, _∙_}
 use mathlib.Core.List.{List, [], _∷_, _++_}
 use mathlib.Core.Logic.{_⊎_, inl, inr}
@@ -15,7 +15,7 @@ use Rattle.rules.specs.Reader.{held, read}
 use Rattle.rules.specs.Missing.{fetches}
 use Rattle.rules.proofs.Cells.{All, nil, more, all-append, all-map, all-head, all-parts}
 use Rattle.rules.proofs.ReaderLaws.{read-held, read-next, read-agree}
-use Rattle.rules.proofs.Tests.{by-test}
+use Rattle.rules.proofs.Tests.{by-test, and-false}
 use Rattle.rules.proofs.Traced.{Field, Leads, arrived, next, ReadAlike, Traced}
 use Rattle.late.specs.Late.{AgreeIn, fetched-past, Reads, stay, reads}
 
@@ -134,19 +134,16 @@ none-long (q ∷ ps) e = absurd (omega arith)
 
 pub tells : (s : List ℕ) (p : ℕ) {b c : Bits} {ps : List ℕ} → Reads s b ps c → b .pos + 4 * length ps < 2 ^ 64 → Tells p b c ps
 unfolding fetched-past
-tells s p {b = b} {c = c} {ps = ps} r l = record { below = down (ltb (b .pos) (c .pos)) refl (ltb p (c .pos)) refl; not-past = λ a. up (below-ends s p r l a) }
+tells s p {b = b} {c = c} {ps = ps} r l =
+    record {
+      below = λ f. by-test (ltb (b .pos) (c .pos))
+          (λ e. let q : c .pos ≤ p = ltb-false p (c .pos) (rw e at f) in all-map _ _ (λ w h. omega arith) (moved .1))
+          (λ e. let q : c .pos ≤ b .pos = ltb-false (b .pos) (c .pos) e in none-long ps (omega (arith, moved .0)));
+      not-past = λ a. up (below-ends s p r l a);
+    }
   where
     moved : (c .pos ≡ b .pos + 4 * length ps) × Below (c .pos) ps
     moved = run-moves s r l
-
-    down : (t : Bool) → ltb (b .pos) (c .pos) ≡ t → (v : Bool) → ltb p (c .pos) ≡ v → t && v ≡ false → Below p ps
-    down true e true e′ f = absurd (let z : _≡_ {A = ℕ} 1 0 = ap (λ t. cond t 1 0) f in omega arith)
-    down true e false e′ f = let q : c .pos ≤ p = ltb-false p (c .pos) e′ in all-map _ _ (λ w h. omega arith) (moved .1)
-    down false e v e′ f = let q : c .pos ≤ b .pos = ltb-false (b .pos) (c .pos) e in none-long ps (omega (arith, moved .0))
-
-    and-false : (t : Bool) → t && false ≡ false
-    and-false true = refl
-    and-false false = refl
 
     up : (c .pos ≡ b .pos) ⊎ (c .pos ≤ p) → ltb (b .pos) (c .pos) && ltb p (c .pos) ≡ false
     up (inl q) = ap (λ t. t && ltb p (c .pos)) (le-ltb (b .pos) (c .pos) (omega arith))
