@@ -21,7 +21,7 @@ use Rattle.rules.proofs.ReaderLaws.{held-is, read-held, read-next, fields-none,
 use Rattle.rules.proofs.V2Longer.{run-from, rows-run}
 use Rattle.rules.proofs.V2Position.{PositionAt, position-starts, position-next, position-below, aligned-plain}
 use Rattle.rules.proofs.V2Rows.{then-rows-cases}
-use Rattle.rules.proofs.Tests.{by-test}
+use Rattle.rules.proofs.Tests.{by-test, both}
 use Rattle.late.specs.Late.{AgreeIn, header-bytes, fetched-past, first-past-from, first-past, state-after, none-refused, Reads}
 use Rattle.late.proofs.Trail.{Below, Tells, tells, run-moves}
 use Rattle.late.proofs.V2Trail.{header-trail, row-trail}
@@ -90,54 +90,36 @@ module _ (p : ℕ) (s : List ℕ) (h : V2Hdr) (w : ℕ) (wide : w ≤ 16_384) wh
       → none-refused s h w row n b ≡ true → Below p (row-words s h w m (state-after s h w row n b) .words)
   unfolding first-past-from none-refused state-after
   early-rows zero row high b at m n e l r u = absurd (omega arith)
-  early-rows (suc k) row high b at m n e l r u =
-      go (fetched-past p (aligned b) (q .bits)) refl (eqb (q .number) 0) refl n e l r u
-      (early-rows k (suc row) (omega arith) (q .bits) (position-next s h w row b at) m)
-      (words-tell row (omega arith) b at .below)
-    where
-      q : Row
-      q = read-row s h w row b
-
-      go : (x : Bool) → fetched-past p (aligned b) (q .bits) ≡ x → (y : Bool) → eqb (q .number) 0 ≡ y → (n : ℕ) → m ≡ row + n
-          → m < cond x row (cond y (first-past-from p s h w k (suc row) (q .bits)) (row + suc k)) → n < suc k → none-refused s h w row n b ≡ true
-          → ((i : ℕ) → m ≡ suc row + i → m < first-past-from p s h w k (suc row) (q .bits) → i < k → none-refused s h w (suc row) i (q .bits) ≡ true
-          → Below p (row-words s h w m (state-after s h w (suc row) i (q .bits)) .words))
-          → (fetched-past p (aligned b) (q .bits) ≡ false → Below p (row-words s h w row b .words))
-          → Below p (row-words s h w m (state-after s h w row n b) .words)
-      go true e y e′ n i l r u next here = absurd (omega arith)
-      go false e y e′ zero i l r u next here = let z : row ≡ m = omega arith in subst (λ a. Below p (row-words s h w a b .words)) z (here e)
-      go false e true e′ (suc n) i l r u next here = next n (omega arith) l (omega arith) (rw e′ at u)
-      go false e false e′ (suc n) i l r u next here = absurd (let z : _≡_ {A = ℕ} 0 1 = ap (λ t. cond t 1 0) (rw e′ at u) in omega arith)
+  early-rows (suc k) row high b at m zero e l r u =
+      by-test (fetched-past p (aligned b) (read-row s h w row b .bits))
+      (λ f. absurd (let o : m < row = rw f at l in omega arith))
+      (λ f. let z : row ≡ m = omega arith in subst (λ a. Below p (row-words s h w a b .words)) z (words-tell row (omega arith) b at .below f))
+  early-rows (suc k) row high b at m (suc n) e l r u =
+      let q = read-row s h w row b in
+      let v = both (eqb (q .number) 0) (none-refused s h w (suc row) n (q .bits)) u in
+      by-test (fetched-past p (aligned b) (q .bits))
+      (λ f. absurd (let o : m < row = rw f at l in omega arith))
+      (λ f. early-rows k (suc row) (omega arith) (q .bits) (position-next s h w row b at) m n (omega arith) (rw (f, v .0) at l) (omega arith) (v .1))
 
   -- .. and the row itself does fetch one.
   first-row : (k row : ℕ) → row + k ≤ 16_384 → (b : Bits) → PositionAt w row b → (m n : ℕ) → m ≡ row + n → m ≡ first-past-from p s h w k row b → n < k
       → Below p (row-words s h w m (state-after s h w row n b) .words) → ⊥
   unfolding first-past-from state-after
-  first-row zero row high b at m n e l r = absurd (omega arith)
-  first-row (suc k) row high b at m n e l r =
-      go (fetched-past p (aligned b) (q .bits)) refl (eqb (q .number) 0) refl n e l r
-      (first-row k (suc row) (omega arith) (q .bits) (position-next s h w row b at) m)
-      (words-tell row (omega arith) b at .not-past) (first-least k (suc row) (q .bits))
-    where
-      q : Row
-      q = read-row s h w row b
-
-      go : (x : Bool) → fetched-past p (aligned b) (q .bits) ≡ x → (y : Bool) → eqb (q .number) 0 ≡ y → (n : ℕ) → m ≡ row + n
-          → m ≡ cond x row (cond y (first-past-from p s h w k (suc row) (q .bits)) (row + suc k)) → n < suc k
-          → ((i : ℕ) → m ≡ suc row + i → m ≡ first-past-from p s h w k (suc row) (q .bits) → i < k
-          → Below p (row-words s h w m (state-after s h w (suc row) i (q .bits)) .words) → ⊥)
-          → (Below p (row-words s h w row b .words) → fetched-past p (aligned b) (q .bits) ≡ false)
-          → suc row ≤ first-past-from p s h w k (suc row) (q .bits)
-          → Below p (row-words s h w m (state-after s h w row n b) .words) → ⊥
-      go true e y e′ zero i l r next here least a =
-          let z : m ≡ row = omega arith in
-          let f = here (subst (λ c. Below p (row-words s h w c b .words)) z a) in
-          let t : true ≡ false = sym e ∙ f in
-          let o : _≡_ {A = ℕ} 1 0 = ap (λ v. cond v 1 0) t in omega arith
-      go true e y e′ (suc n) i l r next here least a = omega arith
-      go false e true e′ zero i l r next here least a = omega arith
-      go false e true e′ (suc n) i l r next here least a = next n (omega arith) l (omega arith) a
-      go false e false e′ n i l r next here least a = omega arith
+  first-row zero row high b at m n e l r a = omega arith
+  first-row (suc k) row high b at m zero e l r a =
+      let q = read-row s h w row b in
+      let z : m ≡ row = omega arith in
+      let f = words-tell row (omega arith) b at .not-past (subst (λ c. Below p (row-words s h w c b .words)) z a) in
+      by-test (eqb (q .number) 0)
+      (λ g. let o : m ≡ first-past-from p s h w k (suc row) (q .bits) = rw (f, g) at l in omega (arith, first-least k (suc row) (q .bits)))
+      (λ g. let o : m ≡ row + suc k = rw (f, g) at l in omega arith)
+  first-row (suc k) row high b at m (suc n) e l r a =
+      let q = read-row s h w row b in
+      by-test (fetched-past p (aligned b) (q .bits))
+      (λ f. let o : m ≡ row = rw f at l in omega arith)
+      (λ f. by-test (eqb (q .number) 0)
+      (λ g. first-row k (suc row) (omega arith) (q .bits) (position-next s h w row b at) m n (omega arith) (rw (f, g) at l) (omega arith) a)
+      (λ g. let o : m ≡ row + suc k = rw (f, g) at l in omega arith))
 
 -- ── Two frames ──
 
@@ -168,17 +150,13 @@ alike-equal w r x y e =
 -- The same row before both.
 alike-then : (w r row : ℕ) (q : Row) (x y : Frame) → Alike w r x y → Alike w r (then-rows row q x) (then-rows row q y)
 unfolding then-rows
-alike-then w r row q x y a = go (eqb (q .number) 0) (eqb (q .bits .filler) 0)
+alike-then w r row q x y a =
+    by-test (eqb (q .number) 0)
+    (λ e. rw e (by-test (eqb (q .bits .filler) 0) (λ m. rw m after) (λ m. rw m (alike-equal w r _ _ refl))))
+    (λ e. rw e (alike-equal w r _ _ refl))
   where
-    missing : Frame
-    missing = record { blocks = q .blocks; answer = record { number = 8; row = row; filler = q .bits .filler } }
-
-    refused : Frame
-    refused = record { blocks = q .blocks; answer = record { number = q .number; row = row; filler = q .bits .filler } }
-
-    go : (t v : Bool) → Alike w r (cond {A = Frame} t (cond v (record { blocks = q .blocks ++ x .blocks; answer = x .answer }) missing) refused)
-        (cond {A = Frame} t (cond v (record { blocks = q .blocks ++ y .blocks; answer = y .answer }) missing) refused)
-    go true true =
+    after : Alike w r (record { blocks = q .blocks ++ x .blocks; answer = x .answer }) (record { blocks = q .blocks ++ y .blocks; answer = y .answer })
+    after =
         record {
           early = q .blocks ++ a .early;
           late = a .late;
@@ -189,8 +167,6 @@ alike-then w r row q x y a = go (eqb (q .number) 0) (eqb (q .bits .filler) 0)
           low′ = a .low′;
           refusal = a .refusal;
         }
-    go true false = alike-equal w r missing missing refl
-    go false v = alike-equal w r refused refused refl
 
 -- A refusal names one of the rows read.
 refused-row : (s : List ℕ) (h : V2Hdr) (w k row : ℕ) (b : Bits) → rows s h w k row b .answer .number ≢ 0 → row ≤ rows s h w k row b .answer .row

@@ -6,7 +6,7 @@ use mathlib.Core.Path.{_≡_, refl, sym, ap, ap₂, _∙_}
 use mathlib.Core.Logic.{_≢_, by-cases}
 use mathlib.Core.List.{List, [], _∷_}
 use native.Mathlib.Omega.{arith}
-use lib.Dec.{ltb, leb, eqb}
+use lib.Dec.{ltb, eqb}
 use lib.IntN.{ℤ, pos, negsuc}
 use lib.ListN.{length, getD, replicate}
 use native.Mathlib.Decide.{ℕ-discrete, decLt}
@@ -26,9 +26,10 @@ use Rattle.rules.specs.Answer.{done}
 use Rattle.rules.proofs.Cells.{All, nil, more}
 use Rattle.rules.proofs.Tests.{clash, by-test}
 use Rattle.rules.proofs.Longer.{no-filler}
-use Rattle.rules.proofs.V0Blocks.{block, after, EachBlock, EachInRow, each-block, each-block-map}
+use Rattle.rules.proofs.V0Blocks.{after, EachBlock, EachInRow, each-block, each-block-map}
 use Rattle.rules.proofs.V0Cells.{v0-map-length}
-use Rattle.rules.proofs.V0Longer.{block-sure}
+use Rattle.rules.proofs.Traced.{leads-kept}
+use Rattle.rules.proofs.V0Traced.{block-traced}
 use Rattle.rules.proofs.V0NoMarks.{NoUpward}
 use Rattle.rules.proofs.NoFiller.{v0-all-0}
 use Rattle.profile.specs.Profile.{fits, all-fit, first-fault, block-fault, or-next, blocks-fault, row-fault, fault-at, rows-verdict, verdict}
@@ -207,7 +208,7 @@ module _ (s : List ℕ) (first : ℕ) (predict : ℕ → Bool → ℕ → Predic
   blocks-there zero col st e = (e, tt)
   blocks-there (suc n) col st e =
       let q = blocks-there n (col + 16) (after s first predict col st) e in
-      (block-sure s s (λ b m r. refl) first predict col st .kept (q .0), (q .0, q .1))
+      (leads-kept (block-traced s first predict col st .leads) (q .0), (q .0, q .1))
 
   -- .. and the other way round.
   there-blocks : (n col : ℕ) (st : V0Row) → st .bits .filler ≡ 0 → EachBlock s first predict (λ h b. b .filler ≡ 0) n col st

@@ -1,22 +1,22 @@
 -- A count of 0 says that nothing is missing: a longer stream then decodes to the same frame and map, and V2 answers the same, with a
 -- refusal too.
-use Prim.Native.Nat.{ℕ, zero, suc, _+_, _*_}
-use mathlib.Core.Path.{_≡_, refl, sym, ap, ap₂, _∙_}
+use Prim.Native.Nat.{ℕ, zero, suc}
+use mathlib.Core.Path.{_≡_, refl, ap, ap₂, _∙_}
 use mathlib.Core.Logic.{_≢_, _⊎_, inl, inr}
-use mathlib.Core.List.{List, [], _∷_, _++_}
+use mathlib.Core.List.{List, _∷_}
 use borrow.Author.Tests.{ne-eqb}
 use Rattle.rules.specs.declared.answer.Size.{Size}
 use Rattle.rules.specs.declared.reader.Bits.{Bits}
 use Rattle.rules.specs.declared.v2.V2Hdr.{V2Hdr}
-use Rattle.rules.specs.Frame.{cells}
 use Rattle.rules.specs.V0 as V0
 use Rattle.rules.specs.V2 as V2
 use Rattle.rules.specs.Map.{all-old, v2-marks, v0-map, v2-map}
 use Rattle.rules.proofs.Cells.{All, nil, more, Each, none, both}
-use Rattle.rules.proofs.Longer.{Longer}
+use Rattle.rules.proofs.Longer.{Longer, sure}
 use Rattle.rules.proofs.NoFiller.{Clear, rows-clear}
 use Rattle.rules.proofs.V0Longer.{Alike, rows-alike}
-use Rattle.rules.proofs.V2Longer.{header-sure, row-sure}
+use Rattle.rules.proofs.V2Longer.{row-sure}
+use Rattle.rules.proofs.V2Traced.{header-traced}
 use Rattle.rules.proofs.V2Rows.{then-rows-cases}
 
 -- ── V0 ──
@@ -86,7 +86,7 @@ module _ (s u : List ℕ) (longer : Longer s u) (z : Size) (clear : V2.read-fram
   unfolding V2.read-frame
   header-same =
       let x = V2.header s in
-      header-sure s u longer .same (rows-complete s u longer (x .hdr) (z .width) (z .height) 0 (x .bits) clear .0)
+      sure s u longer (header-traced s) .same (rows-complete s u longer (x .hdr) (z .width) (z .height) 0 (x .bits) clear .0)
 
   -- The blocks and the answer are the same.
   pub v2-frame-same : V2.read-frame s z ≡ V2.read-frame u z

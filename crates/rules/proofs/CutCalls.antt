@@ -2,14 +2,12 @@
 -- decoder, offsets and size, on any buffers, and both ended with done or 5 to 8. Where the first call's map has byte 0, the second's
 -- has byte 0 and both left the same sample. A map need not be lent: the bytes are the rules'.
 use Prim.Native.Nat.{ℕ, _<_}
-use mathlib.Core.Path.{_≡_, refl, sym, ap, _∙_, subst}
+use mathlib.Core.Path.{_≡_, sym, ap, _∙_, subst}
 use mathlib.Core.List.{List, _++_}
-use mathlib.Core.Option.{some}
 use lib.ListN.{length, getD, take}
-use lib.Seq.{getD-take, length-take-le}
 use Rattle.rules.specs.declared.answer.Size.{Size}
 use Rattle.rules.specs.Frame.{cells}
-use Rattle.rules.specs.Answer.{Decoder, direct, two-phase, v2, Ask, ask, lengths, marks, frame-samples, frame-marks, refusal}
+use Rattle.rules.specs.Answer.{Decoder, direct, two-phase, v2, lengths, marks, frame-samples, frame-marks, refusal}
 use Rattle.rules.proofs.Isolation.{Returned, Ran, ran-passed, before, before-length, sample-framed}
 use Rattle.rules.proofs.Longer.{Longer, longer-append}
 use Rattle.rules.proofs.TwoPhase.{two-phase-direct}

@@ -7,10 +7,12 @@ pub mod Pins
 pub mod ReaderLaws
 pub mod Longer
 pub mod Tests
+pub mod Traced
 pub mod Refusals
 pub mod Order
 pub mod Predictors
 pub mod V0Blocks
+pub mod V0Traced
 pub mod V0Bounds
 pub mod V0Cells
 pub mod Origins
@@ -29,6 +31,7 @@ pub mod V2References
 pub mod V2Bounds
 pub mod V2Position
 pub mod V2Rows
+pub mod V2Traced
 pub mod V2Fixed
 pub mod V2NoMarks
 pub mod V2Longer

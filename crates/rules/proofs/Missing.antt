@@ -1,35 +1,32 @@
 -- What a count of missing words says: it is the number of the words fetched that don't lie wholly in the stream, held at 2^64 − 1.
 -- So it never falls, it is 0 exactly if a flag would be false, and a stream that has every word has count 0. A V0 frame's count is
 -- the sum over its rows, each of which is a run of reads from its offset; V2's is that of one run from the header on.
-use Prim.Native.Nat.{ℕ, zero, suc, _+_, _-_, _*_, _/_, _^_, _%_, _≤_, _<_, min}
-use mathlib.Core.Bool.{Bool, true, false, cond, not, _&&_, _||_}
-use mathlib.Core.Path.{_≡_, refl, sym, ap, ap₂, _∙_}
+use Prim.Native.Nat.{ℕ, zero, suc, _+_, _-_, _*_, _≤_, _<_, min}
+use mathlib.Core.Bool.{Bool, true, false, cond, not, _||_}
+use mathlib.Core.Path.{_≡_, refl, sym, ap, _∙_}
 use mathlib.Core.List.{List, [], _∷_, _++_}
 use native.Mathlib.Omega.{arith}
-use lib.IntN.{ℤ}
 use lib.ListN.{length, getD}
 use lib.Dec.{leb, eqb}
 use borrow.Author.Tests.{leb-true, leb-false, le-leb, ne-eqb}
 use Rattle.rules.specs.declared.answer.Answer.{Answer}
 use Rattle.rules.specs.declared.answer.Size.{Size}
 use Rattle.rules.specs.declared.reader.Bits.{Bits}
-use Rattle.rules.specs.declared.reader.Got.{Got}
 use Rattle.rules.specs.declared.v0.Predictor.{Predictor}
 use Rattle.rules.specs.declared.v0.V0Row.{V0Row}
-use Rattle.rules.specs.declared.v0.V0Length.{V0Length}
 use Rattle.rules.specs.declared.v2.V2Hdr.{V2Hdr}
-use Rattle.rules.specs.declared.v2.V2Row.{V2Row}
-use Rattle.rules.specs.declared.v2.V2Scale.{V2Scale}
-use Rattle.rules.specs.declared.v2.V2Block.{V2Block}
-use Rattle.rules.specs.declared.v2.V2Block.the-variants.{Next, EarlyMotion, Outside, LongDifference}
-use Rattle.rules.specs.Reader.{fetched, most-filler, counted, has-filler, fresh, reset-at, held, read, fields, four, read-signed, read-residual}
+use Rattle.rules.specs.Reader.{fetched, most-filler, counted, has-filler, fresh, reset-at, held, read}
 use Rattle.rules.specs.Missing.{past-end, missing-of, flag-after, fetches, Run, stay, reads, resets, rows-sum}
 use Rattle.rules.specs.V0 as V0
 use Rattle.rules.specs.V2 as V2
 use Rattle.rules.proofs.Cells.{All, nil, more}
 use Rattle.rules.proofs.V2Rows.{then-rows-cases}
-use Rattle.rules.proofs.ReaderLaws.{fetched-there, fetched-missing, counted-there, counted-more, read-held, read-next, fields-none, fields-more, four-fields, read-signed-is, read-residual-is}
-use Rattle.rules.proofs.Tests.{by-test}
+use Rattle.rules.proofs.ReaderLaws.{fetched-there, fetched-missing, counted-there, counted-more, read-held, read-next}
+use Rattle.rules.proofs.Tests.{by-test, or-true, or-false}
+use Rattle.rules.proofs.Traced.{Field, Leads, arrived, next}
+use Rattle.rules.proofs.V0Blocks.{after}
+use Rattle.rules.proofs.V0Traced.{block-traced}
+use Rattle.rules.proofs.V2Traced.{header-traced, row-traced}
 
 -- ── One read ──
 
@@ -83,15 +80,7 @@ none-missing s r z = let e = run-counts s r (omega arith) in (λ q. omega arith,
 counted-flag : (n : ℕ) (t : Bool) → not (eqb (counted n t) 0) ≡ not (eqb n 0) || t
 counted-flag n true =
     ap (λ (k : ℕ). not (eqb k 0)) (counted-more n) ∙ ap not (ne-eqb (min (n + 1) most-filler) 0 (λ e. omega arith)) ∙ sym (or-true (not (eqb n 0)))
-  where
-    or-true : (x : Bool) → x || true ≡ true
-    or-true true = refl
-    or-true false = refl
 counted-flag n false = ap (λ (k : ℕ). not (eqb k 0)) (counted-there n) ∙ sym (or-false (not (eqb n 0)))
-  where
-    or-false : (x : Bool) → x || false ≡ x
-    or-false true = refl
-    or-false false = refl
 
 flag-append : (s : List ℕ) (o : Bool) (ps qs : List ℕ) → flag-after s o (ps ++ qs) ≡ flag-after s (flag-after s o ps) qs
 unfolding flag-after
@@ -135,9 +124,6 @@ reached {ps = ps} r = record { words = ps; run = r }
 at-once : {s : List ℕ} {b : Bits} → Reached s b b
 at-once = reached stay
 
-by-read : (s : List ℕ) (b : Bits) (n : ℕ) → Reached s b (read s b n .bits)
-by-read s b n = reached (reads n stay)
-
 by-reset : (s : List ℕ) (b : Bits) (p : ℕ) → Reached s b (reset-at b p)
 by-reset s b p = reached (resets p stay)
 
@@ -150,53 +136,18 @@ infixr 20 _then_
 _then_ : {s : List ℕ} {b c d : Bits} → Reached s b c → Reached s c d → Reached s b d
 p then q = onward (p .run) q
 
-either : {A : Type 0} {s : List ℕ} {b : Bits} (f : A → Bits) (t : Bool) {x y : A} → Reached s b (f x) → Reached s b (f y) → Reached s b (f (cond t x y))
-either f true p q = p
-either f false p q = q
-
-fields-reach : (s ns : List ℕ) (b : Bits) → Reached s b (fields s ns b .bits)
-fields-reach s [] b = rw (fields-none s b) at-once
-fields-reach s (n ∷ ns) b = rw (fields-more s n ns b) (by-read s b n then fields-reach s ns (read s b n .bits))
-
-four-reach : (s : List ℕ) (n : ℕ) (b : Bits) → Reached s b (four s n b .bits)
-four-reach s n b = rw (four-fields s n b) (fields-reach s (n ∷ n ∷ n ∷ n ∷ []) b)
-
-signed-reach : (s : List ℕ) (b : Bits) (n : ℕ) → Reached s b (read-signed s b n .bits)
-signed-reach s b n = rw (read-signed-is s b n) (by-read s b n)
-
-residual-reach : (s : List ℕ) (b : Bits) (n : ℕ) → Reached s b (read-residual s b n .bits)
-residual-reach s b n = rw (read-residual-is s b n) (by-read s b n)
+-- Whatever is made of fields.
+by-fields : {s : List ℕ} {b c : Bits} {fs : List Field} → Leads s b fs c → Reached s b c
+by-fields arrived = at-once
+by-fields (next n p) = reached (reads n (by-fields p .run))
 
 -- ── V0 ──
-
-operated-reach : (s : List ℕ) (op : ℕ) (l : ℤ) (b : Bits) → Reached s b (V0.operated s op l b .bits)
-unfolding V0.operated
-operated-reach s op l b = either (λ (x : V0Length). x .bits) (eqb op 3) (by-read s b 4) at-once
-
-operate-reach : (s ops : List ℕ) (ls : List ℤ) (b : Bits) → Reached s b (V0.operate s ops ls b .bits)
-unfolding V0.operate
-operate-reach s [] ls b = at-once
-operate-reach s (op ∷ ops) [] b = at-once
-operate-reach s (op ∷ ops) (l ∷ ls) b = operated-reach s op l b then operate-reach s ops ls (V0.operated s op l b .bits)
-
-head-reach : (s : List ℕ) (st : V0Row) → Reached s (st .bits) (V0.head s st .row .bits)
-unfolding V0.head
-head-reach s st =
-    let d = read s (st .bits) 1 in
-    let o = four s 2 (d .bits) in
-    by-read s (st .bits) 1 then (four-reach s 2 (d .bits) then operate-reach s (o .values) (st .lengths) (o .bits))
-
-samples-reach : (s : List ℕ) (base : ℕ) (ls : List ℤ) (predict : ℕ → Predictor) (cs : List ℕ) (b : Bits) → Reached s b (V0.samples s base ls predict cs b .bits)
-unfolding V0.samples V0.sample
-samples-reach s base ls predict [] b = at-once
-samples-reach s base ls predict (c ∷ cs) b = residual-reach s b _ then samples-reach s base ls predict cs _
 
 blocks-reach : (s : List ℕ) (first : ℕ) (predict : ℕ → Bool → ℕ → Predictor) (n col : ℕ) (st : V0Row) → Reached s (st .bits) (V0.blocks s first predict n col st .bits)
 unfolding V0.blocks
 blocks-reach s first predict zero col st = at-once
 blocks-reach s first predict (suc n) col st =
-    let h = V0.head s st in
-    head-reach s st then (samples-reach s (first + col) (h .row .lengths) (predict col (h .up)) V0.order (h .row .bits) then blocks-reach s first predict n (col + 16) _)
+    by-fields (block-traced s first predict col st .leads) then blocks-reach s first predict n (col + 16) (after s first predict col st)
 
 -- A row's reader goes from its offset, with count 0, to the row's end.
 pub row-reach : (s : List ℕ) (z : Size) (row offset : ℕ) → Reached s (fresh offset) (V0.row-blocks s z row offset .bits)
@@ -233,90 +184,9 @@ frame-none s offsets z none = frame-summed s offsets z ∙ ap (λ n. min n most-
 
 -- ── V2 ──
 
-header-reach : (s : List ℕ) → Reached s (fresh 0) (V2.header s .bits)
-unfolding V2.header
-header-reach s = fields-reach s V2.field-widths (fresh 0)
-
-scale-reach : (s : List ℕ) (h : V2Hdr) (col : ℕ) (scale : ℤ) (b : Bits) → Reached s b (V2.read-scale s h col scale b .bits)
-unfolding V2.read-scale V2.rescaled
-scale-reach s h col scale b =
-    let code = read s b 2 in
-    either (λ (x : V2Scale). x .bits) (not (V2.option-4 h) && eqb (col % 64) 0)
-    (either (λ (x : V2Scale). x .bits) (eqb (code .value) 3) (by-read s b 2 then by-read s (code .bits) 12) (by-read s b 2)) at-once
-
-motion-reach : (s : List ℕ) (h : V2Hdr) (motion : ℕ) (b : Bits) → Reached s b (V2.read-motion s h motion b .bits)
-unfolding V2.read-motion
-motion-reach s h motion b =
-    let g = read s b 1 in
-    either (λ (x : Got). x .bits) (V2.option-2 h) (by-read s b 1)
-    (either (λ (x : Got). x .bits) (eqb (g .value) 0) (by-read s b 1 then by-read s (g .bits) 3) (by-read s b 1))
-
-length-reach : (s : List ℕ) (flag first : ℕ) (b : Bits) → Reached s b (V2.read-length s flag first b .bits)
-unfolding V2.read-length
-length-reach s flag first b =
-    either (λ (x : Got). x .bits) (eqb flag 3) (by-read s b 4)
-    (either (λ (x : Got). x .bits) (eqb flag 2) at-once (either (λ (x : Got). x .bits) (eqb flag 1) at-once at-once))
-
-lengths-reach : (s : List ℕ) (depth row : ℕ) (flags : List ℕ) (n j : ℕ) (x : V2.Moded)
-    → Reached s (x .lengths .bits) (V2.lengths-from s depth row flags n j x .lengths .bits)
-unfolding V2.lengths-from V2.length-step
-lengths-reach s depth row flags zero j x = at-once
-lengths-reach s depth row flags (suc n) j x =
-    let y = V2.length-step s depth row flags j x in
-    let one = length-reach s (getD flags j 0) (getD (getD (x .mode) (V2.colour row j) []) 0 0) (x .lengths .bits) in
-    either (λ (m : V2.Moded). m .lengths .bits) (y .lengths .long) one (one then lengths-reach s depth row flags n (suc j) y)
-
-lengths-all-reach : (s : List ℕ) (h : V2Hdr) (row : ℕ) (mode : List (List ℕ)) (b : Bits) → Reached s b (V2.read-lengths s h row mode b .lengths .bits)
-unfolding V2.read-lengths V2.flagged-lengths V2.lengths-bit
-lengths-all-reach s h row mode b =
-    let g = V2.lengths-bit s h b in
-    let f = four s 2 (g .bits) in
-    let bit = either (λ (x : Got). x .bits) (V2.option-1 h) at-once (by-read s b 1) in
-    either (λ (m : V2.Moded). m .lengths .bits) (eqb (g .value) 0)
-    (bit then (four-reach s 2 (g .bits) then lengths-reach s (h .depth) row (f .values) 4 0 (V2.no-lengths mode (f .bits)))) bit
-
-differences-reach : (s : List ℕ) (row : ℕ) (ls : List ℕ) (n k : ℕ) (x : V2.Differences) → Reached s (x .bits) (V2.differences-from s row ls n k x .bits)
-unfolding V2.differences-from V2.difference-step
-differences-reach s row ls zero k x = at-once
-differences-reach s row ls (suc n) k x = signed-reach s (x .bits) _ then differences-reach s row ls n (suc k) (V2.difference-step s row ls k x)
-
-tail-reach : (s : List ℕ) (h : V2Hdr) (row : ℕ) (st : V2Row) (mode : List (List ℕ)) (b : Bits) → Reached s b (V2.state-after (V2.tail s h row st mode b .outcome))
-unfolding V2.tail V2.read-differences
-tail-reach s h row st mode b =
-    let l = V2.read-lengths s h row mode b .lengths in
-    let all = lengths-all-reach s h row mode b in
-    either V2.state-after (l .long) all (all then differences-reach s row (l .four) 16 0 _)
-
-block-reach : (s : List ℕ) (h : V2Hdr) (w row col : ℕ) (b : Bits) (st : V2Row) (mode : List (List ℕ))
-    → Reached s b (V2.state-after (V2.read-block s h w row col b st mode .outcome))
-unfolding V2.read-block V2.based-tail
-block-reach s h w row col b st mode =
-    let c = V2.read-scale s h col (st .scale) b in
-    let m = V2.read-motion s h (st .motion) (c .bits) in
-    let st′ : V2Row = record { motion = m .value; scale = c .scale } in
-    let after : V2.Tail → Bits = λ x. V2.state-after (x .outcome) in
-    scale-reach s h col (st .scale) b
-    then (motion-reach s h (st .motion) (c .bits)
-    then either after (eqb (V2.base-refusal row col (m .value)) 5) at-once
-    (either after (eqb (V2.base-refusal row col (m .value)) 6) at-once (tail-reach s h row st′ mode (m .bits))))
-
-row-blocks-reach : (s : List ℕ) (h : V2Hdr) (w row n col : ℕ) (b : Bits) (st : V2Row) (mode : List (List ℕ)) → Reached s b (V2.blocks s h w row n col b st mode .bits)
-unfolding V2.blocks V2.then
-row-blocks-reach s h w row zero col b st mode = at-once
-row-blocks-reach s h w row (suc n) col b st mode =
-    let p = V2.read-block s h w row col b st mode in
-    go (p .outcome) (p .block) _ (block-reach s h w row col b st mode) (λ b′ st′. row-blocks-reach s h w row n (col + 16) b′ st′ (p .mode))
-  where
-    go : (o : V2Block) (x : V2.Block) (rest : Bits → V2Row → V2.Row) → Reached s b (V2.state-after o)
-        → ((b′ : Bits) (st′ : V2Row) → Reached s b′ (rest b′ st′ .bits)) → Reached s b (V2.then o x rest .bits)
-    go (Next b′ st′) x rest p q = p then q b′ st′
-    go (EarlyMotion b′) x rest p q = p
-    go (Outside b′) x rest p q = p
-    go (LongDifference b′) x rest p q = p
-
 v2-row-reach : (s : List ℕ) (h : V2Hdr) (w row : ℕ) (b : Bits) → Reached s b (V2.read-row s h w row b .bits)
-unfolding V2.read-row V2.aligned
-v2-row-reach s h w row b = by-reset s b _ then row-blocks-reach s h w row (w / 16) 0 (V2.aligned b) V2.fresh-row (V2.fresh-mode row)
+unfolding V2.aligned
+v2-row-reach s h w row b = by-reset s b _ then by-fields (row-traced s h w row b .leads)
 
 -- A state that the reader comes to, whose count an answer has.
 pub record Answers (s : List ℕ) (b : Bits) (a : Answer) : Type 0 where
@@ -341,7 +211,7 @@ unfolding V2.read-frame
 v2-answer s z =
     let x = V2.header s in
     let a = rows-answer s (x .hdr) (z .width) (z .height) 0 (x .bits) in
-    record { end = a .end; reach = header-reach s then a .reach; filler-is = a .filler-is }
+    record { end = a .end; reach = by-fields (header-traced s .leads) then a .reach; filler-is = a .filler-is }
 
 -- So it is the number of the words that this reader fetches past the stream's end.
 pub v2-counts : (s : List ℕ) (z : Size) → V2.read-frame s z .answer .filler ≡ min (missing-of s (v2-answer s z .reach .words)) most-filler

@@ -1,14 +1,12 @@
 -- A frame in which no word was missing carries no filler: V0 whose count is 0, and accepted V2. Its map is then as a map was that knew
 -- no filler. So V0 without an upward block in rows 0 and 1, and accepted V2 of a width divisible by 16, have a map that is all 0.
-use Prim.Native.Nat.{ℕ, zero, suc, _+_, _*_, _/_, _%_, _≤_, _<_, min, max}
-use mathlib.Core.Bool.{Bool, false, not}
-use mathlib.Core.Path.{_≡_, refl, sym, ap, ap₂, _∙_}
-use mathlib.Core.Logic.{_≢_}
-use mathlib.Core.List.{List, [], _∷_, _++_}
+use Prim.Native.Nat.{ℕ, zero, suc, _+_, _*_, _/_, _%_, _≤_, _<_, min}
+use mathlib.Core.Bool.{Bool, false}
+use mathlib.Core.Path.{_≡_, refl, ap₂, _∙_}
+use mathlib.Core.List.{List, [], _∷_}
 use native.Mathlib.Omega.{arith}
 use lib.Dec.{lit<}
-use lib.IntN.{ℤ}
-use lib.ListN.{getD, replicate}
+use lib.ListN.{getD}
 use lib.Seq.{sets}
 use Rattle.rules.specs.declared.answer.Size.{Size}
 use Rattle.rules.specs.declared.reader.Bits.{Bits}
@@ -18,35 +16,26 @@ use Rattle.rules.specs.declared.v0.V0Op.{V0Op}
 use Rattle.rules.specs.declared.v0.V0Row.{V0Row}
 use Rattle.rules.specs.declared.v2.V2Hdr.{V2Hdr}
 use Rattle.rules.specs.declared.v2.V2Row.{V2Row}
-use Rattle.rules.specs.declared.v2.V2Block.{V2Block}
-use Rattle.rules.specs.declared.v2.V2Block.the-variants.{Next, EarlyMotion, Outside, LongDifference}
 use Rattle.rules.specs.Reader.{most-filler, has-filler}
 use Rattle.rules.specs.Frame.{cells, tabulate}
 use Rattle.rules.specs.V0 as V0
 use Rattle.rules.specs.V2 as V2
 use Rattle.rules.specs.Map.{all-old, old-part, v0-marks, v2-marks, v0-map, v2-map}
-use Rattle.rules.proofs.Cells.{All, nil, more, all-append, all-get, all-set, Each, none, both}
+use Rattle.rules.proofs.Cells.{All, nil, more, all-append, all-get, all-replicate, all-set, Each, none, both}
 use Rattle.rules.proofs.Parts.{either-below}
-use Rattle.rules.proofs.Longer.{Longer, Sure}
 use Rattle.rules.proofs.V0Blocks.{block, after}
-use Rattle.rules.proofs.V0Longer.{block-sure}
+use Rattle.rules.proofs.Traced.{leads-kept}
+use Rattle.rules.proofs.V0Traced.{block-traced}
 use Rattle.rules.proofs.V0NoMarks as V0Old
 use Rattle.rules.proofs.V0NoMarks.{NoUpward, no-marks}
-use Rattle.rules.proofs.V2Longer.{block-filler, blocks-sure}
+use Rattle.rules.proofs.V2Longer.{block-filler}
+use Rattle.rules.proofs.V2Traced.{blocks-traced}
 use Rattle.rules.proofs.V2NoMarks as V2Old
 use Rattle.rules.proofs.V2NoMarks.{v2-unmarked}
-use Rattle.rules.proofs.V2Rows.{then-rows-cases}
-
--- A stream is as long as itself.
-itself : (s : List ℕ) → Longer s s
-itself s b n e = refl
+use Rattle.rules.proofs.V2Rows.{then-cases, then-rows-cases}
 
 none-there : (b : Bits) → b .filler ≡ 0 → has-filler b ≡ false
 none-there b e = rw e
-
-entry : (n : ℕ) → All (λ x. x < 2) (replicate n 1)
-entry zero = nil
-entry (suc n) = more (lit< tt) (entry n)
 
 -- ── V0 ──
 
@@ -61,7 +50,7 @@ module _ (s : List ℕ) (first : ℕ) (predict : ℕ → Bool → ℕ → Predic
   blocks-clear zero col st e = (e, nil)
   blocks-clear (suc n) col st e =
       let q = blocks-clear n (col + 16) (after s first predict col st) e in
-      (block-sure s s (itself s) first predict col st .kept (q .0), more (none-there (block s first predict col st .bits) (q .0)) (q .1))
+      (leads-kept (block-traced s first predict col st .leads) (q .0), more (none-there (block s first predict col st .bits) (q .0)) (q .1))
 
 module _ (s offsets : List ℕ) (z : Size) where
   row-clear : (row : ℕ) → V0.row-blocks s z row (getD offsets row 0) .bits .filler ≡ 0 → All Clear (V0.row-blocks s z row (getD offsets row 0) .blocks)
@@ -116,7 +105,7 @@ exchange-low w (suc n) row h = exchange-low w n (row + 2) (columns-low w row (w 
 -- V0 whose count of missing words is 0 has no byte with 2 ..
 pub v0-no-filler : (s offsets : List ℕ) (z : Size) → V0.frame-filler s offsets z ≡ 0 → All Low (v0-map s offsets z)
 unfolding V0.frame-filler v0-map V0.frame V0.exchange
-v0-no-filler s offsets z e = exchange-low (z .width) (z .height / 2) 0 (write-low (rows-clear s offsets z (z .height) 0 0 e .1) (entry (cells z)))
+v0-no-filler s offsets z e = exchange-low (z .width) (z .height / 2) 0 (write-low (rows-clear s offsets z (z .height) 0 0 e .1) (all-replicate Low (cells z) (lit< tt)))
 
 -- .. so that its map is that of first parts alone, as a map was that knew no filler ..
 pub v0-as-before : (s offsets : List ℕ) (z : Size) → V0.frame-filler s offsets z ≡ 0 → v0-map s offsets z ≡ V0.frame V0Old.old-kind s offsets z (all-old z)
@@ -139,25 +128,14 @@ V2Clear b = b .filler ≡ false
 module _ (s : List ℕ) (h : V2Hdr) (w : ℕ) where
   v2-blocks-clear : (row k col : ℕ) (b : Bits) (st : V2Row) (mode : List (List ℕ)) → V2.blocks s h w row k col b st mode .bits .filler ≡ 0
       → All V2Clear (V2.blocks s h w row k col b st mode .blocks)
-  unfolding V2.blocks V2.then
-  v2-blocks-clear row zero col b st mode e = nil
-  v2-blocks-clear row (suc k) col b st mode e =
-      go (p .outcome) refl (λ b′ st′. v2-blocks-clear row k (col + 16) b′ st′ (p .mode)) e
-    where
-      p : V2.Parsed
-      p = V2.read-block s h w row col b st mode
-
-      rest : Bits → V2Row → V2.Row
-      rest b′ st′ = V2.blocks s h w row k (col + 16) b′ st′ (p .mode)
-
-      go : (o : V2Block) → p .outcome ≡ o → ((b′ : Bits) (st′ : V2Row) → rest b′ st′ .bits .filler ≡ 0 → All V2Clear (rest b′ st′ .blocks))
-          → V2.then o (p .block) rest .bits .filler ≡ 0 → All V2Clear (V2.then o (p .block) rest .blocks)
-      go (Next b′ st′) q r e =
-          let z = blocks-sure s s (itself s) h w row k (col + 16) b′ st′ (p .mode) .kept e in
-          more (block-filler s s (itself s) h w row col b st mode b′ st′ q ∙ none-there b′ z) (r b′ st′ e)
-      go (EarlyMotion b′) q r e = nil
-      go (Outside b′) q r e = nil
-      go (LongDifference b′) q r e = nil
+  unfolding V2.blocks
+  v2-blocks-clear row zero col b st mode = λ e. nil
+  v2-blocks-clear row (suc k) col b st mode =
+      let p = V2.read-block s h w row col b st mode in
+      then-cases (λ q. q .bits .filler ≡ 0 → All V2Clear (q .blocks)) (p .outcome) (p .block) _
+      (λ b′ st′ q e. let z = leads-kept (blocks-traced s h w row k (col + 16) b′ st′ (p .mode) .leads) e in
+      more (block-filler s h w row col b st mode b′ st′ q ∙ none-there b′ z) (v2-blocks-clear row k (col + 16) b′ st′ (p .mode) e))
+      (λ n b′ l m e. nil)
 
   v2-row-clear : (row : ℕ) (b : Bits) → V2.read-row s h w row b .bits .filler ≡ 0 → All V2Clear (V2.read-row s h w row b .blocks)
   unfolding V2.read-row
@@ -194,7 +172,7 @@ pub v2-no-filler : (s : List ℕ) (z : Size) → V2.read-frame s z .answer .numb
 unfolding v2-map V2.frame V2.read-frame
 v2-no-filler s z e =
     let x = V2.header s in
-    v2-apply-low (v2-rows-clear s (x .hdr) (z .width) (z .height) 0 (x .bits) e) (entry (cells z))
+    v2-apply-low (v2-rows-clear s (x .hdr) (z .width) (z .height) 0 (x .bits) e) (all-replicate Low (cells z) (lit< tt))
 
 -- .. its map is that of first parts alone ..
 pub v2-as-before : (s : List ℕ) (z : Size) → V2.read-frame s z .answer .number ≡ 0 → v2-map s z ≡ V2.frame V2Old.old-kind s z (all-old z)

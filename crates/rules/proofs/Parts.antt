@@ -1,8 +1,8 @@
 -- The parts of a map byte that an average takes from two: only this file opens `either-part`.
-use Prim.Native.Nat.{ℕ, _+_, _*_, _/_, _%_, _^_, _≤_, _<_, max}
-use mathlib.Core.Path.{_≡_, refl}
+use Prim.Native.Nat.{ℕ, _^_, _<_, max}
+use mathlib.Core.Path.{_≡_}
 use native.Mathlib.Omega.{arith}
-use lib.Bits.{bitOr, bitAnd, or-step, or-lt, or-add-and, and-le-l, and-le-r}
+use lib.Bits.{or-step, or-lt, or-add-and, and-le-l, and-le-r}
 use Rattle.rules.specs.Map.{old-part, either-part}
 
 -- The first part is the greater of two.

@@ -312,25 +312,6 @@ fields-below s [] b i = rw (fields-none s b) (pow-pos 0)
 fields-below s (n ∷ ns) b zero = rw (fields-more s n ns b) (read-below s b n)
 fields-below s (n ∷ ns) b (suc i) = rw (fields-more s n ns b) (fields-below s ns (read s b n .bits) i)
 
--- Several fields move the position by one word each at most.
-pub fields-pos : (s ns : List ℕ) (b : Bits) → fields s ns b .bits .pos ≤ b .pos + 4 * length ns
-unfolding fields
-fields-pos s [] b = omega arith
-fields-pos s (n ∷ ns) b = omega (arith, read-pos s b n, fields-pos s ns (read s b n .bits))
-
-pub fields-kept : (s : List ℕ) (ns : List ℕ) (b : Bits) → fields s ns b .bits .filler ≡ 0 → b .filler ≡ 0
-unfolding fields
-fields-kept s [] b e = e
-fields-kept s (n ∷ ns) b e = read-kept s b n (fields-kept s ns (read s b n .bits) e)
-
-pub fields-prefix : (s : List ℕ) (p : ℕ) (ns : List ℕ) (b : Bits) → p ≤ length s → fields (take p s) ns b .bits .filler ≡ 0
-    → fields (take p s) ns b ≡ fields s ns b
-unfolding fields
-fields-prefix s p [] b l e = refl
-fields-prefix s p (n ∷ ns) b l e =
-    let g = read-prefix s p b n l (fields-kept (take p s) ns (read (take p s) b n .bits) e) in
-    rw (fields-prefix s p ns (read (take p s) b n .bits) l e, g)
-
 -- ── Fields read at once ──
 
 -- How many bits fields of some widths have together, and what a number of so many bits is cut into.
@@ -415,9 +396,6 @@ four-pairs s n b = refl
 pub four-values : (s : List ℕ) (n : ℕ) (b : Bits) → length (four s n b .values) ≡ 4
 unfolding four fields
 four-values s n b = refl
-
-pub four-pos : (s : List ℕ) (n : ℕ) (b : Bits) → four s n b .bits .pos ≤ b .pos + 16
-four-pos s n b = rw (four-fields s n b) (fields-pos s (n ∷ n ∷ n ∷ n ∷ []) b)
 
 pub four-below : (s : List ℕ) (n : ℕ) (b : Bits) (i : ℕ) → n ≤ 32 → getD (four s n b .values) i 0 < 2 ^ n
 unfolding four fields
@@ -508,7 +486,3 @@ read-residual-is s b n = refl
 pub read-residual-below : (s : List ℕ) (b : Bits) (n : ℕ) → read-residual s b n .value < 65_536
 unfolding read-residual
 read-residual-below s b n = modulo-below (signed (min n 32) (read s b n .value))
-
-pub read-residual-pos : (s : List ℕ) (b : Bits) (n : ℕ) → read-residual s b n .bits .pos ≤ b .pos + 4
-unfolding read-residual
-read-residual-pos s b n = read-pos s b n

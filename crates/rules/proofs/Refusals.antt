@@ -16,15 +16,13 @@ use Rattle.rules.specs.declared.answer.Size.{Size}
 use Rattle.rules.specs.declared.reader.Bits.{Bits}
 use Rattle.rules.specs.declared.v2.V2Hdr.{V2Hdr}
 use Rattle.rules.specs.declared.v2.V2Row.{V2Row}
-use Rattle.rules.specs.declared.v2.V2Block.{V2Block}
-use Rattle.rules.specs.declared.v2.V2Block.the-variants.{Next, EarlyMotion, Outside, LongDifference}
 use Rattle.rules.specs.Frame.{cells}
 use Rattle.rules.specs.V0.{frame-filler}
-use Rattle.rules.specs.V2.{Block, Row, read-block, then, blocks, read-row, rows, read-frame, aligned, fresh-row, fresh-mode, header}
+use Rattle.rules.specs.V2.{read-block, blocks, read-row, rows, read-frame, aligned, fresh-row, fresh-mode, header}
 use Rattle.rules.specs.Answer.{done-with, refused, Decoder, direct, two-phase, v2, Ask, Lent, Buffers, Yields, too-large, too-small, short-offsets, short-samples, short-map, scratch-bytes, short-scratch, first-of, refusal, stream-answer, answer, unless-refused, samples-after, map-after, scratch-after}
 use Rattle.rules.proofs.Cells.{All, nil, more, all-get}
 use Rattle.rules.proofs.Tests.{clash, neither, by-test}
-use Rattle.rules.proofs.V2Rows.{then-rows-cases}
+use Rattle.rules.proofs.V2Rows.{then-cases, then-rows-cases}
 
 -- ── The least number whose test holds ──
 
@@ -215,18 +213,12 @@ pub data Ending (height : ℕ) (a : Answer) : Type 0 where
 -- A row that is refused is refused with 5, 6 or 7.
 blocks-number : (s : List ℕ) (h : V2Hdr) (w row k col : ℕ) (b : Bits) (st : V2Row) (mode : List (List ℕ))
     → (let q = blocks s h w row k col b st mode in q .number ≢ 0 → (5 ≤ q .number) × (q .number ≤ 7))
-unfolding blocks then
+unfolding blocks
 blocks-number s h w row zero col b st mode = λ e. absurd (e refl)
 blocks-number s h w row (suc k) col b st mode =
     let p = read-block s h w row col b st mode in
-    go (p .outcome) (p .block) _ (λ b′ st′. blocks-number s h w row k (col + 16) b′ st′ (p .mode))
-  where
-    go : (o : V2Block) (x : Block) (rest : Bits → V2Row → Row) → ((b : Bits) (st : V2Row) → rest b st .number ≢ 0 → (5 ≤ rest b st .number) × (rest b st .number ≤ 7))
-        → then o x rest .number ≢ 0 → (5 ≤ then o x rest .number) × (then o x rest .number ≤ 7)
-    go (Next b st) x rest r e = r b st e
-    go (EarlyMotion b) x rest r e = (lit≤ tt, lit≤ tt)
-    go (Outside b) x rest r e = (lit≤ tt, lit≤ tt)
-    go (LongDifference b) x rest r e = (lit≤ tt, lit≤ tt)
+    then-cases (λ q. q .number ≢ 0 → (5 ≤ q .number) × (q .number ≤ 7)) (p .outcome) (p .block) _
+    (λ b′ st′ e. blocks-number s h w row k (col + 16) b′ st′ (p .mode)) (λ n b′ l m e. (l, m))
 
 row-early : (s : List ℕ) (h : V2Hdr) (w row : ℕ) (b : Bits) → (let q = read-row s h w row b in q .number ≢ 0 → (5 ≤ q .number) × (q .number ≤ 7))
 unfolding read-row

@@ -7,7 +7,7 @@ use native.Mathlib.Nat.{mul-le-mul}
 use native.Mathlib.Omega.{arith}
 use lib.Dec.{eqb, ltb, lit≤, lit<}
 use lib.IntN.{ℤ, pos, negsuc, natAbs, negℤ, subℕ, _+ℤ_, _*ℤ_}
-use lib.ListN.{getD, set, replicate}
+use lib.ListN.{getD, replicate}
 use lib.Pow.{pow-mono, pow-pos}
 use lib.Signed.{mag, natAbs-le}
 use borrow.Author.Tests.{ltb-false, eqb-true}
@@ -17,15 +17,13 @@ use Rattle.rules.specs.declared.reader.Got.{Got}
 use Rattle.rules.specs.declared.v2.V2Hdr.{V2Hdr}
 use Rattle.rules.specs.declared.v2.V2Row.{V2Row}
 use Rattle.rules.specs.declared.v2.V2Scale.{V2Scale}
-use Rattle.rules.specs.declared.v2.V2Block.{V2Block}
-use Rattle.rules.specs.declared.v2.V2Block.the-variants.{Next, EarlyMotion, Outside, LongDifference}
-use Rattle.rules.specs.Frame.{cells}
+use Rattle.rules.specs.declared.v2.V2Block.the-variants.{Next}
 use Rattle.rules.specs.Reader.{fresh, read, four}
 use Rattle.rules.specs.Ranges.{Between, not-above, not-below, ScaleAt, Small, Fits}
-use Rattle.rules.specs.V2.{field-widths, header, top, option-2, option-4, scale-steps, rescaled, read-scale, read-motion, Base, given, copied, averaged, repeated, referred, base, motion-averages, refers-before, base-refusal, lengths-bit, Moded, length-step, lengths-from, no-lengths, flagged-lengths, read-lengths, position, Differences, difference-step, differences-from, read-differences, tail, based-tail, Block, Parsed, read-block, Row, then, blocks, fresh-row, fresh-mode, aligned, read-row, rows, read-frame, base-cell, average, value, sample-kind}
-use Rattle.rules.proofs.Cells.{All, nil, more, all-append, all-get, all-map, each-of, all-of, each-set}
+use Rattle.rules.specs.V2.{field-widths, header, top, option-2, option-4, scale-steps, rescaled, read-scale, read-motion, Base, given, copied, averaged, repeated, referred, base, motion-averages, refers-before, base-refusal, lengths-bit, Moded, length-step, lengths-from, no-lengths, flagged-lengths, read-lengths, position, Differences, difference-step, differences-from, read-differences, tail, based-tail, Block, read-block, blocks, fresh-row, fresh-mode, aligned, read-row, rows, read-frame, base-cell, average, value, sample-kind}
+use Rattle.rules.proofs.Cells.{All, nil, more, all-append, all-get, all-map, all-set, all-replicate}
 use Rattle.rules.proofs.ReaderLaws.{read-below, fields-below, read-signed-mag}
-use Rattle.rules.proofs.V2Rows.{then-rows-cases}
+use Rattle.rules.proofs.V2Rows.{then-cases, then-rows-cases}
 use Rattle.rules.proofs.Tests.{by-test}
 
 -- ── The header ──
@@ -110,13 +108,6 @@ motion-most s h motion b l =
     (λ f. rw f (by-test (eqb (read s b 1 .value) 0) (λ e. rw e (omega (arith, read-below s (read s b 1 .bits) 3))) (λ e. rw e l)))
 
 -- ── 4. lengths ──
-
-all-set : {A : Type 0} (P : A → Type 0) {xs : List A} → All P xs → (j : ℕ) {v : A} → P v → All P (set xs j v)
-all-set P ps j {v} p = all-of P (each-set (λ a b. P a) (each-of P ps) j {b = v} p)
-
-all-replicate : {A : Type 0} (P : A → Type 0) (n : ℕ) {v : A} → P v → All P (replicate n v)
-all-replicate P zero p = nil
-all-replicate P (suc n) p = more p (all-replicate P n p)
 
 abbrev pub Most : ℕ → ℕ → Type 0
 Most n x = x ≤ n
@@ -263,24 +254,14 @@ module _ (s : List ℕ) (h : V2Hdr) (w : ℕ) (deep : h .depth ≤ 16) (small : 
 
   blocks-sound : (row k col : ℕ) (b : Bits) (st : V2Row) (mode : List (List ℕ)) → ScaleAt col (st .scale) → col + 16 * k ≤ w
       → All Sound (blocks s h w row k col b st mode .blocks)
-  unfolding blocks then
+  unfolding blocks
   blocks-sound row zero col b st mode p l = nil
   blocks-sound row (suc k) col b st mode p l =
-      go (x .outcome) refl (λ b′ st′ q. blocks-sound row k (col + 16) b′ st′ (x .mode) q (omega arith))
-    where
-      x : Parsed
-      x = read-block s h w row col b st mode
-
-      rest : Bits → V2Row → Row
-      rest b′ st′ = blocks s h w row k (col + 16) b′ st′ (x .mode)
-
-      go : (o : V2Block) → x .outcome ≡ o → ((b′ : Bits) (st′ : V2Row) → ScaleAt (col + 16) (st′ .scale) → All Sound (rest b′ st′ .blocks))
-          → All Sound (then o (x .block) rest .blocks)
-      go (Next b′ st′) e r =
-          more (block-sound row col b st mode b′ st′ e p (omega arith)) (r b′ st′ (next-scale s h w row col b st mode b′ st′ e p))
-      go (EarlyMotion b′) e r = nil
-      go (Outside b′) e r = nil
-      go (LongDifference b′) e r = nil
+      let x = read-block s h w row col b st mode in
+      then-cases (λ q. All Sound (q .blocks)) (x .outcome) (x .block) _
+      (λ b′ st′ e. more (block-sound row col b st mode b′ st′ e p (omega arith))
+      (blocks-sound row k (col + 16) b′ st′ (x .mode) (next-scale s h w row col b st mode b′ st′ e p) (omega arith)))
+      (λ n b′ m o. nil)
 
   rows-sound : (k row : ℕ) (b : Bits) → All Sound (rows s h w k row b .blocks)
   unfolding rows read-row

@@ -1,9 +1,9 @@
 -- What a cut upload shows is final, in V2: where the map of a stream has byte 0, so has the map of every longer stream, and the sample
 -- is the same. The blocks of the two are the same up to the first with filler; from there on the shorter stream leaves no byte 0, and
 -- the longer one writes no earlier place.
-use Prim.Native.Nat.{ℕ, zero, suc, _+_, _*_, _/_, _%_, _≤_, _<_, max}
+use Prim.Native.Nat.{ℕ, zero, suc, _+_, _*_, _≤_, _<_}
 use mathlib.Core.Bool.{true, cond}
-use mathlib.Core.Path.{_≡_, refl, sym, ap, ap₂, _∙_}
+use mathlib.Core.Path.{_≡_, refl, ap, ap₂, _∙_}
 use mathlib.Core.Logic.{_≢_, _⊎_, inl, inr}
 use mathlib.Core.List.{List, [], _∷_, _++_}
 use native.Mathlib.Omega.{arith}
@@ -13,14 +13,14 @@ use lib.Seq.{sets, length-sets, getD-set-other}
 use lib.IntN.{pos}
 use Rattle.rules.specs.declared.answer.Size.{Size}
 use Rattle.rules.specs.Frame.{cells, tabulate, change-cells}
-use Rattle.rules.specs.V2.{Kind, Base, given, copied, averaged, Block, base-cell, block-cells, write, apply, average, sample, sample-kind, header, top, rows, read-frame, frame, decoded}
+use Rattle.rules.specs.V2.{Kind, Base, given, copied, averaged, Block, base-cell, block-cells, write, apply, average, sample, sample-kind, header, top, read-frame, frame, decoded}
 use Rattle.rules.specs.Map.{with-filler, v2-marks, v2-map}
-use Rattle.rules.proofs.Cells.{All, nil, more, all-map, change-other, change-at}
+use Rattle.rules.proofs.Cells.{All, nil, more, change-other, change-at}
 use Rattle.rules.proofs.Kept.{Final, Kept, kept-entry, kept-set, kept-filled, kept-apart}
 use Rattle.rules.proofs.Parts.{either-none, none-either}
 use Rattle.rules.proofs.Longer.{Longer, longer-append}
 use Rattle.rules.proofs.V2Cells.{write-length, apply-length}
-use Rattle.rules.proofs.V2Longer.{Split, same, apart, Parted, alike, filled, frame-parted, Run, stop, step, run-from, rows-run}
+use Rattle.rules.proofs.V2Longer.{Split, same, apart, Parted, alike, filled, frame-parted, Run, step, run-from, rows-run}
 use Rattle.rules.proofs.Tests.{by-test}
 
 -- ── The same block in both runs ──

@@ -8,7 +8,7 @@ use mathlib.Core.List.{List, [], _∷_, _++_}
 use native.Mathlib.Omega.{arith}
 use native.Mathlib.Decide.{ℕ-discrete}
 use native.Mathlib.Nat.{mul-comm, add-zero}
-use lib.ListN.{length, getD, set, replicate, length-set, length-replicate}
+use lib.ListN.{length, getD, set, length-set, length-replicate}
 use lib.Seq.{sets, getD-set-same, getD-set-other, length-sets}
 use lib.Dec.{ltb, eqb}
 use borrow.Author.Tests.{ltb-false, le-ltb, eqb-false}
@@ -16,20 +16,19 @@ use Rattle.rules.specs.declared.answer.Size.{Size}
 use Rattle.rules.specs.declared.reader.Bits.{Bits}
 use Rattle.rules.specs.declared.v2.V2Hdr.{V2Hdr}
 use Rattle.rules.specs.declared.v2.V2Row.{V2Row}
-use Rattle.rules.specs.declared.v2.V2Block.{V2Block}
-use Rattle.rules.specs.declared.v2.V2Block.the-variants.{Next, EarlyMotion, Outside, LongDifference}
+use Rattle.rules.specs.declared.v2.V2Block.the-variants.{Next}
 use Rattle.rules.specs.Frame.{cells, tabulate}
-use Rattle.rules.specs.V2.{Kind, Base, given, copied, averaged, motion-averages, repeated, referred, base, refers-before, base-refusal, Block, Parsed, read-block, Row, then, blocks, fresh-row, fresh-mode, aligned, read-row, rows, read-frame, header, base-cell, block-cells, write, apply, frame}
+use Rattle.rules.specs.V2.{Kind, Base, given, copied, averaged, motion-averages, repeated, referred, base, refers-before, base-refusal, Block, read-block, blocks, fresh-row, fresh-mode, aligned, read-row, rows, read-frame, header, base-cell, block-cells, apply, frame}
 use Rattle.rules.specs.Map.{old-part, either-part, v2-marks, v2-map, all-old}
 use Rattle.rules.specs.Answer.{v2, Ask, Lent, stream-answer, answer, frame-marks, marks}
 use Rattle.rules.specs.Ranges.{reference-5}
-use Rattle.rules.proofs.Cells.{Each, none, both, each-get}
+use Rattle.rules.proofs.Cells.{Each, each-get}
 use Rattle.rules.proofs.Parts.{either-first}
 use Rattle.rules.proofs.V0NoMarks.{all-joined}
 use Rattle.rules.proofs.V2Cells.{Joined, frame-joined, write-plain}
 use Rattle.rules.proofs.Refusals.{passed, answer-passed, v2-size-least}
-use Rattle.rules.proofs.V2Rows.{then-rows-cases}
-use Rattle.rules.proofs.V2Places.{further, reference-is, reference-before}
+use Rattle.rules.proofs.V2Rows.{then-cases, then-rows-cases}
+use Rattle.rules.proofs.V2Places.{reference-is, reference-before}
 use Rattle.rules.proofs.V2References.{reference-least}
 use Rattle.rules.proofs.V2Bounds.{next-state, next-unrefused}
 use Rattle.rules.proofs.Tests.{by-test}
@@ -150,27 +149,15 @@ module _ (s : List ℕ) (h : V2Hdr) (w : ℕ) (wide : 20 ≤ w) where
   -- The blocks of a row that was not refused.
   blocks-chain : (row k col : ℕ) (b : Bits) (st : V2Row) (mode : List (List ℕ)) → col % 16 ≡ 0 → blocks s h w row k col b st mode .number ≡ 0
       → Chain (row * w + col) (blocks s h w row k col b st mode .blocks) (row * w + col + 16 * k)
-  unfolding blocks then
-  blocks-chain row zero col b st mode c e = rw (add-zero (row * w + col)) stop
-  blocks-chain row (suc k) col b st mode c e =
-      go (p .outcome) refl (λ b′ st′. blocks-chain row k (col + 16) b′ st′ (p .mode) (omega arith)) e
-    where
-      p : Parsed
-      p = read-block s h w row col b st mode
-
-      rest : Bits → V2Row → Row
-      rest b′ st′ = blocks s h w row k (col + 16) b′ st′ (p .mode)
-
-      go : (o : V2Block) → p .outcome ≡ o
-          → ((b′ : Bits) (st′ : V2Row) → rest b′ st′ .number ≡ 0 → Chain (row * w + (col + 16)) (rest b′ st′ .blocks) (row * w + (col + 16) + 16 * k))
-          → then o (p .block) rest .number ≡ 0 → Chain (row * w + col) (then o (p .block) rest .blocks) (row * w + col + 16 * suc k)
-      go (Next b′ st′) q r e =
-          let on : Chain (row * w + col + 16) (rest b′ st′ .blocks) (row * w + col + 16 * suc k)
-          = subst₂ (λ x y. Chain x (rest b′ st′ .blocks) y) (omega arith) (omega arith) (r b′ st′ e) in
-          link (place-is row col b st mode) (next-before row col b st mode b′ st′ c q) on
-      go (EarlyMotion b′) q r e = absurd (let z : 5 ≡ 0 = e in omega arith)
-      go (Outside b′) q r e = absurd (let z : 6 ≡ 0 = e in omega arith)
-      go (LongDifference b′) q r e = absurd (let z : 7 ≡ 0 = e in omega arith)
+  unfolding blocks
+  blocks-chain row zero col b st mode c = λ e. rw (add-zero (row * w + col)) stop
+  blocks-chain row (suc k) col b st mode c =
+      let p = read-block s h w row col b st mode in
+      then-cases (λ q. q .number ≡ 0 → Chain (row * w + col) (q .blocks) (row * w + col + 16 * suc k)) (p .outcome) (p .block) _
+      (λ b′ st′ q e. link (place-is row col b st mode) (next-before row col b st mode b′ st′ c q)
+      (subst₂ (λ x y. Chain x (blocks s h w row k (col + 16) b′ st′ (p .mode) .blocks) y) (omega arith) (omega arith)
+      (blocks-chain row k (col + 16) b′ st′ (p .mode) (omega arith) e)))
+      (λ n b′ l m e. absurd (omega arith))
 
   -- The blocks of rows that were accepted, where the width is a multiple of 16.
   rows-chain : w % 16 ≡ 0 → (k row : ℕ) (b : Bits) → rows s h w k row b .answer .number ≡ 0

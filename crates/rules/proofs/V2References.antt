@@ -4,21 +4,20 @@
 use Prim.Native.Nat.{ℕ, zero, suc, _+_, _-_, _*_, _%_, _≤_, _<_}
 use mathlib.Core.List.{[], _∷_}
 use mathlib.Core.Path.{_≡_, refl, sym, _∙_}
-use mathlib.Core.Bool.{Bool, true, false, _||_, _&&_, cond}
+use mathlib.Core.Bool.{true, false, _&&_, cond}
 use native.Mathlib.Decide.{ℕ-discrete}
 use native.Mathlib.Nat.{mul-le-mul-right}
 use native.Mathlib.Omega.{arith}
-use lib.Dec.{eqb, ltb, leb, lit≤}
-use lib.IntN.{ℤ, pos, negsuc, natAbs, subℕ, _+ℤ_}
-use lib.ListN.{getD}
+use lib.Dec.{eqb, ltb, lit≤}
+use lib.IntN.{pos, negsuc, natAbs, subℕ, _+ℤ_}
 use borrow.Author.Tests.{lt-ltb, le-ltb, lt-leb, ltb-true, ltb-false, eqb-true}
 use Rattle.rules.specs.declared.answer.Size.{Size}
 use Rattle.rules.specs.Frame.{cells}
-use Rattle.rules.specs.V2.{motion-offsets, reference, refers-before, base-refusal}
+use Rattle.rules.specs.V2.{reference, refers-before, base-refusal}
 use Rattle.rules.specs.References.{outside, strays, any-strays, tested-refusal}
 use Rattle.rules.specs.Ranges.{offset-4, reference-5}
 use Rattle.rules.proofs.Cells.{All, nil, more, all-get}
-use Rattle.rules.proofs.Tests.{both, by-test}
+use Rattle.rules.proofs.Tests.{both, by-test, or-true}
 use Rattle.rules.proofs.V2Places.{block-inside, further, reference-is, reference-row}
 
 -- ── The highest reference ──
@@ -110,10 +109,6 @@ module _ (n w row col motion : ℕ) where
   one-strays : row ≡ 2 → col ≡ 0 → motion < 3 → any-strays n w row col motion 16 0 ≡ true
   unfolding any-strays
   one-strays er ec h = rw (stray-low 1 (low er ec h)) (or-true (strays n w row col motion 0))
-    where
-      or-true : (t : Bool) → t || true ≡ true
-      or-true true = refl
-      or-true false = refl
 
 module _ (n w row col motion : ℕ) (two : 2 ≤ row) (fits : col + 16 ≤ w) (column : col % 16 ≡ 0) (room : row * w + col + 16 ≤ n) where
   -- A reference is outside exactly at row 2, column 0, motion 0, 1 or 2.

@@ -2,7 +2,7 @@
 use mathlib.Core.Bool.{true, false}
 use mathlib.Core.Path.{refl}
 use mathlib.Core.List.{List, [], _∷_, map}
-use Rattle.rules.specs.Reader.{fetched, counted, fresh, held, read, fields, four, signed, modulo, read-residual}
+use Rattle.rules.specs.Reader.{fetched, counted, held, read, fields, four, signed, modulo, read-residual}
 use Rattle.rules.specs.V0.{fresh-row, operated, operate, head, bounded, predictor, length-of, length-bits, residual-bits, sample, samples, blocks, row-blocks}
 use Rattle.rules.specs.Missing.{past-end, missing-of, flag-after, fetches, rows-sum}
 use Rattle.rules.specs.Examples.{Example}

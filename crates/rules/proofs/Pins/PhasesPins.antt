@@ -4,14 +4,14 @@ use mathlib.Core.Bool.{Bool, true, false}
 use mathlib.Core.Path.{refl}
 use mathlib.Core.List.{List, [], _∷_, _++_, map}
 use lib.ListN.{getD}
-use lib.IntN.{ℤ, pos, negsuc}
+use lib.IntN.{pos, negsuc}
 use Rattle.rules.specs.declared.v0.V0Row.{V0Row}
 use Rattle.rules.specs.Reader.{fresh, fetched, counted, held, read, fields, four, signed, modulo, read-residual}
 use Rattle.rules.specs.Frame.{tabulate, change-cells}
 use Rattle.rules.specs.V0.{fresh-row, operated, operate, head, bounded, predictor, length-of, length-bits, residual-bits, sample, samples, blocks, row-blocks, rows, put, apply, write, write-all, swap, exchange-columns, exchange-rows, exchange, sample-kind}
 use Rattle.rules.specs.Phases.{residuals, BlockRecord, block-records, row-records, store-samples, store-blocks, phase-one, direction, upward, directions, late-predictor, predict-samples, predict-blocks, phase-two, sample-stage, scratch, first-rows, two-phase}
 use Rattle.rules.specs.Examples.{Example}
-use Rattle.rules.proofs.Pins.Values.{is, are, Hold, of-bool, minus, bits, of-bits, size, words, of-predictor, rows-bytes, rows-offsets, cells-at}
+use Rattle.rules.proofs.Pins.Values.{is, are, Hold, of-bool, of-bits, size, words, of-predictor, rows-bytes, rows-offsets, cells-at}
 
 abbrev of-record : BlockRecord → List ℕ
 of-record r = of-bool (r .up) ∷ r .residuals

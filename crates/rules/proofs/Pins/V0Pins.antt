@@ -1,5 +1,5 @@
 -- Pinned examples of specs/V0.antt, by the definition's name.
-use Prim.Native.Nat.{ℕ, _+_, _-_, _*_, _%_, _^_}
+use Prim.Native.Nat.{ℕ, _+_, _-_, _%_, _^_}
 use mathlib.Core.Bool.{Bool, true, false, cond}
 use mathlib.Core.Path.{refl}
 use mathlib.Core.List.{List, [], _∷_, _++_, map}
@@ -7,14 +7,13 @@ use lib.ListN.{getD, take, replicate}
 use lib.IntN.{ℤ, pos, negsuc}
 use Rattle.rules.specs.declared.v0.Predictor.{Predictor}
 use Rattle.rules.specs.declared.v0.Predictor.the-variants.{Skipped, Constant, Sample}
-use Rattle.rules.specs.declared.v0.V0Op.{V0Op}
 use Rattle.rules.specs.declared.v0.V0Row.{V0Row}
 use Rattle.rules.specs.declared.v0.V0Length.{V0Length}
 use Rattle.rules.specs.Reader.{fresh, fetched, counted, held, read, fields, four, signed, modulo, read-residual}
 use Rattle.rules.specs.Frame.{tabulate, change-cells}
 use Rattle.rules.specs.V0.{Step, Block, Kind, fresh-row, operated, operate, head, limit, bounded, rows-up, columns-back, predictor, length-of, length-bits, residual-bits, sample, samples, order, blocks-in, blocks, row-blocks, rows, rows-filler, frame-filler, put, apply, write, write-all, swap, exchange-columns, exchange-rows, exchange, sample-kind}
 use Rattle.rules.specs.Examples.{Example}
-use Rattle.rules.proofs.Pins.Values.{is, are, Hold, of-bool, minus, of-ℤ, bits, of-bits, size, words, op, of-predictor, of-op, op-at}
+use Rattle.rules.proofs.Pins.Values.{is, are, Hold, of-bool, minus, of-ℤ, of-bits, size, words, op, of-predictor, of-op, op-at}
 
 abbrev of-length : V0Length → List ℕ
 of-length x = of-ℤ (x .length) ∷ of-bits (x .bits)

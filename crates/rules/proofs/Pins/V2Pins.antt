@@ -4,7 +4,7 @@ use mathlib.Core.Bool.{true, false}
 use mathlib.Core.Path.{refl}
 use mathlib.Core.List.{List, [], _∷_, _++_, map}
 use lib.ListN.{getD, replicate}
-use lib.IntN.{ℤ, pos, negsuc}
+use lib.IntN.{pos, negsuc}
 use Rattle.rules.specs.declared.reader.Bits.{Bits}
 use Rattle.rules.specs.declared.v2.V2Hdr.{V2Hdr}
 use Rattle.rules.specs.declared.v2.V2Start.{V2Start}
@@ -12,7 +12,7 @@ use Rattle.rules.specs.declared.v2.V2Row.{V2Row}
 use Rattle.rules.specs.declared.v2.V2Scale.{V2Scale}
 use Rattle.rules.specs.declared.v2.V2Block.{V2Block}
 use Rattle.rules.specs.declared.v2.V2Block.the-variants.{Next, EarlyMotion, Outside, LongDifference}
-use Rattle.rules.specs.Reader.{fresh, reset-at, fetched, counted, held, read, fields, four, signed, read-signed}
+use Rattle.rules.specs.Reader.{fresh, fetched, counted, held, read, fields, four, signed, read-signed}
 use Rattle.rules.specs.Frame.{tabulate, change-cells}
 use Rattle.rules.specs.V2.{Kind, field-widths, header, top, option-1, option-2, option-4, aligned, fresh-row, fresh-mode, scale-steps, rescaled, read-scale, read-motion, Base, given, copied, averaged, repeated, motion-offsets, motion-averages, reference, referred, base, refers-before, base-refusal, lengths-bit, colour, read-length, Moded, length-step, lengths-from, no-lengths, flagged-lengths, read-lengths, position, Differences, difference-step, differences-from, read-differences, Block, number, state-after, Tail, tail, based-tail, read-block, Row, then, blocks, read-row, Frame, then-rows, rows, read-frame, base-cell, block-cells, write, apply, frame, average, value, hold, sample, sample-kind, decoded}
 use Rattle.rules.specs.References.{outside, strays, any-strays, tested-refusal}
