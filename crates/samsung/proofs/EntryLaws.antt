@@ -1,8 +1,8 @@
 -- What an entry owes: its answer and what it leaves are what the rules say.
-use mathlib.Core.Path.{_≡_, refl, sym, ap, _∙_}
+use mathlib.Core.Path.{_≡_, sym, ap, _∙_}
 use mathlib.Core.Logic.{_≢_}
 use mathlib.Core.List.{List, _++_}
-use mathlib.Core.Option.{Option, none, some, Option·map}
+use mathlib.Core.Option.{some, Option·map}
 use Prim.Native.Nat.{ℕ, _≤_}
 use native.Mathlib.Omega.{arith}
 use lib.Dec.{eqb}
@@ -19,19 +19,14 @@ use Rattle.profile.specs.Clean as Clean
 use Rattle.profile.proofs.Calls as Clean-calls
 use Rattle.samsung.proofs.Opening.{Tested, Opened}
 
--- What leaves every buffer as it was leaves one that may not be lent as it was.
-lent-kept : (f : List ℕ → List ℕ) → ((m : List ℕ) → f m ≡ m) → (o : Option (List ℕ)) → o ≡ Option·map f o
-lent-kept f h none = refl
-lent-kept f h (some m) = ap some (sym (h m))
-
 -- A refusal of 1 to 4 is answered by its number, and leaves every buffer as it was.
 pub refused-yields : {a : Ask} {found : Buffers} {k : ℕ} {r : Answer} → Tested a found k → k ≢ 0 → r ≡ refused k → Yields a found r found
 refused-yields {a} {found} {k} t n q =
     record {
       answered = q ∙ sym (answer-refused a l some-refusal ∙ ap refused (t .is));
       samples = sym (samples-kept a l some-refusal (found .samples));
-      map = lent-kept (map-after a l) (λ m. map-kept a l some-refusal m) (found .map);
-      scratch = lent-kept (scratch-after a l) (λ m. scratch-kept a l some-refusal m) (found .scratch);
+      map = Clean-calls.lent-kept (map-after a l) (λ m. map-kept a l some-refusal m) (found .map);
+      scratch = Clean-calls.lent-kept (scratch-after a l) (λ m. scratch-kept a l some-refusal m) (found .scratch);
     }
   where
     l : Lent
