@@ -107,8 +107,8 @@ yields-plain a e samples left map left-map r done y =
 
 -- ── What an entry owes ──
 
--- What changes no map changes none that may not be lent.
-lent-kept : (f : List ℕ → List ℕ) → ((m : List ℕ) → f m ≡ m) → (o : Option (List ℕ)) → o ≡ Option·map f o
+-- What leaves every buffer as it was leaves one that may not be lent as it was.
+pub lent-kept : (f : List ℕ → List ℕ) → ((m : List ℕ) → f m ≡ m) → (o : Option (List ℕ)) → o ≡ Option·map f o
 lent-kept f h none = refl
 lent-kept f h (some m) = ap some (sym (h m))
 

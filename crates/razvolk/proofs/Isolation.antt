@@ -51,22 +51,19 @@ pub data Export : Type 0 where
 
 -- The same call of the export's entry: its arguments, result and parameters at exit, and what the export's contract says of them.
 unfoldable pub entry : Export → Call
-entry (direct c) = Entries.direct (record { κs = c .κs; args = c .args; result = c .result; exit = c .exit; learnt = c .learnt })
-entry (direct-map c) = Entries.direct-map (record { κs = c .κs; args = c .args; result = c .result; exit = c .exit; learnt = c .learnt })
-entry (two-phase c) = Entries.two-phase (record { κs = c .κs; args = c .args; result = c .result; exit = c .exit; learnt = c .learnt })
-entry (v2 c) = Entries.v2 (record { κs = c .κs; args = c .args; result = c .result; exit = c .exit; learnt = c .learnt })
-entry (v2-map c) = Entries.v2-map (record { κs = c .κs; args = c .args; result = c .result; exit = c .exit; learnt = c .learnt })
+entry (direct c) = Entries.direct c
+entry (direct-map c) = Entries.direct-map c
+entry (two-phase c) = Entries.two-phase c
+entry (v2 c) = Entries.v2 c
+entry (v2-map c) = Entries.v2-map c
 
 -- What it asked, found, answered and left.
 abbrev pub exported : Export → Returned
 exported c = returned (entry c)
 
--- A call of the export in bands, and the same call of its entry.
+-- A call of the export in bands, which is one of its entry.
 abbrev pub Banded : Type 0
 Banded = Made bands-kinds.ps bands-kinds.r bands-reads.Learnt
-
-abbrev pub banded : Banded → Entries.Banded
-banded c = record { κs = c .κs; args = c .args; result = c .result; exit = c .exit; learnt = c .learnt }
 
 -- A call of an export for clean frames, and the same call of its entry.
 pub data Cleaned : Type 0 where
@@ -74,8 +71,8 @@ pub data Cleaned : Type 0 where
   clean-map : Made clean-map-kinds.ps clean-map-kinds.r clean-map-reads.Learnt → Cleaned
 
 unfoldable pub cleaned : Cleaned → Entries.Cleaned
-cleaned (clean c) = Entries.clean (record { κs = c .κs; args = c .args; result = c .result; exit = c .exit; learnt = c .learnt })
-cleaned (clean-map c) = Entries.clean-map (record { κs = c .κs; args = c .args; result = c .result; exit = c .exit; learnt = c .learnt })
+cleaned (clean c) = Entries.clean c
+cleaned (clean-map c) = Entries.clean-map c
 
 -- A call of one of the eight, and what it does to the sample buffer.
 pub data Any : Type 0 where
@@ -85,7 +82,7 @@ pub data Any : Type 0 where
 
 unfoldable pub step : Any → Step
 step (plain c) = Entries.step (Entries.plain (entry c))
-step (in-bands c) = Entries.step (Entries.in-bands (banded c))
+step (in-bands c) = Entries.step (Entries.in-bands c)
 step (for-clean c) = Entries.step (Entries.for-clean (cleaned c))
 
 -- A last call: of the plain ones any, in bands and for clean frames one that is done.
@@ -96,7 +93,7 @@ pub data Final : Type 0 where
 
 unfoldable pub final : Final → Returned
 final (last c) = ended (Entries.last (entry c))
-final (last-in-bands c e) = ended (Entries.last-in-bands (banded c) e)
+final (last-in-bands c e) = ended (Entries.last-in-bands c e)
 final (last-clean c e) = ended (Entries.last-clean (cleaned c) e)
 
 -- The claim of `samsung`, for lists of calls of the exports.

@@ -65,10 +65,6 @@ room z small samples offsets map scratch k e q =
       scratch-enough = l .1;
     }
 
--- A test by another name.
-pub small-as : (t1 t2 u t3 t4 : Bool) (k : ℕ) → k ≡ first-of t1 t2 t3 t4 → t2 ≡ u → first-of t1 u t3 t4 ≡ k
-small-as t1 t2 u t3 t4 k e f = sym (e ∙ ap (λ t. first-of t1 t t3 t4) f)
-
 -- A buffer that is lent and not short is long enough.
 pub long-enough : (m n : ℕ) → short (Length m) n ≡ false → n ≤ m
 unfolding short

@@ -431,7 +431,8 @@ signed-mag m k v h l =
     top : 2 ^ k ≤ 2 * 2 ^ m
     top = omega (arith, pow-mono h, pow-add 2 1 m)
 
-minus-more : (v t : ℕ) → v < t → pos v -ℤ pos t ≡ negsuc (t - suc v)
+-- A number less a greater one.
+pub minus-more : (v t : ℕ) → v < t → pos v -ℤ pos t ≡ negsuc (t - suc v)
 minus-more v zero h = let z : _≡_ {A = ℕ} 0 1 = omega arith in cc
 minus-more v (suc t) h = rw (lt-ltb v (suc t) h)
 

@@ -1,7 +1,8 @@
 -- What an entry owes: its answer and what it leaves are what the rules say.
-use mathlib.Core.Path.{_≡_, refl, sym, ap, _∙_}
+use mathlib.Core.Path.{_≡_, sym, ap, _∙_}
+use mathlib.Core.Logic.{_≢_}
 use mathlib.Core.List.{List, _++_}
-use mathlib.Core.Option.{Option, none, some, Option·map}
+use mathlib.Core.Option.{some, Option·map}
 use Prim.Native.Nat.{ℕ, _≤_}
 use native.Mathlib.Omega.{arith}
 use lib.Dec.{eqb}
@@ -12,44 +13,53 @@ use Rattle.rules.specs.Frame.{cells}
 use Rattle.rules.specs.Answer.{refused, Ask, Lent, Buffers, lengths, Yields, refusal, answer, stream-answer, frame-samples, marks, frame-scratch, unless-refused, samples-after, map-after, scratch-after}
 use Rattle.rules.proofs.Tests.{by-test}
 use Rattle.rules.proofs.Refusals.{answer-refused, answer-passed, samples-kept, map-kept, scratch-kept}
-
--- What leaves every buffer as it was leaves one that may not be lent as it was.
-lent-kept : (f : List ℕ → List ℕ) → ((m : List ℕ) → f m ≡ m) → (o : Option (List ℕ)) → o ≡ Option·map f o
-lent-kept f h none = refl
-lent-kept f h (some m) = ap some (sym (h m))
+use Rattle.bands.specs.Call as Bands
+use Rattle.bands.proofs.Calls as Bands-calls
+use Rattle.profile.specs.Clean as Clean
+use Rattle.profile.proofs.Calls as Clean-calls
+use Rattle.samsung.proofs.Opening.{Tested, Opened}
 
 -- A refusal of 1 to 4 is answered by its number, and leaves every buffer as it was.
-pub refused-yields : (a : Ask) (found : Buffers) (k : ℕ) → refusal a (lengths found) ≡ k → (k ≡ 0 → ⊥) → (r : Answer) → r ≡ refused k → Yields a found r found
-refused-yields a found k e n r q =
+pub refused-yields : {a : Ask} {found : Buffers} {k : ℕ} {r : Answer} → Tested a found k → k ≢ 0 → r ≡ refused k → Yields a found r found
+refused-yields {a} {found} {k} t n q =
     record {
-      answered = q ∙ sym (answer-refused a l some-refusal ∙ ap refused e);
+      answered = q ∙ sym (answer-refused a l some-refusal ∙ ap refused (t .is));
       samples = sym (samples-kept a l some-refusal (found .samples));
-      map = lent-kept (map-after a l) (λ m. map-kept a l some-refusal m) (found .map);
-      scratch = lent-kept (scratch-after a l) (λ m. scratch-kept a l some-refusal m) (found .scratch);
+      map = Clean-calls.lent-kept (map-after a l) (λ m. map-kept a l some-refusal m) (found .map);
+      scratch = Clean-calls.lent-kept (scratch-after a l) (λ m. scratch-kept a l some-refusal m) (found .scratch);
     }
   where
     l : Lent
     l = lengths found
 
     some-refusal : 1 ≤ refusal a l
-    some-refusal = by-test (eqb k 0) (λ q. absurd (n (eqb-true k 0 q))) (λ q. let m = eqb-false k 0 q in omega (arith, e))
+    some-refusal = by-test (eqb k 0) (λ q. absurd (n (eqb-true k 0 q))) (λ q. let m = eqb-false k 0 q in omega (arith, t .is))
+
+-- The same of a call for clean frames, and of one in bands.
+pub clean-refused : {a : Ask} {found : Buffers} {k : ℕ} {r : Answer} → Tested a found k → k ≢ 0 → r ≡ refused k → Clean.Yields a found r found
+clean-refused t n q = Clean-calls.refused-yields _ _ _ (t .is) n _ q
+
+pub bands-refused : (c : Bands.Call) {k : ℕ} {r : Answer} → Tested (Bands.plain c) (Bands.buffers (c .samples) (c .scratch)) k → k ≢ 0 → r ≡ refused k
+    → Bands.Yields c r (c .samples) (c .scratch)
+bands-refused c {k} t n q = Bands-calls.refused-yields c k (Bands-calls.refusal-plain c k (t .is) n) n _ q
 
 -- Else the stream answers, the frame's samples and marks are the first of their buffers, and its directions the first of the scratch.
-module _ (a : Ask) (l : Lent) (ok : refusal a l ≡ 0) where
-  pub passed-answer : (r : Answer) → r ≡ stream-answer (a .decoder) (a .stream) (a .offsets) (a .size) → r ≡ answer a l
-  passed-answer r e = e ∙ sym (answer-passed a l ok)
+module _ {a : Ask} {found : Buffers} (o : Opened a found) where
+  pub passed-answer : {r : Answer} → r ≡ stream-answer (a .decoder) (a .stream) (a .offsets) (a .size) → r ≡ answer a (lengths found)
+  passed-answer e = e ∙ sym (answer-passed a (lengths found) (o .passed))
 
-  pub passed-samples : (new buffer : List ℕ) → new ≡ frame-samples (a .decoder) (a .stream) (a .offsets) (a .size) (take (cells (a .size)) buffer)
-      → new ++ drop (cells (a .size)) buffer ≡ samples-after a l buffer
+  pub passed-samples : {new : List ℕ} → new ≡ frame-samples (a .decoder) (a .stream) (a .offsets) (a .size) (take (cells (a .size)) (found .samples))
+      → new ++ drop (cells (a .size)) (found .samples) ≡ samples-after a (lengths found) (found .samples)
   unfolding samples-after unless-refused
-  passed-samples new buffer e = rw (ok, e)
+  passed-samples e = rw (o .passed, e)
 
-  pub passed-map : (new buffer : List ℕ) → new ≡ marks a → some (new ++ drop (cells (a .size)) buffer) ≡ Option·map (map-after a l) (some buffer)
+  pub passed-map : {new : List ℕ} (buffer : List ℕ) → new ≡ marks a
+      → some (new ++ drop (cells (a .size)) buffer) ≡ Option·map (map-after a (lengths found)) (some buffer)
   unfolding map-after unless-refused
-  passed-map new buffer e = rw (ok, e)
+  passed-map buffer e = rw (o .passed, e)
 
-  pub passed-scratch : (left buffer : List ℕ)
+  pub passed-scratch : {left : List ℕ} (buffer : List ℕ)
       → left ≡ frame-scratch (a .decoder) (a .stream) (a .offsets) (a .size) ++ drop (length (frame-scratch (a .decoder) (a .stream) (a .offsets) (a .size))) buffer
-      → some left ≡ Option·map (scratch-after a l) (some buffer)
+      → some left ≡ Option·map (scratch-after a (lengths found)) (some buffer)
   unfolding scratch-after unless-refused
-  passed-scratch left buffer e = ap some (e ∙ rw ok)
+  passed-scratch buffer e = ap some (e ∙ rw (o .passed))

@@ -18,7 +18,7 @@ use Rattle.rules.proofs.V0Cells.{exchange-length}
 use Rattle.bands.specs.Bands.{Cut, late-rows, fits, band-start, blocks-per-band, step-count, step-band, step-block, after, in-turn, none-done, good, predict-band, do-step, do-steps}
 use Rattle.bands.proofs.Finished.{still}
 use Rattle.bands.proofs.Counters.{zeros, Stands, stands, done-after, Turns, end, next, turns, good-full}
-use Rattle.bands.proofs.AnySequence.{same-cells, Band-ready, Band-left, band-left, Fitting, fitting, start-zero, start-last, start-up, Bands-done, step-ready, step-done, none-done-yet, reach, good-done}
+use Rattle.bands.proofs.AnySequence.{same-cells, Band-ready, Band-left, band-left, Fitting, fitting, start-zero, start-last, start-up, band-end, Bands-done, step-ready, step-done, none-done-yet, reach, good-done}
 use Rattle.v0_bands.specs.Freed.{exchange-part, freed-rows, freed-columns, exchange-freed, steps-freed}
 use Rattle.v0_bands.proofs.PartLaws.{Partner, near, at, one-row, one-column, Exchanged, part-exchanged, whole-exchanged}
 use Rattle.v0_bands.proofs.PartLaws as Part
@@ -205,12 +205,6 @@ module _ (c : Cut) (fit : Fitting c) where
           go (no a) (yes q) (no x) (no y) = out-of-it (λ _ _ _ y′. omega arith)
           go (no a) (yes q) (no x) (yes y) = in-it (omega arith) q (omega arith) y
 
-      to-end : to ≤ h - 2
-      to-end = let z = start-up c fit (suc k) (c .bands) (s .band) in omega (arith, start-last c fit)
-
-      from-to : from ≤ to
-      from-to = start-up c fit k (suc k) (omega arith)
-
       abbrev Left-by : List ℕ → List ℕ → Type 0
       Left-by x y = Band-left sample-stage w h ds start bytes b (fit .blocks-16) j x y (2 + from) (to - from)
 
@@ -250,10 +244,10 @@ module _ (c : Cut) (fit : Fitting c) where
           }
 
           pv : Left-by v (predict-band sample-stage w b j (to - from) (2 + from) ds v)
-          pv = band-left sample-stage w h ds start bytes b (fit .blocks-16) j (to - from) (2 + from) (omega arith) (omega (arith, to-end)) v ready-v
+          pv = band-left sample-stage w h ds start bytes b (fit .blocks-16) j (to - from) (2 + from) (omega arith) (omega (arith, band-end c fit k (s .band))) v ready-v
 
           pf : Left-by f (predict-band sample-stage w b j (to - from) (2 + from) ds f)
-          pf = band-left sample-stage w h ds start bytes b (fit .blocks-16) j (to - from) (2 + from) (omega arith) (omega (arith, to-end)) f ready-f
+          pf = band-left sample-stage w h ds start bytes b (fit .blocks-16) j (to - from) (2 + from) (omega arith) (omega (arith, band-end c fit k (s .band))) f ready-f
 
           moved : (k′ r d r′ d′ : ℕ) → Frees k′ r → d < freed-columns c (getD done k′ 0) → Partner r d r′ d′
               → at w (predict-band sample-stage w b j (to - from) (2 + from) ds f) r d ≡ at w (predict-band sample-stage w b j (to - from) (2 + from) ds v) r′ d′

@@ -136,27 +136,27 @@ along-inside n even odd i t r h =
     (λ e. rw e (let m : i % 2 ≡ 0 = eqb-true (i % 2) 0 e in omega (arith, r .even-end)))
     (λ e. rw e (omega (arith, r .odd-end)))
 
--- The runs from the references of samples 0 and 1.
+-- The runs from the references of samples 0 and 1, which the code has 5 more.
 module _ (n w row col motion : ℕ) (each : In n w row col motion) (even odd : ℕ)
-    (ee : even ≡ reference-5 w row col motion 0 - 5) (eo : odd ≡ reference-5 w row col motion 1 - 5)
+    (ee : even ≡ reference-5 w row col motion 0) (eo : odd ≡ reference-5 w row col motion 1)
     (t : Bool) (et : t ≡ getD motion-averages motion false) where
-  pub runs : Runs n even odd t
+  pub runs : Runs n (even - 5) (odd - 5) t
   runs = record {
     even-end = rw (ee, et) (omega (arith, each 14 (omega arith), same-parity w row col motion 0 14 refl, each 0 (omega arith)));
     odd-end = rw (eo, et) (omega (arith, each 15 (omega arith), same-parity w row col motion 1 14 refl, each 1 (omega arith)));
   }
 
-  place-is : (i : ℕ) → along even odd i + 5 ≡ reference-5 w row col motion i
+  place-is : (i : ℕ) → along (even - 5) (odd - 5) i + 5 ≡ reference-5 w row col motion i
   place-is i =
       rw (ee, eo)
       (along-5 (reference-5 w row col motion 0) (reference-5 w row col motion 1) i (each 0 (omega arith) .0) (each 1 (omega arith) .0)
       ∙ along-is w row col motion i)
 
   -- A sample's cell is the one at its place on the runs.
-  pub referred-is : (K : Kind ℕ) (f : List ℕ) (i : ℕ) → cell-from K f t (along even odd i) ≡ base-cell K f (referred w row col motion i)
+  pub referred-is : (K : Kind ℕ) (f : List ℕ) (i : ℕ) → cell-from K f t (along (even - 5) (odd - 5) i) ≡ base-cell K f (referred w row col motion i)
   unfolding referred base-cell
   referred-is K f i =
-      let p = along even odd i in
+      let p = along (even - 5) (odd - 5) i in
       let l : 5 ≤ p + 5 = omega arith in
       let q : p + 5 - 5 ≡ p = omega arith in
       rw (reference-is w row col motion i, ← place-is i, le-ltb (p + 5) 5 l, q, ← et) (by-test t (λ e. rw e) (λ e. rw e))
@@ -169,8 +169,8 @@ module _ (K : Kind ℕ) (f : List ℕ) where
     bases-7 e el = simp e el
 
     pub bases-referred : eqb motion 7 ≡ false → (n : ℕ) → In n w row col motion → (even odd : ℕ)
-        → even ≡ reference-5 w row col motion 0 - 5 → odd ≡ reference-5 w row col motion 1 - 5 → (t : Bool) → t ≡ getD motion-averages motion false
-        → l ≡ tabulate 16 0 (λ i. cell-from K f t (along even odd i)) → l ≡ tabulate 16 0 (λ i. base-cell K f (base h w row col motion i))
+        → even ≡ reference-5 w row col motion 0 → odd ≡ reference-5 w row col motion 1 → (t : Bool) → t ≡ getD motion-averages motion false
+        → l ≡ tabulate 16 0 (λ i. cell-from K f t (along (even - 5) (odd - 5) i)) → l ≡ tabulate 16 0 (λ i. base-cell K f (base h w row col motion i))
     unfolding base
     bases-referred e n each even odd ee eo t et el =
-        simp e (el ∙ tabulate-same 16 0 (λ i. cell-from K f t (along even odd i)) (λ i. base-cell K f (referred w row col motion i)) (referred-is n w row col motion each even odd ee eo t et K f))
+        simp e (el ∙ tabulate-same 16 0 (λ i. cell-from K f t (along (even - 5) (odd - 5) i)) (λ i. base-cell K f (referred w row col motion i)) (referred-is n w row col motion each even odd ee eo t et K f))

@@ -1,11 +1,11 @@
 -- A list filled place by place, and a run of stores.
 use mathlib.Core.List.{List, [], _∷_, _++_}
 use mathlib.Core.Path.{_≡_, refl, sym, ap, _∙_}
-use Prim.Native.Nat.{ℕ, zero, suc, _+_, _-_, _≤_, _<_}
+use Prim.Native.Nat.{ℕ, zero, suc, _+_, _≤_, _<_}
 use native.Mathlib.Nat.{add-zero, zero-add}
 use native.Mathlib.Numerals.{add-one}
 use native.Mathlib.Omega.{arith}
-use lib.ListN.{length, getD, set, take, drop, drop-of-length-le}
+use lib.ListN.{length, getD, set, take, drop, length-set, drop-of-length-le}
 use lib.Seq.{sets, take-suc-set, take-all, drop-cons}
 use Rattle.rules.specs.Frame.{tabulate}
 
@@ -19,28 +19,56 @@ unfolding tabulate
 tabulate-last {A = A} zero i f = rw zero-add
 tabulate-last {A = A} (suc k) i f = let e : k + suc i ≡ suc k + i = omega arith in ap (λ (l : List A). f i ∷ l) (rw e at (tabulate-last k (suc i) f))
 
--- The first i of the list l are f's: one more after a store at i, and all at sixteen.
-module _ {A : Type 0} (f : ℕ → A) (l : List A) where
-  pub fill-more : (i : ℕ) (v : A) → i < length l → take i l ≡ tabulate i 0 f → v ≡ f i → take (i + 1) (set l i v) ≡ tabulate (i + 1) 0 f
-  fill-more i v h e ev = rw (add-one, take-suc-set l i v h, tabulate-last i 0 f, e, ev, add-zero)
+-- A loop that fills sixteen places: the first i are f's.
+pub record Filled {A : Type 0} (f : ℕ → A) (l : List A) (i : ℕ) : Type 0 where
+  pub most : i ≤ 16
+  pub sixteen : length l ≡ 16
+  pub first : take i l ≡ tabulate i 0 f
 
-  pub fill-all : (i : ℕ) → length l ≡ 16 → i ≡ 16 → take i l ≡ tabulate i 0 f → l ≡ tabulate 16 0 f
-  fill-all i h ei e = sym (take-all 16 l (omega arith)) ∙ rw ei at e
-
-  pub fill-length : l ≡ tabulate 16 0 f → length l ≡ 16
+-- None is at first, one more after a store at i, and at sixteen all are.
+module _ {A : Type 0} {f : ℕ → A} {l : List A} where
+  pub filled-none : length l ≡ 16 → Filled f l 0
   unfolding tabulate
-  fill-length e = rw e
+  filled-none e = record { most = omega arith; sixteen = e; first = refl }
 
--- Sixteen stores, of which those from i on are left.
-module _ (out s : List ℕ) (at i : ℕ) (e : length s ≡ 16) where
-  pub sets-more : i < 16 → sets out (at + i) (drop i s) ≡ sets (set out (at + i) (getD s i 0)) (at + (i + 1)) (drop (i + 1) s)
-  sets-more h =
-      let h′ : i < length s = omega arith in
+  pub filled-more : {i : ℕ} {v : A} → Filled f l i → i < 16 → v ≡ f i → Filled f (set l i v) (i + 1)
+  filled-more {i} {v} g h e =
+      record {
+        most = omega arith;
+        sixteen = simp length-set (g .sixteen);
+        first = rw (add-one, take-suc-set l i v (omega (arith, g .sixteen)), tabulate-last i 0 f, g .first, e, add-zero);
+      }
+
+  pub filled-all : {i : ℕ} → Filled f l i → 16 ≤ i → l ≡ tabulate 16 0 f
+  filled-all {i} g h =
+      let e : i ≡ 16 = omega (arith, g .most) in
+      sym (take-all 16 l (omega (arith, g .sixteen))) ∙ rw e at (g .first)
+
+pub fill-length : {A : Type 0} (f : ℕ → A) (l : List A) → l ≡ tabulate 16 0 f → length l ≡ 16
+unfolding tabulate
+fill-length f l e = rw e
+
+-- A loop that stores sixteen values: those from i on are left.
+pub record Stored (old s : List ℕ) (at : ℕ) (out : List ℕ) (i : ℕ) : Type 0 where
+  pub most : i ≤ 16
+  pub as-long : length out ≡ length old
+  pub left : sets old at s ≡ sets out (at + i) (drop i s)
+
+module _ {old s : List ℕ} {at : ℕ} where
+  pub stored-none : Stored old s at old 0
+  stored-none = record { most = omega arith; as-long = refl; left = rw add-zero }
+
+  pub stored-more : {out : List ℕ} {i : ℕ} → Stored old s at out i → length s ≡ 16 → i < 16 → Stored old s at (set out (at + i) (getD s i 0)) (i + 1)
+  stored-more {out} {i} g e h =
       let n : at + (i + 1) ≡ suc (at + i) = omega arith in
-      rw (drop-cons s i 0 h′, n, add-one)
+      record {
+        most = omega arith;
+        as-long = simp length-set (g .as-long);
+        left = g .left ∙ rw (drop-cons s i 0 (omega arith), n, add-one);
+      }
 
-  pub sets-done : 16 ≤ i → sets out (at + i) (drop i s) ≡ out
-  sets-done h = let l : length s ≤ i = omega arith in rw (drop-of-length-le s {i = i} l)
+  pub stored-all : {out : List ℕ} {i : ℕ} → Stored old s at out i → length s ≡ 16 → 16 ≤ i → out ≡ sets old at s
+  stored-all {out} {i} g e h = sym (g .left ∙ rw (drop-of-length-le s {i = i} (omega arith)))
 
 pub empty-is : (f : List ℕ) → length f ≡ 0 → f ≡ []
 empty-is [] e = refl

@@ -8,15 +8,15 @@ use native.Mathlib.Nat.{mod-lt, mod-eq-of-lt, mod-add-mod, mul-add-mod-self-righ
 use native.Mathlib.Omega.{arith}
 use native.Mathlib.Numerals.{add-one}
 use lib.Dec.{ltb, leb, eqb}
-use lib.IntN.{ℤ, pos, negsuc, _-ℤ_, +ℤ-negℤ-cancel}
+use lib.IntN.{ℤ, pos, _-ℤ_, +ℤ-negℤ-cancel}
 use lib.ListN.{length, getD, set}
 use lib.Pow.{pow-pos, pow-mono, pow-add, mod-mod-pow}
 use lib.Signed.{mag}
-use borrow.Author.Tests.{ltb-true, ltb-false, leb-true, lt-ltb, le-leb}
+use borrow.Author.Tests.{ltb-true, ltb-false, leb-true, le-leb}
 use Rattle.rules.specs.Reader.{word-at, signed, read-signed}
 use Rattle.rules.specs.V2.{position, differences-from}
 use Rattle.rules.specs.declared.reader.Bits.{Bits}
-use Rattle.rules.proofs.ReaderLaws.{signed-low, signed-high, signed-mag, read-signed-is}
+use Rattle.rules.proofs.ReaderLaws.{signed-low, signed-high, signed-mag, minus-more, read-signed-is}
 use Rattle.rules.proofs.Tests.{both, by-test}
 use Rattle.window.specs.Window.{bits-from, state-at, Window, Standing}
 use Rattle.window.proofs.WindowLaws.{fields-end, read-at, three-at}
@@ -45,11 +45,6 @@ unfolding short
 short-last ls a b c = simp (le-leb _ _ a, le-leb _ _ b, le-leb _ _ c)
 
 -- ── The sign ──
-
--- A number less a greater one.
-less : (a b : ℕ) → a < b → pos a -ℤ pos b ≡ negsuc (b - suc a)
-less a zero h = absurd (omega arith)
-less a (suc b) h = rw (lt-ltb a (suc b) h)
 
 -- Adding half a turn and taking it off again, in a turn of 2^n.
 turned : (n v h : ℕ) → h ≡ 2 ^ n / 2 → v < 2 ^ n → pos ((v + h) % 2 ^ n) -ℤ pos h ≡ signed n v
@@ -80,7 +75,7 @@ turned (suc m) v h eh l = by-test (ltb (v * 2) (2 ^ suc m)) below above
         let w : (v + h) % 2 ^ suc m ≡ v - h
         = ap (λ (x : ℕ). x % 2 ^ suc m) s ∙ mul-add-mod-self-right 1 (2 ^ suc m) (v - h) ∙ mod-eq-of-lt u in
         let t : h - suc (v - h) ≡ 2 ^ suc m - suc v = omega (arith, half) in
-        rw (w, signed-high (suc m) v q l, less (v - h) h (omega (arith, half)), t)
+        rw (w, signed-high (suc m) v q l, minus-more (v - h) h (omega (arith, half)), t)
 
 low-is : (x n h : ℕ) → n ≤ 16 → h ≡ 2 ^ n / 2 → pos ((x + h) % 2 ^ 64 % 2 ^ n) -ℤ pos h ≡ signed n (x % 2 ^ n)
 low-is x n h few eh =

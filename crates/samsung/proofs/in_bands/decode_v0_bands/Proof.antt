@@ -1,13 +1,14 @@
 -- `decode_v0_bands` meets its contract: the plain call's refusals come first, then the list's, and else the frame in bands leaves
 -- what the definition says.
-use mathlib.Core.Path.{_≡_, refl, sym, _∙_}
+use mathlib.Core.Path.{refl, sym, _∙_}
+use mathlib.Core.Option.{none, some}
 use native.Mathlib.Omega.{arith}
 use borrow.Author.Needs.{needs}
 use lib.Seq.{length-take-le}
-use Rattle.rules.specs.Answer.{refusal, too-small, short-samples, short-offsets, short-map, short-scratch}
-use Rattle.refusals.specs.Lending.{short}
-use Rattle.refusals.proofs.RefusalLaws.{room, long-enough}
-use Rattle.bands.proofs.Calls.{list-passed, refusal-plain, refusal-list, refused-yields, done-yields}
+use Rattle.rules.specs.Answer.{two-phase, ask, buffers}
+use Rattle.samsung.proofs.Opening.{Opened, opened, two-phase-tested, two-phase-v0}
+use Rattle.bands.proofs.Calls.{list-passed, refusal-list, refused-yields, done-yields}
+use Rattle.samsung.proofs.EntryLaws.{bands-refused}
 use Rattle.samsung.proofs.in_bands.decode_v0_bands.Statement.{statement}
 use Rattle.samsung.proofs.in_bands.decode_v0_bands.Tie as tie
 
@@ -18,38 +19,41 @@ refused-requires : tie.Need-refused-requires
 refused-requires c κs = search needs
 
 returns : tie.Need-returns
-unfolding refusal too-small short-samples short-offsets short-map short-scratch short
-returns c =
-    let n = c .before .if1 .taken in
-    refused-yields _ _ (refusal-plain _ _ (sym (c .before .before .refuse-two-phase .ensures)) n) n _ (c .refused .ensures)
+returns c = bands-refused _ (two-phase-tested (c .before .before .refuse-two-phase .ensures)) (c .before .if1 .taken) (c .refused .ensures)
+
+abbrev at-start : tie.After-shared-slice-known3 → tie.Start
+at-start c = c .before .before .before .before .before
+
+-- What a call that is not refused may count on.
+passed : (c : tie.Else1) → let a = at-start (c .before .before) .args in Opened (ask two-phase (a .src .now) (a .offsets .now) (a .width) (a .height)) (buffers (a .out .now) none (some (a .scratch .now)))
+passed c = opened (two-phase-tested (c .before .refuse-two-phase .ensures)) (c .if1 .left)
 
 refuse-steps-requires : tie.Need-refuse-steps-requires
-refuse-steps-requires c κs = room _ _ _ _ _ _ _ (c .before .refuse-two-phase .ensures) (c .if1 .left) .wide
+refuse-steps-requires c κs = passed c .wide
 
 refused-requires-2 : tie.Need-refused-requires-2
 refused-requires-2 c κs = search needs
 
 returns-2 : tie.Need-returns-2
-unfolding refusal too-small short-samples short-offsets short-map short-scratch short
 returns-2 c =
-    let n = c .before .if2 .taken in
-    let ok = sym (c .before .before .before .before .refuse-two-phase .ensures) ∙ c .before .before .before .if1 .left in
-    refused-yields _ _ (refusal-list _ ok ∙ sym (c .before .before .refuse-steps .ensures)) n _ (c .refused2 .ensures)
+    let t = c .before .before in
+    refused-yields _ _ (refusal-list _ (passed (t .before) .passed) ∙ sym (t .refuse-steps .ensures)) (c .before .if2 .taken) _ (c .refused2 .ensures)
 
 mul-n : tie.Need-mul-n
-mul-n c = omega (arith, room _ _ _ _ _ _ _ (c .before .before .before .refuse-two-phase .ensures) (c .before .before .if1 .left) .few)
+mul-n c = omega (arith, passed (c .before .before) .few)
 
 slice-relend-prefix-decode-frame : tie.Need-slice-relend-prefix-decode-frame
-slice-relend-prefix-decode-frame c = room _ _ _ _ _ _ _ (c .before .before .before .refuse-two-phase .ensures) (c .before .before .if1 .left) .samples-enough
+slice-relend-prefix-decode-frame c = passed (c .before .before) .samples-enough
 
 slice-aggregate-decode-frame : tie.Need-slice-aggregate-decode-frame
-slice-aggregate-decode-frame c = sym (length-take-le _ _ (room _ _ _ _ _ _ _ (c .before .before .before .before .refuse-two-phase .ensures) (c .before .before .before .if1 .left) .samples-enough))
+slice-aggregate-decode-frame c = sym (length-take-le _ _ (slice-relend-prefix-decode-frame (c .before)))
 
 decode-frame-requires : tie.Need-decode-frame-requires
 decode-frame-requires c κs =
-    let p = room _ _ _ _ _ _ _ (c .before .before .before .before .before .refuse-two-phase .ensures) (c .before .before .before .before .if1 .left) in
-    let l = list-passed _ _ (sym (c .before .before .before .refuse-steps .ensures) ∙ c .before .before .if2 .left) in
-    record { width = p .wide; height = p .high; offsets-enough = long-enough _ _ (p .offsets-enough); samples-lent = length-take-le _ _ (p .samples-enough); scratch-lent = long-enough _ _ (p .scratch-enough); cut-fits = l .0; list-good = l .1 }
+    let b = c .before .before in
+    let p = passed (b .before .before) in
+    let l = list-passed _ _ (sym (b .before .refuse-steps .ensures) ∙ b .if2 .left) in
+    record { width = p .wide; height = p .high; offsets-enough = p .offsets-enough two-phase-v0; samples-lent = p .samples-lent; scratch-lent = p .scratch-enough refl; cut-fits = l .0; list-good = l .1 }
 
 done-requires : tie.Need-done-requires
 done-requires c κs = search needs
@@ -65,11 +69,9 @@ abbrev else2 : tie.After-slice-known3 → tie.Else2
 else2 c = c .before .before .before .before .before
 
 returns-3 : tie.Need-returns-3
-unfolding refusal too-small short-samples short-offsets short-map short-scratch short
 returns-3 c =
     let b = else2 (c .before .before .before) in
-    let plain = sym (b .before .before .before .refuse-two-phase .ensures) ∙ b .before .before .if1 .left in
-    let ok = refusal-list _ plain ∙ sym (b .before .refuse-steps .ensures) ∙ b .if2 .left in
+    let ok = refusal-list _ (passed (b .before .before) .passed) ∙ sym (b .before .refuse-steps .ensures) ∙ b .if2 .left in
     let d = c .before .before .before .before .before .decode-frame .ensures in
     done-yields _ ok _ (c .done .ensures) _ _ (d .0) (d .1)
 

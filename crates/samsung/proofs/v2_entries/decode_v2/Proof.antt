@@ -1,12 +1,13 @@
 -- `decode_v2` meets its contract: a refusal of 1 to 3 is the rules', and else the frame's answer and samples are what the decoder leaves.
-use mathlib.Core.Path.{_≡_, refl, sym, _∙_}
-use mathlib.Core.Logic.{inl, inr}
+use mathlib.Core.Path.{refl, sym}
+use mathlib.Core.Logic.{inr}
+use mathlib.Core.List.{[]}
+use mathlib.Core.Option.{none}
 use native.Mathlib.Omega.{arith}
 use borrow.Author.Needs.{needs}
 use lib.Seq.{length-take-le}
-use Rattle.rules.specs.Answer.{refusal, short-samples, short-offsets, short-map, short-scratch, frame-samples, stream-answer}
-use Rattle.refusals.specs.Lending.{short}
-use Rattle.refusals.proofs.RefusalLaws.{room, small-as}
+use Rattle.rules.specs.Answer.{v2, ask, buffers, frame-samples, stream-answer}
+use Rattle.samsung.proofs.Opening.{Opened, opened, v2-tested}
 use Rattle.samsung.proofs.EntryLaws.{refused-yields, passed-answer, passed-samples}
 use Rattle.samsung.proofs.v2_entries.decode_v2.Statement.{statement}
 use Rattle.samsung.proofs.v2_entries.decode_v2.Tie as tie
@@ -21,27 +22,31 @@ refused-requires : tie.Need-refused-requires
 refused-requires c κs = search needs
 
 returns : tie.Need-returns
-unfolding refusal short-samples short-offsets short-map short-scratch short
-returns c =
-    let e = small-as _ _ _ _ _ _ (c .before .before .refuse .ensures) (c .before .before .before .is-too-small .ensures) in
-    refused-yields _ _ _ e (c .before .if1 .taken) _ (c .refused .ensures)
+returns c = refused-yields (v2-tested _ (c .before .before .before .is-too-small .ensures) (c .before .before .refuse .ensures)) (c .before .if1 .taken) (c .refused .ensures)
+
+abbrev at-start : tie.After-is-too-small → tie.Start
+at-start c = c .before .before .before
+
+-- What a call that is not refused may count on.
+passed : (c : tie.Else1) → let a = at-start (c .before .before) .args in Opened (ask v2 (a .src .now) [] (a .width) (a .height)) (buffers (a .out .now) none none)
+passed c = opened (v2-tested _ (c .before .before .is-too-small .ensures) (c .before .refuse .ensures)) (c .if1 .left)
 
 mul-n : tie.Need-mul-n
-mul-n c = omega (arith, room _ _ _ _ _ _ _ (c .before .refuse .ensures) (c .if1 .left) .few)
+mul-n c = omega (arith, passed c .few)
 
 slice-relend-prefix-decode-frame : tie.Need-slice-relend-prefix-decode-frame
-slice-relend-prefix-decode-frame c = room _ _ _ _ _ _ _ (c .before .refuse .ensures) (c .if1 .left) .samples-enough
+slice-relend-prefix-decode-frame c = passed c .samples-enough
 
 slice-aggregate-decode-frame : tie.Need-slice-aggregate-decode-frame
-slice-aggregate-decode-frame c = sym (length-take-le _ _ (room _ _ _ _ _ _ _ (c .before .before .refuse .ensures) (c .before .if1 .left) .samples-enough))
+slice-aggregate-decode-frame c = sym (length-take-le _ _ (slice-relend-prefix-decode-frame (c .before)))
 
 slice-aggregate-decode-frame-2 : tie.Need-slice-aggregate-decode-frame-2
 slice-aggregate-decode-frame-2 c = search needs
 
 decode-frame-requires : tie.Need-decode-frame-requires
 decode-frame-requires c κs =
-    let p = room _ _ _ _ _ _ _ (c .before .before .before .refuse .ensures) (c .before .before .if1 .left) in
-    record { width = p .wide; height = p .high; samples-lent = length-take-le _ _ (p .samples-enough); map-lent = inr refl }
+    let p = passed (c .before .before) in
+    record { width = p .wide; height = p .high; samples-lent = p .samples-lent; map-lent = inr refl }
 
 same-length : tie.Need-same-length
 same-length c = search needs
@@ -51,12 +56,11 @@ abbrev else1 : tie.After-slice-known2 → tie.Else1
 else1 c = c .before .before .before .before .before
 
 returns-2 : tie.Need-returns-2
-unfolding refusal short-samples short-offsets short-map short-scratch short frame-samples stream-answer
+unfolding frame-samples stream-answer
 returns-2 c =
-    let b = else1 (c .before) in
-    let ok = small-as _ _ _ _ _ _ (b .before .refuse .ensures) (b .before .before .is-too-small .ensures) ∙ b .if1 .left in
+    let o = passed (else1 (c .before)) in
     let d = c .before .before .before .decode-frame .ensures in
-    record { answered = passed-answer _ _ ok _ (d .0); samples = passed-samples _ _ ok _ _ (d .1 .0); map = refl; scratch = refl }
+    record { answered = passed-answer o (d .0); samples = passed-samples o (d .1 .0); map = refl; scratch = refl }
 
 pub decode-v2-spec : {M : Type 1} → statement M
 decode-v2-spec =

@@ -1,6 +1,5 @@
 -- Motion 7 repeats; else every reference is in the frame, since no refusal is met, and the places on the two runs are the references.
-use mathlib.Core.Path.{ap}
-use Prim.Native.Nat.{ℕ, _-_, _≤_}
+use Prim.Native.Nat.{_≤_}
 use native.Mathlib.Omega.{arith}
 use lib.ListN.{length}
 use denote.Ref.{now}
@@ -39,13 +38,13 @@ abbrev else1 : tie.After-refer-arg → tie.Else1
 else1 c = c .before .before .before .before
 
 refer-requires : tie.Need-refer-requires
-refer-requires c κs = (runs _ _ _ _ _ (free (else1 c) .1) _ _ (ap (λ (x : ℕ). x - 5) (c .before .before .before .reference-plus-5 .ensures)) (ap (λ (x : ℕ). x - 5) (c .before .before .reference-plus-52 .ensures)) _ (c .before .averages .ensures), else1 c .before .before .pre .1 .1 .0)
+refer-requires c κs = (runs _ _ _ _ _ (free (else1 c) .1) _ _ (c .before .before .before .reference-plus-5 .ensures) (c .before .before .reference-plus-52 .ensures) _ (c .before .averages .ensures), else1 c .before .before .pre .1 .1 .0)
 
 returns : tie.Need-returns
 returns c = bases-7 _ _ _ _ _ _ _ _ (c .before .before .if1 .taken) (c .repeat .ensures)
 
 returns-2 : tie.Need-returns-2
-returns-2 c = bases-referred _ _ _ _ _ _ _ _ (ne-eqb _ _ (else1 (c .before) .if1 .left)) _ (free (else1 (c .before)) .1) _ _ (ap (λ (x : ℕ). x - 5) (c .before .before .before .before .reference-plus-5 .ensures)) (ap (λ (x : ℕ). x - 5) (c .before .before .before .reference-plus-52 .ensures)) _ (c .before .before .averages .ensures) (c .refer .ensures)
+returns-2 c = bases-referred _ _ _ _ _ _ _ _ (ne-eqb _ _ (else1 (c .before) .if1 .left)) _ (free (else1 (c .before)) .1) _ _ (c .before .before .before .before .reference-plus-5 .ensures) (c .before .before .before .reference-plus-52 .ensures) _ (c .before .before .averages .ensures) (c .refer .ensures)
 
 pub bases-spec : {M : Type 1} → statement M
 bases-spec =

@@ -1,6 +1,5 @@
 -- Motion 7 repeats; else every reference is in the frame, since no refusal is met, and the places on the two runs are the references.
-use mathlib.Core.Path.{ap}
-use Prim.Native.Nat.{ℕ, _-_, _≤_}
+use Prim.Native.Nat.{_≤_}
 use native.Mathlib.Omega.{arith}
 use lib.ListN.{length}
 use denote.Ref.{now}
@@ -40,13 +39,13 @@ abbrev else1 : tie.After-refer-marks-arg → tie.Else1
 else1 c = c .before .before .before .before
 
 refer-marks-requires : tie.Need-refer-marks-requires
-refer-marks-requires c κs = (runs _ _ _ _ _ (free (else1 c) .1) _ _ (ap (λ (x : ℕ). x - 5) (c .before .before .before .reference-plus-5 .ensures)) (ap (λ (x : ℕ). x - 5) (c .before .before .reference-plus-52 .ensures)) _ (c .before .averages .ensures), else1 c .before .before .pre .1 .1 .0)
+refer-marks-requires c κs = (runs _ _ _ _ _ (free (else1 c) .1) _ _ (c .before .before .before .reference-plus-5 .ensures) (c .before .before .reference-plus-52 .ensures) _ (c .before .averages .ensures), else1 c .before .before .pre .1 .1 .0)
 
 returns : tie.Need-returns
 returns c = λ h. bases-7 v2-marks _ _ _ _ _ _ _ (c .before .before .if1 .taken) (c .repeat-marks .ensures h)
 
 returns-2 : tie.Need-returns-2
-returns-2 c = λ h. bases-referred v2-marks _ _ _ _ _ _ _ (ne-eqb _ _ (else1 (c .before) .if1 .left)) _ (free (else1 (c .before)) .1) _ _ (ap (λ (x : ℕ). x - 5) (c .before .before .before .before .reference-plus-5 .ensures)) (ap (λ (x : ℕ). x - 5) (c .before .before .before .reference-plus-52 .ensures)) _ (c .before .before .averages .ensures) (c .refer-marks .ensures)
+returns-2 c = λ h. bases-referred v2-marks _ _ _ _ _ _ _ (ne-eqb _ _ (else1 (c .before) .if1 .left)) _ (free (else1 (c .before)) .1) _ _ (c .before .before .before .before .reference-plus-5 .ensures) (c .before .before .before .reference-plus-52 .ensures) _ (c .before .before .averages .ensures) (c .refer-marks .ensures)
 
 pub block-marks-spec : {M : Type 1} → statement M
 block-marks-spec =

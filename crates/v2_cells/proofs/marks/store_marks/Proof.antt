@@ -1,23 +1,18 @@
 -- The loop's invariant: the stores from i on come to what all sixteen come to.
-use mathlib.Core.Path.{_≡_, refl, sym, _∙_}
-use Prim.Native.Nat.{_+_, _-_, _≤_}
-use native.Mathlib.Nat.{add-zero}
-use native.Mathlib.Omega.{arith}
-use lib.ListN.{length, drop, length-set}
-use lib.Seq.{sets}
+use Prim.Native.Nat.{_-_}
 use borrow.Author.Needs.{needs}
-use Rattle.v2_cells.proofs.Fill.{sets-more, sets-done}
+use Rattle.v2_cells.proofs.Fill.{Stored, stored-none, stored-more, stored-all}
 use Rattle.v2_cells.proofs.marks.store_marks.Statement.{statement}
 use Rattle.v2_cells.proofs.marks.store_marks.Tie as tie
 
 abbrev Inv-loop : tie.InvT-loop
-Inv-loop map₀ at marks i₀ map i = (i ≤ 16) × ((length map ≡ length map₀) × (sets map₀ at marks ≡ sets map (at + i) (drop i marks)))
+Inv-loop map₀ at marks i₀ map i = Stored map₀ marks at map i
 
 abbrev μ-loop : tie.MeasureT-loop
 μ-loop map₀ at marks i₀ map i = 16 - i
 
 loop-holds : tie.Need-loop-holds Inv-loop μ-loop
-loop-holds c = (omega arith, (refl, rw add-zero))
+loop-holds c = stored-none
 
 element-copy-out-map : tie.Need-element-copy-out-map Inv-loop μ-loop
 element-copy-out-map c = search needs
@@ -35,13 +30,13 @@ loop-less : tie.Need-loop-less Inv-loop μ-loop
 loop-less c = search needs
 
 loop-again : tie.Need-loop-again Inv-loop μ-loop
-loop-again c = let l = c .before .before .loop in let t = c .before .loop-test .taken in (omega (arith, t), (simp length-set (l .inv .1 .0), l .inv .1 .1 ∙ sets-more _ _ _ _ (c .before .before .before .pre .1) t))
+loop-again c = stored-more (c .before .before .loop .inv) (c .before .before .before .pre .1) (c .before .loop-test .taken)
 
 same-length : tie.Need-same-length Inv-loop μ-loop
 same-length c = search needs
 
 returns : tie.Need-returns Inv-loop μ-loop
-returns c = sym (c .before .loop .inv .1 .1 ∙ sets-done _ _ _ _ (c .before .before .pre .1) (c .loop-test .left))
+returns c = stored-all (c .before .loop .inv) (c .before .before .pre .1) (c .loop-test .left)
 
 pub store-marks-spec : {M : Type 1} → statement M
 store-marks-spec =

@@ -1,30 +1,27 @@
 -- After i turns the first i samples are the rule's.
-use mathlib.Core.Path.{_≡_, refl}
-use Prim.Native.Nat.{_-_, _≤_}
+use Prim.Native.Nat.{_-_}
 use native.Mathlib.Omega.{arith}
 use lib.IntN.{pos}
-use lib.ListN.{length, take, getD, length-set}
+use lib.ListN.{getD}
 use mir.Syntax.{w32}
 use mir.Val.{SFits, toZ}
 use mir.ValLaws.{toZ-ofZ}
 use denote.Ref.{now}
 use borrow.Author.Needs.{needs}
-use Rattle.rules.specs.Frame.{tabulate}
 use Rattle.rules.specs.V2.{sample}
 use Rattle.rules.specs.Ranges.{Small}
-use Rattle.v2_cells.proofs.Fill.{fill-more, fill-all}
+use Rattle.v2_cells.proofs.Fill.{Filled, filled-none, filled-more, filled-all}
 use Rattle.v2_cells.proofs.samples.build.Statement.{statement}
 use Rattle.v2_cells.proofs.samples.build.Tie as tie
 
 abbrev Inv-loop : tie.InvT-loop
-Inv-loop base d scale top samples₀ i₀ samples i = (i ≤ 16) × ((length samples ≡ 16) × (take i samples ≡ tabulate i 0 (λ k. sample top (toZ w32 scale) (getD d k (pos 0)) (getD base k 0))))
+Inv-loop base d scale top samples₀ i₀ samples i = Filled (λ k. sample top (toZ w32 scale) (getD d k (pos 0)) (getD base k 0)) samples i
 
 abbrev μ-loop : tie.MeasureT-loop
 μ-loop base d scale top samples₀ i₀ samples i = 16 - i
 
 loop-holds : tie.Need-loop-holds Inv-loop μ-loop
-unfolding tabulate
-loop-holds c = (omega arith, (c .pre .1 .1 .1, refl))
+loop-holds c = filled-none (c .pre .1 .1 .1)
 
 mul-sample-of : tie.Need-mul-sample-of Inv-loop μ-loop
 mul-sample-of c = search needs
@@ -63,17 +60,15 @@ loop-again : tie.Need-loop-again Inv-loop μ-loop
 loop-again c =
     let a = c .before .before .before .before .before in
     let l = c .before .before .before .before .loop in
-    let t = c .before .before .before .loop-test .taken in
     let z = getD (now (a .args .d)) (l .i) (pos 0) in
     let s : Small z = a .pre .0 (l .i) in
     let f : SFits w32 z = record { sfits = omega arith } in
-    (omega (arith, t), (simp length-set (l .inv .1 .0), fill-more _ _ _ _ (omega (arith, l .inv .1 .0, t)) (l .inv .1 .1) (rw (toZ-ofZ w32 z f) at (c .sample-of .ensures))))
+    filled-more (l .inv) (c .before .before .before .loop-test .taken) (rw (toZ-ofZ w32 z f) at (c .sample-of .ensures))
 
 returns : tie.Need-returns Inv-loop μ-loop
 returns c =
     let a = c .before .before in
-    let l = c .before .loop in
-    simp (toZ-ofZ w32 (a .args .scale) (a .fits .scale)) at (fill-all _ _ _ (l .inv .1 .0) (omega (arith, c .loop-test .left)) (l .inv .1 .1))
+    simp (toZ-ofZ w32 (a .args .scale) (a .fits .scale)) at (filled-all (c .before .loop .inv) (c .loop-test .left))
 
 pub build-spec : {M : Type 1} → statement M
 build-spec =

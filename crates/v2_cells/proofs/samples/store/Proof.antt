@@ -1,23 +1,18 @@
 -- The loop's invariant: the stores from i on come to what all sixteen come to.
-use mathlib.Core.Path.{_≡_, refl, sym, _∙_}
-use Prim.Native.Nat.{_+_, _-_, _≤_, _<_}
-use native.Mathlib.Nat.{add-zero}
-use native.Mathlib.Omega.{arith}
-use lib.ListN.{length, drop, length-set}
-use lib.Seq.{sets}
+use Prim.Native.Nat.{_-_}
 use borrow.Author.Needs.{needs}
-use Rattle.v2_cells.proofs.Fill.{sets-more, sets-done}
+use Rattle.v2_cells.proofs.Fill.{Stored, stored-none, stored-more, stored-all}
 use Rattle.v2_cells.proofs.samples.store.Statement.{statement}
 use Rattle.v2_cells.proofs.samples.store.Tie as tie
 
 abbrev Inv-loop : tie.InvT-loop
-Inv-loop out₀ at samples i₀ out i = (i ≤ 16) × ((length out ≡ length out₀) × (sets out₀ at samples ≡ sets out (at + i) (drop i samples)))
+Inv-loop out₀ at samples i₀ out i = Stored out₀ samples at out i
 
 abbrev μ-loop : tie.MeasureT-loop
 μ-loop out₀ at samples i₀ out i = 16 - i
 
 loop-holds : tie.Need-loop-holds Inv-loop μ-loop
-loop-holds c = (omega arith, (refl, rw add-zero))
+loop-holds c = stored-none
 
 mul-out : tie.Need-mul-out Inv-loop μ-loop
 mul-out c = search needs
@@ -41,16 +36,13 @@ loop-less : tie.Need-loop-less Inv-loop μ-loop
 loop-less c = search needs
 
 loop-again : tie.Need-loop-again Inv-loop μ-loop
-loop-again c =
-    let l = c .before .before .loop in
-    let t : l .i < 16 = omega (arith, c .before .loop-test .taken) in
-    (omega arith, (simp length-set (l .inv .1 .0), l .inv .1 .1 ∙ sets-more _ _ _ _ (c .before .before .before .pre .1) t))
+loop-again c = stored-more (c .before .before .loop .inv) (c .before .before .before .pre .1) (c .before .loop-test .taken)
 
 same-length : tie.Need-same-length Inv-loop μ-loop
 same-length c = search needs
 
 returns : tie.Need-returns Inv-loop μ-loop
-returns c = sym (c .before .loop .inv .1 .1 ∙ sets-done _ _ _ _ (c .before .before .pre .1) (c .loop-test .left))
+returns c = stored-all (c .before .loop .inv) (c .before .before .pre .1) (c .loop-test .left)
 
 pub store-spec : {M : Type 1} → statement M
 store-spec =
