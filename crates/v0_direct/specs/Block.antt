@@ -13,6 +13,12 @@ use Rattle.rules.specs.declared.v0.V0Head.{V0Head}
 abbrev pub samples-of : List ℕ → Size → ℕ → ℕ → V0Head → List ℕ → Bits → Ops
 samples-of s z row col h cs b = samples s (row * z .width + col) (h .row .lengths) (predictor z row col (h .up)) cs b
 
+-- Operations done to the samples and to the map, and the reader after them.
+pub record Applied (x : Ops) (out map : List ℕ) (b : Bits) (out′ map′ : List ℕ) : Type 0 where
+  pub reader : b ≡ x .bits
+  pub samples : out′ ≡ apply sample-kind (x .ops) out
+  pub marks : map′ ≡ apply v0-marks (x .ops) map
+
 -- What a block does, by the state of the row before it.
 unfoldable pub block-ops : List ℕ → Size → ℕ → ℕ → V0Row → Ops
 block-ops s z row col st = samples-of s z row col (head s st) order (head s st .row .bits)
