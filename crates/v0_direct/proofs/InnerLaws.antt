@@ -37,13 +37,13 @@ unfolding residuals
 residual-count s ls [] b = refl
 residual-count s ls (c ∷ cs) b = ap suc (residual-count s ls cs (read-residual s b (length-bits (length-of ls c)) .bits))
 
-module _ (s : List ℕ) (z : Size) (row col : ℕ) (st : V0Row) (i : Inner z row col) (x : ReadBlock) (ex : x ≡ whole-block s st) where
+module _ (s : List ℕ) (st : V0Row) {z : Size} {row col : ℕ} (i : Inner z row col) (x : ReadBlock) (ex : x ≡ whole-block s st) where
   inner-block : block-ops s z row col st ≡ record { ops = inner-ops (z .width) (row * z .width + col) (x .up) order (x .residuals); bits = x .row .bits }
   unfolding block-ops whole-block with-residuals
   inner-block =
       let h = head s st in
       open-samples s (z .width) (row * z .width + col) (h .up) (h .row .lengths) (predictor z row col (h .up)) order (h .row .bits)
-      (λ j l. inner-predictor z row col i (h .up) (getD order j 0) (order-below j l))
+      (λ j l. inner-predictor i (h .up) (getD order j 0) (order-below j l))
       ∙ rw ex
 
   pub inner-state : x .row ≡ after-block s z row col st
