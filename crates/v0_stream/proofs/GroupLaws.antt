@@ -192,16 +192,11 @@ module _ {s : List ℕ} {st : V0Row} {h : WindowHead} {n₀ n₁ n₂ n₃ : ℕ
 
   -- The head's end, and the bits of each residual.
   pub near : (64 < h .q) × ((h .q ≤ 121) × ((n₀ ≤ 32) × ((n₁ ≤ 32) × ((n₂ ≤ 32) × (n₃ ≤ 32)))))
-  near =
-      let few = x .opened .stands .few in
-      let some = x .opened .head-at .some in
-      let soon = x .opened .head-at .soon in
-      (omega arith, (omega arith, (few₀, (few₁, (few₂, few₃)))))
+  near = (omega arith, (omega arith, (few₀, (few₁, (few₂, few₃)))))
 
   -- A group that begins no later than the fourth may.
   in-room : (q n : ℕ) → 64 < q → q ≤ 505 → n ≤ 32 → FourIn s (st .bits .pos - 12) q n
   in-room q n late soon few =
-      let there = x .opened .stands .there in
       record { short = λ l. (l, (omega arith, (omega arith, omega arith))); long = λ l. (l, (few, (omega arith, omega arith))) }
 
   -- Each of the four.
@@ -219,7 +214,7 @@ module _ {s : List ℕ} {st : V0Row} {h : WindowHead} {n₀ n₁ n₂ n₃ : ℕ
 
   -- The state after the block.
   pub end-room : (p : ℕ) → p ≤ 633 → st .bits .pos - 12 + (p + 31) / 32 * 4 ≤ length s
-  end-room p l = let there = x .opened .stands .there in omega arith
+  end-room p l = omega arith
 
 -- A block read by position: its four groups too.
 pub record ByPosition (s : List ℕ) (st : V0Row) (h : WindowHead) (n₀ n₁ n₂ n₃ : ℕ) (a b c d : List ℕ) : Type 0 where

@@ -30,7 +30,7 @@ use Rattle.v0_stream.proofs.GroupLaws.{four-is, window-words}
 
 -- A record that stands in the stream with room for a block has room for the window.
 pub head-room : {s : List ℕ} {b : Bits} → Standing s b 76 → Room s (b .pos - 12) (96 - b .count)
-head-room x = let few = x .few in let there = x .there in let far = x .far in record { some = omega arith; soon = omega arith; there = omega arith; far = omega arith }
+head-room x = record { some = omega arith; soon = omega arith; there = omega arith; far = omega arith }
 
 -- ── One length ──
 
