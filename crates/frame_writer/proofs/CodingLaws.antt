@@ -1,6 +1,6 @@
 -- What holds of both formats: their units, their widths, and that every number of a frame that can be written is short.
-use Prim.Native.Nat.{ℕ, suc, zero, _+_, _-_, _*_, _/_, _%_, _<_, _≤_}
-use mathlib.Core.Path.{_≡_, refl, sym, ap, _∙_}
+use Prim.Native.Nat.{ℕ, suc, zero, _+_, _*_, _/_, _%_, _<_, _≤_}
+use mathlib.Core.Path.{_≡_, refl, ap}
 use mathlib.Core.List.{List, [], _∷_}
 use mathlib.Core.Logic.{by-cases}
 use native.Mathlib.Omega.{arith}
@@ -18,7 +18,7 @@ use Rattle.writers.proofs.V2Written.{difference-short}
 use Rattle.pack.specs.Block.{Shorts}
 use Rattle.frame_writer.specs.declared.format.Format.{Format}
 use Rattle.frame_writer.specs.declared.format.Format.the-variants.{V0, V2}
-use Rattle.frame_writer.specs.Frames.{Whole, Writable, size, exchanged, coding, unit, block-of, block-residuals, block-differences, block-numbers}
+use Rattle.frame_writer.specs.Frames.{BlockLent, Whole, Writable, size, exchanged, coding, unit, block-of, block-residuals, block-differences, block-numbers}
 use Rattle.frame_writer.proofs.HalfLaws.{tabulate-get, tabulate-length}
 
 module _ (w h : ℕ) (f : List ℕ) where
@@ -67,8 +67,12 @@ unfolding unit
 whole-v0 w = record { blocks = λ e. absurd (let q : 4 ≡ 16 = ap unit e in omega arith) }
 
 -- A V2 block ends within its row.
-pub inner-block : (format : Format) (w col : ℕ) → Whole format w → format ≡ V2 → col % 16 ≡ 0 → col < w → col + 16 ≤ w
-inner-block format w col whole e a l = let b = whole .blocks e in omega arith
+pub inner-block : {format : Format} {w h row col : ℕ} {f : List ℕ} → BlockLent w h row col f → Whole format w → format ≡ V2 → col + 16 ≤ w
+inner-block x whole e = let b = whole .blocks e in omega arith
+
+-- Each block of a frame that can be written is lent.
+pub block-lent : {format : Format} {w h row col : ℕ} {f : List ℕ} → Writable format w h f → row < h → col < w → col % 16 ≡ 0 → BlockLent w h row col f × Whole format w
+block-lent x r c e = (record { place = record { wide = x .wide; high = x .high; row-in = r; col-in = c }; block = e; whole = x .whole }, x .blocks)
 
 -- A block's numbers as a list, each of them short.
 listed-short : (x : Coding) (row col : ℕ) → ((k : ℕ) → Short (x .number row col k)) → Shorts (block-of x row col)

@@ -13,10 +13,13 @@ use Rattle.rules.specs.V0.{sample-kind}
 use Rattle.rules.proofs.Tests.{by-test, both}
 use Rattle.writers.specs.Exchanged.{evens-start, odds-start, place-of}
 use Rattle.writers.proofs.ExchangeAt.{exchange-place}
-use Rattle.frame_writer.specs.Frames.{size, exchanged}
+use Rattle.frame_writer.specs.Frames.{BlockLent, size, exchanged}
 
 pub product : (a w : ℕ) → a ≤ 16_384 → w ≤ 16_384 → a * w ≤ 268_435_456
 product a w l m = mul-le-mul l m
+
+pub frame-small : {w h row col : ℕ} {f : List ℕ} → BlockLent w h row col f → length f ≤ 268_435_456
+frame-small {w} {h} b = omega (arith, product w h (b .place .wide) (b .place .high))
 
 -- ── The starts ──
 
@@ -96,17 +99,17 @@ sample-is w h row col f p r l e q = rw q (sym (exchange-place sample-kind (size 
 
 -- The places of the block at a column, in the order of the stream: eight from one start on, and eight from the other.
 module _ (w h row col : ℕ) (start : col % 16 ≡ 0) (inner : col + 16 ≤ w) where
-  pub inner-place : (k evens odds : ℕ) → k < 16 → evens ≡ evens-start w row + col → odds ≡ odds-start (size w h) row + col + 1
-      → cond (ltb k 8) evens odds + 2 * (k % 8) ≡ place-of (size w h) row (col + (2 * (k % 8) + k / 8))
+  pub inner-place : (k evens odds : ℕ) → k < 16 → evens ≡ evens-start w row → odds ≡ odds-start (size w h) row
+      → cond (ltb k 8) (evens + col) (odds + col + 1) + 2 * (k % 8) ≡ place-of (size w h) row (col + (2 * (k % 8) + k / 8))
   inner-place k evens odds l e o =
       by-test (ltb k 8)
       (λ q. rw q (let b = ltb-true k 8 q in
       let c-is : c ≡ 2 * k = omega arith in
-      let s : evens + 2 * (k % 8) ≡ evens-start w row + (col + c) = omega arith in
+      let s : evens + col + 2 * (k % 8) ≡ evens-start w row + (col + c) = omega arith in
       s ∙ evens-place w h row (col + c) (even-column k c c-is) (omega arith)))
       (λ q. rw q (let b = ltb-false k 8 q in
       let c-is : c ≡ 2 * (k - 8) + 1 = omega arith in
-      let s : odds + 2 * (k % 8) ≡ odds-start (size w h) row + (col + c) = omega arith in
+      let s : odds + col + 1 + 2 * (k % 8) ≡ odds-start (size w h) row + (col + c) = omega arith in
       s ∙ odds-place w h row (col + c) (odd-column (k - 8) c c-is) (omega arith)))
     where
       c : ℕ
@@ -117,10 +120,3 @@ module _ (w h row col : ℕ) (start : col % 16 ≡ 0) (inner : col + 16 ≤ w) w
 
       odd-column : (j c : ℕ) → c ≡ 2 * j + 1 → (col + c) % 2 ≡ 1
       odd-column j c e = omega arith
-
-  -- The first of each half.
-  pub evens-first : (evens : ℕ) → evens ≡ evens-start w row + col → evens ≡ place-of (size w h) row col
-  evens-first evens e = e ∙ evens-place w h row col (omega arith) (omega arith)
-
-  pub odds-first : (odds : ℕ) → odds ≡ odds-start (size w h) row + col + 1 → odds ≡ place-of (size w h) row (col + 1)
-  odds-first odds e = let s : odds ≡ odds-start (size w h) row + (col + 1) = omega arith in s ∙ odds-place w h row (col + 1) (omega arith) (omega arith)

@@ -1,15 +1,13 @@
 -- A sample's residual, and the sixteen of a block, over plain numbers and lists.
-use Prim.Native.Nat.{ℕ, zero, suc, _+_, _-_, _*_, _/_, _%_, _<_, _≤_}
+use Prim.Native.Nat.{ℕ, _+_, _-_, _*_, _/_, _%_, _<_, _≤_}
 use mathlib.Core.Bool.{Bool, true, false, cond}
-use mathlib.Core.Path.{_≡_, refl, sym, ap, ap₂, _∙_}
+use mathlib.Core.Path.{_≡_, refl, ap, ap₂, _∙_}
 use mathlib.Core.Logic.{_≢_}
 use mathlib.Core.List.{List}
 use native.Mathlib.Omega.{arith}
-use native.Mathlib.Decide.{ℕ-discrete}
 use native.Mathlib.Nat.{zero-add}
 use lib.Dec.{eqb, ltb}
-use lib.ListN.{length, getD, set, length-set}
-use lib.Seq.{getD-set-same, getD-set-other, ext-getD}
+use lib.ListN.{length, getD, set}
 use borrow.Author.Tests.{ltb-true, ltb-false, lt-ltb, le-ltb, eqb-true, eqb-false, eq-eqb, ne-eqb}
 use Rattle.rules.specs.Frame.{tabulate}
 use Rattle.rules.specs.V0.{order, columns-back}
@@ -18,9 +16,9 @@ use Rattle.rules.proofs.Tests.{by-test}
 use Rattle.writers.specs.Writer.{predicted, residual}
 use Rattle.writers.specs.Exchanged.{evens-start, odds-start}
 use Rattle.writers.proofs.Blocks.{each-of-run}
-use Rattle.frame_writer.specs.Frames.{size, exchanged, block-residuals, by-halves}
+use Rattle.frame_writer.specs.Frames.{BlockLent, size, exchanged, block-residuals, by-halves}
 use Rattle.frame_writer.proofs.HalfLaws.{tabulate-get, tabulate-length, listed, Finding, finding-on}
-use Rattle.frame_writer.proofs.PlaceLaws.{sample-is, place-in, evens-place, odds-place, inner-place}
+use Rattle.frame_writer.proofs.PlaceLaws.{frame-small, sample-is, place-in, evens-place, odds-place, inner-place}
 
 -- ── A residual ──
 
@@ -74,53 +72,61 @@ pub edge-on : (w : ℕ) (g : List ℕ) (row col : ℕ) (d : List ℕ) (k v : ℕ
 edge-on w g row col d k v l e r = finding-on (at-column w g row col) d k v l (e ∙ ap (residual w g row col) (order-is k l)) r
 
 -- An inner block by its halves.
-module _ (w h row col : ℕ) (f : List ℕ) (in-row : row < h) (whole : col % 16 ≡ 0) (inner : col + 16 ≤ w) (long : length f ≡ w * h) (evens odds : ℕ)
-    (evens-are : evens ≡ evens-start w row + col) (odds-are : odds ≡ odds-start (size w h) row + col + 1) where
-  pub evens-in : evens + 14 < w * h
-  evens-in =
-      let s : evens + 14 ≡ evens-start w row + (col + 14) = omega arith in
-      omega (arith, s, evens-place w h row (col + 14) (omega arith) (omega arith), place-in w h row (col + 14) in-row (omega arith))
+module _ {w h row col : ℕ} {f : List ℕ} (b : BlockLent w h row col f) (inner : col + 16 ≤ w) where
+  -- Each half lies in the frame.
+  pub evens-in : {evens : ℕ} → evens ≡ evens-start w row → (evens + col + 14 < length f) × (length f ≤ 268_435_456)
+  evens-in {evens} e =
+      let s : evens + col + 14 ≡ evens-start w row + (col + 14) = omega arith in
+      (omega (arith, s, evens-place w h row (col + 14) (omega arith) (omega arith), place-in w h row (col + 14) (b .place .row-in) (omega arith)), frame-small b)
 
-  pub odds-in : odds + 14 < w * h
-  odds-in =
-      let s : odds + 14 ≡ odds-start (size w h) row + (col + 15) = omega arith in
-      omega (arith, s, odds-place w h row (col + 15) (omega arith) (omega arith), place-in w h row (col + 15) in-row (omega arith))
+  pub odds-in : {odds : ℕ} → odds ≡ odds-start (size w h) row → (odds + col + 1 + 14 < length f) × (length f ≤ 268_435_456)
+  odds-in {odds} e =
+      let s : odds + col + 1 + 14 ≡ odds-start (size w h) row + (col + 15) = omega arith in
+      (omega (arith, s, odds-place w h row (col + 15) (omega arith) (omega arith), place-in w h row (col + 15) (b .place .row-in) (omega arith)), frame-small b)
 
+module _ {w h row col : ℕ} {f : List ℕ} (b : BlockLent w h row col f) (inner : col + 16 ≤ w) {evens odds : ℕ}
+    (evens-are : evens ≡ evens-start w row) (odds-are : odds ≡ odds-start (size w h) row) where
   abbrev g : List ℕ
   g = exchanged w h f
 
+  abbrev first : ℕ
+  first = evens + col
+
+  abbrev second : ℕ
+  second = odds + col + 1
+
   -- The prediction of a half, by the sample two places before its first.
-  half-predicted : (first c p : ℕ) → (col ≢ 0 → getD f (first - 2) 0 ≡ getD g (row * w + (col - 2 + c % 2)) 0)
-      → p ≡ cond (eqb col 0) 128 (getD f (first - 2) 0) → p ≡ predicted w g row col c
-  half-predicted first c p at e =
+  half-predicted : (start c p : ℕ) → (col ≢ 0 → getD f (start - 2) 0 ≡ getD g (row * w + (col - 2 + c % 2)) 0)
+      → p ≡ cond (eqb col 0) 128 (getD f (start - 2) 0) → p ≡ predicted w g row col c
+  half-predicted start c p at e =
       by-test (eqb col 0)
       (λ z. (rw z at e) ∙ predicted-first w row col c g (eqb-true col 0 z))
-      (λ z. let n = eqb-false col 0 z in predicted-later w row col c g p whole n ((rw z at e) ∙ at n))
+      (λ z. let n = eqb-false col 0 z in predicted-later w row col c g p (b .block) n ((rw z at e) ∙ at n))
 
-  evens-before : (c : ℕ) → c % 2 ≡ 0 → col ≢ 0 → getD f (evens - 2) 0 ≡ getD g (row * w + (col - 2 + c % 2)) 0
+  evens-before : (c : ℕ) → c % 2 ≡ 0 → col ≢ 0 → getD f (first - 2) 0 ≡ getD g (row * w + (col - 2 + c % 2)) 0
   evens-before c e n =
-      let s : evens - 2 ≡ evens-start w row + (col - 2) = omega arith in
+      let s : first - 2 ≡ evens-start w row + (col - 2) = omega arith in
       let t : row * w + (col - 2) ≡ row * w + (col - 2 + c % 2) = omega arith in
-      sample-is w h row (col - 2) f (evens - 2) in-row (omega arith) long (s ∙ evens-place w h row (col - 2) (omega arith) (omega arith))
+      sample-is w h row (col - 2) f (first - 2) (b .place .row-in) (omega arith) (b .whole) (s ∙ evens-place w h row (col - 2) (omega arith) (omega arith))
       ∙ ap (λ i. getD g i 0) t
 
-  odds-before : (c : ℕ) → c % 2 ≡ 1 → col ≢ 0 → getD f (odds - 2) 0 ≡ getD g (row * w + (col - 2 + c % 2)) 0
+  odds-before : (c : ℕ) → c % 2 ≡ 1 → col ≢ 0 → getD f (second - 2) 0 ≡ getD g (row * w + (col - 2 + c % 2)) 0
   odds-before c e n =
-      let s : odds - 2 ≡ odds-start (size w h) row + (col - 1) = omega arith in
+      let s : second - 2 ≡ odds-start (size w h) row + (col - 1) = omega arith in
       let t : row * w + (col - 1) ≡ row * w + (col - 2 + c % 2) = omega arith in
-      sample-is w h row (col - 1) f (odds - 2) in-row (omega arith) long (s ∙ odds-place w h row (col - 1) (omega arith) (omega arith))
+      sample-is w h row (col - 1) f (second - 2) (b .place .row-in) (omega arith) (b .whole) (s ∙ odds-place w h row (col - 1) (omega arith) (omega arith))
       ∙ ap (λ i. getD g i 0) t
 
-  pub inner-law : (even odd : ℕ) (d : List ℕ) → even ≡ cond (eqb col 0) 128 (getD f (evens - 2) 0) → odd ≡ cond (eqb col 0) 128 (getD f (odds - 2) 0)
-      → d ≡ tabulate 16 0 (by-halves f evens odds even odd) → d ≡ block-residuals w h f row col
+  pub inner-law : (even odd : ℕ) (d : List ℕ) → even ≡ cond (eqb col 0) 128 (getD f (first - 2) 0) → odd ≡ cond (eqb col 0) 128 (getD f (second - 2) 0)
+      → d ≡ tabulate 16 0 (by-halves f first second even odd) → d ≡ block-residuals w h f row col
   inner-law even odd d p q e =
-      listed (at-column w g row col) d (ap length e ∙ tabulate-length (by-halves f evens odds even odd) 16 0)
-      (λ k l. ap (λ x. getD x k 0) e ∙ tabulate-get (by-halves f evens odds even odd) 16 0 k l ∙ ap (by-halves f evens odds even odd) (zero-add k) ∙ each k l)
+      listed (at-column w g row col) d (ap length e ∙ tabulate-length (by-halves f first second even odd) 16 0)
+      (λ k l. ap (λ x. getD x k 0) e ∙ tabulate-get (by-halves f first second even odd) 16 0 k l ∙ ap (by-halves f first second even odd) (zero-add k) ∙ each k l)
     where
-      each : (k : ℕ) → k < 16 → by-halves f evens odds even odd k ≡ at-column w g row col k
+      each : (k : ℕ) → k < 16 → by-halves f first second even odd k ≡ at-column w g row col k
       each k l =
-          residual-is w row col c g (getD f (cond (ltb k 8) evens odds + 2 * (k % 8)) 0) (cond (ltb k 8) even odd) (by-halves f evens odds even odd k) (omega arith)
-          (sample-is w h row (col + c) f (cond (ltb k 8) evens odds + 2 * (k % 8)) in-row (omega arith) long (inner-place w h row col whole inner k evens odds l evens-are odds-are))
+          residual-is w row col c g (getD f (cond (ltb k 8) first second + 2 * (k % 8)) 0) (cond (ltb k 8) even odd) (by-halves f first second even odd k) (omega arith)
+          (sample-is w h row (col + c) f (cond (ltb k 8) first second + 2 * (k % 8)) (b .place .row-in) (omega arith) (b .whole) (inner-place w h row col (b .block) inner k evens odds l evens-are odds-are))
           (prediction-is (ltb k 8) refl) refl
           ∙ ap (residual w g row col) (order-is k l)
         where
@@ -134,8 +140,8 @@ module _ (w h row col : ℕ) (f : List ℕ) (in-row : row < h) (whole : col % 16
           odd-sample c j e = omega arith
 
           prediction-is : (t : Bool) → ltb k 8 ≡ t → cond t even odd ≡ predicted w g row col c
-          prediction-is true b = let m = ltb-true k 8 b in let c-is : c ≡ 2 * k = omega arith in half-predicted evens c even (evens-before c (even-sample c k c-is)) p
-          prediction-is false b =
-              let m = ltb-false k 8 b in
+          prediction-is true t = let m = ltb-true k 8 t in let c-is : c ≡ 2 * k = omega arith in half-predicted first c even (evens-before c (even-sample c k c-is)) p
+          prediction-is false t =
+              let m = ltb-false k 8 t in
               let c-is : c ≡ 2 * (k - 8) + 1 = omega arith in
-              half-predicted odds c odd (odds-before c (odd-sample c (k - 8) c-is)) q
+              half-predicted second c odd (odds-before c (odd-sample c (k - 8) c-is)) q

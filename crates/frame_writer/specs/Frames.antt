@@ -8,7 +8,7 @@ use lib.ListN.{length, getD}
 use Rattle.rules.specs.declared.answer.Size.{Size}
 use Rattle.rules.specs.Frame.{tabulate}
 use Rattle.rules.specs.V0.{sample-kind, exchange}
-use Rattle.writers.specs.Writer.{Coding, residuals}
+use Rattle.writers.specs.Writer.{Coding, residuals, row-bytes, rows-bytes}
 use Rattle.writers.specs.V2Writer.{differences}
 use Rattle.frame_writer.specs.declared.format.Format.{Format}
 use Rattle.frame_writer.specs.declared.format.Format.the-variants.{V0, V2}
@@ -23,9 +23,11 @@ pub record InFrame (width height row col : ℕ) : Type 0 where
   pub row-in : row < height
   pub col-in : col < width
 
--- As many samples are lent as the frame has.
-pub record Lent (width height n : ℕ) : Type 0 where
-  pub whole : n ≡ width * height
+-- The block at a column of a row, where all of the frame is lent.
+pub record BlockLent (width height row col : ℕ) (f : List ℕ) : Type 0 where
+  pub place : InFrame width height row col
+  pub block : col % 16 ≡ 0
+  pub whole : length f ≡ width * height
 
 -- In V2 every block ends within its row.
 pub record Whole (format : Format) (width : ℕ) : Type 0 where
@@ -51,6 +53,13 @@ coding V2 width height f = differences width f
 unfoldable pub unit : Format → ℕ
 unit V0 = 4
 unit V2 = 16
+
+-- The bytes of a row, and of all.
+abbrev pub row-of : Format → ℕ → ℕ → List ℕ → ℕ → List ℕ
+row-of format width height f row = row-bytes (coding format width height f) row
+
+abbrev pub rows-of : Format → ℕ → ℕ → List ℕ → List ℕ
+rows-of format width height f = rows-bytes (coding format width height f) height 0
 
 -- The numbers of the block at a column of a row, in the order of the stream.
 abbrev pub block-of : Coding → ℕ → ℕ → List ℕ

@@ -1,8 +1,7 @@
 // The differences of a V2 block.
 ghost use mathlib.Core.Path.{_≡_};
-ghost use Prim.Native.Nat.{_+_, _%_, _≤_};
-ghost use lib.ListN.{length};
-ghost use Rattle.frame_writer.specs.Frames.{InFrame, Lent, block-differences};
+ghost use Prim.Native.Nat.{_+_, _≤_};
+ghost use Rattle.frame_writer.specs.Frames.{BlockLent, block-differences};
 use super::halves::halves;
 use super::halves::prediction;
 
@@ -14,7 +13,7 @@ pub fn differences_of(
     row: usize,
     col: usize,
 ) -> [u16; 16]
-    requires { ⌜ InFrame width height row col × (col % 16 ≡ 0) × (col + 16 ≤ width) × Lent width height (length (now samples)) ⌝ }
+    requires { ⌜ BlockLent width height row col (now samples) × (col + 16 ≤ width) ⌝ }
     ensures { λ r. ⌜ r ≡ block-differences width (now (samples .entry)) row col ⌝ }
 {
     let at = row * width + col;

@@ -1,8 +1,6 @@
 // The two formats that a frame is written in: what its blocks are written from, and what its rows are padded to.
 ghost use mathlib.Core.Path.{_≡_};
-ghost use Prim.Native.Nat.{_%_};
-ghost use lib.ListN.{length};
-ghost use Rattle.frame_writer.specs.Frames.{InFrame, Lent, Whole, unit, block-numbers};
+ghost use Rattle.frame_writer.specs.Frames.{BlockLent, Whole, unit, block-numbers};
 use super::differences::differences_of;
 use super::residuals::residuals_of;
 
@@ -30,7 +28,7 @@ pub fn numbers_of(
     row: usize,
     col: usize,
 ) -> [u16; 16]
-    requires { ⌜ InFrame width height row col × (col % 16 ≡ 0) × Whole format width × Lent width height (length (now samples)) ⌝ }
+    requires { ⌜ BlockLent width height row col (now samples) × Whole format width ⌝ }
     ensures { λ r. ⌜ r ≡ block-numbers format width height (now (samples .entry)) row col ⌝ }
 {
     match format {

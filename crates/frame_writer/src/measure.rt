@@ -4,8 +4,8 @@ ghost use Prim.Native.Nat.{_+_, _*_, _/_, _≤_, _<_};
 ghost use lib.ListN.{length};
 ghost use Rattle.writers.specs.Writer as V0;
 ghost use Rattle.writers.specs.V2Writer as V2;
-ghost use Rattle.writers.specs.Writer.{gap, row-bytes, rows-bytes};
-ghost use Rattle.frame_writer.specs.Frames.{Writable, size, unit, coding};
+ghost use Rattle.writers.specs.Writer.{gap};
+ghost use Rattle.frame_writer.specs.Frames.{Writable, size, unit, row-of, rows-of};
 ghost use Rattle.frame_writer.specs.declared.format.Format.the-variants as Variants;
 use super::format::Format;
 use super::format::numbers_of;
@@ -26,7 +26,7 @@ fn in_units(format: Format, bits: usize) -> usize
 // The bytes of a row.
 fn row_length(samples: &[u16], format: Format, width: usize, height: usize, row: usize) -> usize
     requires { ⌜ Writable format width height (now samples) × (row < height) ⌝ }
-    ensures { λ r. ⌜ r ≡ length (row-bytes (coding format width height (now (samples .entry))) row) ⌝ }
+    ensures { λ r. ⌜ r ≡ length (row-of format width height (now (samples .entry)) row) ⌝ }
 {
     let mut bits: usize = 0;
     let mut col: usize = 0;
@@ -41,7 +41,7 @@ fn row_length(samples: &[u16], format: Format, width: usize, height: usize, row:
 // The bytes of a frame's rows.
 fn rows_length(samples: &[u16], format: Format, width: usize, height: usize) -> usize
     requires { ⌜ Writable format width height (now samples) ⌝ }
-    ensures { λ r. ⌜ r ≡ length (rows-bytes (coding format width height (now (samples .entry))) height 0) ⌝ }
+    ensures { λ r. ⌜ r ≡ length (rows-of format width height (now (samples .entry))) ⌝ }
 {
     let mut bytes: usize = 0;
     let mut row: usize = 0;

@@ -1,10 +1,10 @@
 // The residuals of a V0 block. The lent samples are read where the exchange of places has them.
 ghost use mathlib.Core.Path.{_≡_};
-ghost use Prim.Native.Nat.{_+_, _*_, _%_, _≤_, _<_};
+ghost use Prim.Native.Nat.{_+_, _*_, _≤_, _<_};
 ghost use lib.ListN.{length, getD};
 ghost use Rattle.writers.specs.Writer.{residual};
 ghost use Rattle.writers.specs.Exchanged.{evens-start, odds-start, place-of};
-ghost use Rattle.frame_writer.specs.Frames.{InFrame, Lent, size, exchanged, block-residuals};
+ghost use Rattle.frame_writer.specs.Frames.{InFrame, BlockLent, size, exchanged, block-residuals};
 use super::halves::halves;
 use super::halves::less;
 use super::halves::prediction;
@@ -53,7 +53,7 @@ fn place(width: usize, height: usize, row: usize, col: usize) -> usize
 
 // A sample of the exchanged frame.
 fn sample(samples: &[u16], width: usize, height: usize, row: usize, col: usize) -> u16
-    requires { ⌜ InFrame width height row col × Lent width height (length (now samples)) ⌝ }
+    requires { ⌜ InFrame width height row col × (length (now samples) ≡ width * height) ⌝ }
     ensures { λ r. ⌜ r ≡ getD (exchanged width height (now (samples .entry))) (row * width + col) 0 ⌝ }
 {
     samples[place(width, height, row, col)]
@@ -70,7 +70,7 @@ fn residual_at(
     col: usize,
     c: usize,
 ) -> u16
-    requires { ⌜ InFrame width height row col × (col % 16 ≡ 0) × (c < 16) × Lent width height (length (now samples)) ⌝ }
+    requires { ⌜ BlockLent width height row col (now samples) × (c < 16) ⌝ }
     ensures { λ r. ⌜ r ≡ residual width (exchanged width height (now (samples .entry))) row col c ⌝ }
 {
     if width <= col + c {
@@ -86,7 +86,7 @@ fn residual_at(
 
 // The residuals of a block that may reach past the row's end, in the order of the stream.
 fn edge_residuals(samples: &[u16], width: usize, height: usize, row: usize, col: usize) -> [u16; 16]
-    requires { ⌜ InFrame width height row col × (col % 16 ≡ 0) × Lent width height (length (now samples)) ⌝ }
+    requires { ⌜ BlockLent width height row col (now samples) ⌝ }
     ensures { λ r. ⌜ r ≡ block-residuals width height (now (samples .entry)) row col ⌝ }
 {
     let mut d = [0u16; 16];
@@ -106,7 +106,7 @@ fn inner_residuals(
     row: usize,
     col: usize,
 ) -> [u16; 16]
-    requires { ⌜ InFrame width height row col × (col % 16 ≡ 0) × (col + 16 ≤ width) × Lent width height (length (now samples)) ⌝ }
+    requires { ⌜ BlockLent width height row col (now samples) × (col + 16 ≤ width) ⌝ }
     ensures { λ r. ⌜ r ≡ block-residuals width height (now (samples .entry)) row col ⌝ }
 {
     let evens = evens_start(width, row) + col;
@@ -124,7 +124,7 @@ pub fn residuals_of(
     row: usize,
     col: usize,
 ) -> [u16; 16]
-    requires { ⌜ InFrame width height row col × (col % 16 ≡ 0) × Lent width height (length (now samples)) ⌝ }
+    requires { ⌜ BlockLent width height row col (now samples) ⌝ }
     ensures { λ r. ⌜ r ≡ block-residuals width height (now (samples .entry)) row col ⌝ }
 {
     if width < col + V0Row::BLOCK {

@@ -5,8 +5,8 @@ ghost use lib.ListN.{length, set};
 ghost use lib.Seq.{sets};
 ghost use Rattle.writers.specs.Writer as V0;
 ghost use Rattle.writers.specs.V2Writer as V2;
-ghost use Rattle.writers.specs.Writer.{bytes, row-bytes, rows-bytes, offsets-from};
-ghost use Rattle.frame_writer.specs.Frames.{Writable, size, unit, coding};
+ghost use Rattle.writers.specs.Writer.{bytes, offsets-from};
+ghost use Rattle.frame_writer.specs.Frames.{Writable, size, unit, coding, row-of, rows-of};
 ghost use Rattle.frame_writer.specs.declared.format.Format.the-variants as Variants;
 use super::format::Format;
 use super::format::numbers_of;
@@ -29,8 +29,8 @@ fn write_row(
     height: usize,
     row: usize,
 ) -> usize
-    requires { ⌜ Writable format width height (now samples) × (row < height) × (at % unit format ≡ 0) × (at + length (row-bytes (coding format width height (now samples)) row) ≤ length (now out)) ⌝ }
-    ensures { λ r. ⌜ (r ≡ at + length (row-bytes (coding format width height (now (samples .entry))) row)) × (now (out .exit) ≡ sets (now (out .entry)) at (row-bytes (coding format width height (now (samples .entry))) row)) ⌝ }
+    requires { ⌜ Writable format width height (now samples) × (row < height) × (at % unit format ≡ 0) × (at + length (row-of format width height (now samples) row) ≤ length (now out)) ⌝ }
+    ensures { λ r. ⌜ (r ≡ at + length (row-of format width height (now (samples .entry)) row)) × (now (out .exit) ≡ sets (now (out .entry)) at (row-of format width height (now (samples .entry)) row)) ⌝ }
 {
     let mut p = Pending::none(at);
     let mut col: usize = 0;
@@ -63,8 +63,8 @@ fn write_rows(
     width: usize,
     height: usize,
 )
-    requires { ⌜ Writable format width height (now samples) × (start % unit format ≡ 0) × (start ≤ 16) × (start + length (rows-bytes (coding format width height (now samples)) height 0) ≤ length (now out)) ⌝ }
-    ensures { λ _. ⌜ now (out .exit) ≡ sets (now (out .entry)) start (rows-bytes (coding format width height (now (samples .entry))) height 0) ⌝ }
+    requires { ⌜ Writable format width height (now samples) × (start % unit format ≡ 0) × (start ≤ 16) × (start + length (rows-of format width height (now samples)) ≤ length (now out)) ⌝ }
+    ensures { λ _. ⌜ now (out .exit) ≡ sets (now (out .entry)) start (rows-of format width height (now (samples .entry))) ⌝ }
     ensures { λ _. ⌜ now (offsets .exit) ≡ sets (now (offsets .entry)) 0 (offsets-from (coding format width height (now (samples .entry))) height 0 start) ⌝ }
 {
     let mut at = start;

@@ -95,7 +95,7 @@ marks-alike w base up (c ∷ cs) (v ∷ vs) (u ∷ ws) f e =
 
 -- ── Nothing is skipped ──
 
-module _ (z : Size) (row col : ℕ) (i : Inner z row col) where
+module _ {z : Size} {row col : ℕ} (i : Inner z row col) where
   -- The row above it, and the one above that, are before the block; the block is before the frame's end.
   two-rows : 2 * z .width ≤ row * z .width
   two-rows = mul-le-mul-right (z .width) (i .late)
@@ -125,9 +125,9 @@ module _ (z : Size) (row col : ℕ) (i : Inner z row col) where
 
 -- ── Where a map is lent, and where not ──
 
-pub lent-inside : (z : Size) (row col : ℕ) → Inner z row col → (f : List ℕ) → Whole z f → (length f ≡ 0 → ⊥) → Inside (z .width) (row * z .width + col) f
-lent-inside z row col i f (inl e) some = inner-inside z row col i f e
-lent-inside z row col i f (inr e) some = absurd (some e)
+pub lent-inside : {z : Size} {row col : ℕ} → Inner z row col → (f : List ℕ) → Whole z f → (length f ≡ 0 → ⊥) → Inside (z .width) (row * z .width + col) f
+lent-inside i f (inl e) some = inner-inside i f e
+lent-inside i f (inr e) some = absurd (some e)
 
 pub not-lent : (k : Kind ℕ) (os : List V0Op) (f : List ℕ) → length f ≡ 0 → f ≡ apply k os f
 not-lent k os [] e = sym (apply-empty k os)

@@ -23,11 +23,16 @@ use Rattle.rules.proofs.Tests.{by-test}
 
 -- ── Cells replaced one after another ──
 
-module _ (k : Kind ℕ) (base : ℕ) (new : ℕ → ℕ) (f₀ : List ℕ) where
-  pub replaced-none : Replaced k base 0 new f₀ f₀
-  replaced-none = record { same-length = refl; inside = λ c l. absurd (omega arith); outside = λ i h. refl }
+-- The first n of sixteen are replaced.
+pub record Storing (k : Kind ℕ) (base : ℕ) (new : ℕ → ℕ) (f₀ f : List ℕ) (n : ℕ) : Type 0 where
+  pub below : n ≤ 16
+  pub replaced : Replaced k base n new f₀ f
 
-  pub replaced-on : (n p v : ℕ) (f : List ℕ) → p ≡ base + n → p < length f₀ → v ≡ new n → Replaced k base n new f₀ f
+module _ {k : Kind ℕ} {base : ℕ} {new : ℕ → ℕ} {f₀ : List ℕ} where
+  pub storing-begun : Storing k base new f₀ f₀ 0
+  storing-begun = record { below = omega arith; replaced = record { same-length = refl; inside = λ c l. absurd (omega arith); outside = λ i h. refl } }
+
+  replaced-on : (n p v : ℕ) (f : List ℕ) → p ≡ base + n → p < length f₀ → v ≡ new n → Replaced k base n new f₀ f
       → Replaced k base (n + 1) new f₀ (set f p v)
   replaced-on n p v f ep l ev r =
       record {
@@ -38,11 +43,15 @@ module _ (k : Kind ℕ) (base : ℕ) (new : ℕ → ℕ) (f₀ : List ℕ) where
         outside = λ i h. getD-set-other f p i v (k .constant 0) (λ e. h n (omega arith) (e ∙ ep)) ∙ r .outside i (λ c m. h c (omega arith));
       }
 
-  pub replaced-done : (n : ℕ) (f : List ℕ) → 16 ≤ n → (n ≤ 16) × Replaced k base n new f₀ f → Replaced k base 16 new f₀ f
-  replaced-done n f l r = let e : n ≡ 16 = omega (arith, r .0) in rw e at (r .1)
+  pub storing-on : {f : List ℕ} {n p v : ℕ} → n < 16 → p ≡ base + n → p < length f₀ → v ≡ new n → Storing k base new f₀ f n
+      → Storing k base new f₀ (set f p v) (n + 1)
+  storing-on h ep l ev s = record { below = omega arith; replaced = replaced-on _ _ _ _ ep l ev (s .replaced) }
+
+  pub storing-done : {f : List ℕ} {n : ℕ} → 16 ≤ n → Storing k base new f₀ f n → Replaced k base 16 new f₀ f
+  storing-done {f} {n} l s = let e : n ≡ 16 = omega arith in rw e at (s .replaced)
 
   -- A frame is known by what was replaced in it.
-  pub replaced-same : (n : ℕ) (f g : List ℕ) → Replaced k base n new f₀ f → Replaced k base n new f₀ g → f ≡ g
+  replaced-same : (n : ℕ) (f g : List ℕ) → Replaced k base n new f₀ f → Replaced k base n new f₀ g → f ≡ g
   replaced-same n f g a b =
       ext-getD (k .constant 0) f g (a .same-length ∙ sym (b .same-length)) (λ i l. go i (decLt i base) (decLt i (base + n)))
     where
@@ -126,27 +135,26 @@ module _ (k : Kind ℕ) (w base : ℕ) (up : Bool) (d : ℕ → ℕ) (f₀ : Lis
 
   -- The first n of sixteen values are made.
   pub record Made (vs : List ℕ) (n : ℕ) : Type 0 where
-    pub below : n ≤ 16
-    pub values-are : Replaced k 0 n predicted (replicate 16 0) vs
+    pub values : Storing k 0 predicted (replicate 16 0) vs n
 
-  pub made-none : Made (replicate 16 0) 0
-  made-none = record { below = omega arith; values-are = replaced-none k 0 predicted (replicate 16 0) }
+module _ {k : Kind ℕ} {w base : ℕ} {up : Bool} {d : ℕ → ℕ} {f₀ : List ℕ} where
+  pub made-none : Made k w base up d f₀ (replicate 16 0) 0
+  made-none = record { values = storing-begun }
 
-  pub made-on : (vs : List ℕ) (n v : ℕ) → n < 16 → v ≡ predicted n → Made vs n → Made (set vs n v) (n + 1)
-  made-on vs n v l ev m =
-      record { below = omega arith; values-are = replaced-on k 0 predicted (replicate 16 0) n n v vs (omega arith) (omega arith) ev (m .values-are) }
+  pub made-on : {vs : List ℕ} {n v : ℕ} → n < 16 → v ≡ predicted k w base up d f₀ n → Made k w base up d f₀ vs n → Made k w base up d f₀ (set vs n v) (n + 1)
+  made-on l ev m = record { values = storing-on l (omega arith) (omega arith) ev (m .values) }
 
   -- Values made from the frame as it was and then stored are what the operations leave.
-  pub staged : (vs f : List ℕ) (n : ℕ) → Inside w base f₀ → 16 ≤ n → Made vs n → Replaced k base 16 (λ c. getD vs c (k .constant 0)) f₀ f
+  pub staged : {vs f : List ℕ} {n : ℕ} → Inside w base f₀ → 16 ≤ n → Made k w base up d f₀ vs n → Replaced k base 16 (λ c. getD vs c (k .constant 0)) f₀ f
       → f ≡ apply k (inner-ops w base up order (map d order)) f₀
-  staged vs f n i l m r =
-      replaced-same k base predicted f₀ 16 f _
+  staged {vs} {f} i l m r =
+      replaced-same 16 f _
       (record {
         same-length = r .same-length;
-        inside = λ c h. r .inside c h ∙ ap (λ j. getD vs j (k .constant 0)) (sym (zero-add c)) ∙ m .values-are .inside c (omega arith);
+        inside = λ c h. r .inside c h ∙ ap (λ j. getD vs j (k .constant 0)) (sym (zero-add c)) ∙ storing-done l (m .values) .inside c h;
         outside = r .outside;
       })
-      (ops-replace i)
+      (ops-replace k w base up d f₀ i)
 
 -- ── The choice by parity ──
 

@@ -19,7 +19,7 @@ use Rattle.v0_cells.specs.Places.{Inner}
 use Rattle.v0_stream.specs.Block.{with-residuals, whole-block}
 use Rattle.v0_stream.specs.declared.block.ReadBlock.{ReadBlock}
 use Rattle.v0_stream.proofs.OrderLaws.{order-below}
-use Rattle.v0_direct.specs.Block.{block-ops, after-block}
+use Rattle.v0_direct.specs.Block.{block-ops, after-block, Decoded}
 use Rattle.v0_cells.specs.Inner.{source-of, inner-ops}
 use Rattle.v0_cells.proofs.InnerLaws.{marks-alike, inner-predictor}
 
@@ -37,29 +37,32 @@ unfolding residuals
 residual-count s ls [] b = refl
 residual-count s ls (c ∷ cs) b = ap suc (residual-count s ls cs (read-residual s b (length-bits (length-of ls c)) .bits))
 
-module _ (s : List ℕ) (z : Size) (row col : ℕ) (st : V0Row) (i : Inner z row col) (x : ReadBlock) (ex : x ≡ whole-block s st) where
+module _ (s : List ℕ) (st : V0Row) {z : Size} {row col : ℕ} (i : Inner z row col) (x : ReadBlock) (ex : x ≡ whole-block s st) where
   inner-block : block-ops s z row col st ≡ record { ops = inner-ops (z .width) (row * z .width + col) (x .up) order (x .residuals); bits = x .row .bits }
   unfolding block-ops whole-block with-residuals
   inner-block =
       let h = head s st in
       open-samples s (z .width) (row * z .width + col) (h .up) (h .row .lengths) (predictor z row col (h .up)) order (h .row .bits)
-      (λ j l. inner-predictor z row col i (h .up) (getD order j 0) (order-below j l))
+      (λ j l. inner-predictor i (h .up) (getD order j 0) (order-below j l))
       ∙ rw ex
 
   pub inner-state : x .row ≡ after-block s z row col st
   unfolding after-block whole-block with-residuals
   inner-state = rw (inner-block, ex)
 
-  pub inner-samples : (out out′ : List ℕ) → out′ ≡ apply sample-kind (inner-ops (z .width) (row * z .width + col) (x .up) order (x .residuals)) out
-      → out′ ≡ apply sample-kind (block-ops s z row col st .ops) out
-  inner-samples out out′ e = e ∙ sym (ap (λ y. apply sample-kind (y .ops) out) inner-block)
-
   sixteen : length (x .residuals) ≡ 16
   unfolding whole-block with-residuals
   sixteen = rw ex (residual-count s (head s st .row .lengths) order (head s st .row .bits))
 
-  pub inner-marks : (map map′ : List ℕ) → map′ ≡ apply v0-marks (inner-ops (z .width) (row * z .width + col) (x .up) order (replicate 16 0)) map
-      → map′ ≡ apply v0-marks (block-ops s z row col st .ops) map
-  inner-marks map map′ e =
-      e ∙ marks-alike (z .width) (row * z .width + col) (x .up) order (replicate 16 0) (x .residuals) map (sym sixteen)
-      ∙ sym (ap (λ y. apply v0-marks (y .ops) map) inner-block)
+  -- It is decoded once its residuals are put, and its marks as those of any residuals.
+  pub inner-decoded : (out out′ map map′ : List ℕ)
+      → out′ ≡ apply sample-kind (inner-ops (z .width) (row * z .width + col) (x .up) order (x .residuals)) out
+      → map′ ≡ apply v0-marks (inner-ops (z .width) (row * z .width + col) (x .up) order (replicate 16 0)) map
+      → Decoded s z row col st out map (x .row) out′ map′
+  inner-decoded out out′ map map′ eo em = record {
+    state = inner-state;
+    samples = eo ∙ sym (ap (λ y. apply sample-kind (y .ops) out) inner-block);
+    marks =
+        em ∙ marks-alike (z .width) (row * z .width + col) (x .up) order (replicate 16 0) (x .residuals) map (sym sixteen)
+        ∙ sym (ap (λ y. apply v0-marks (y .ops) map) inner-block);
+  }

@@ -5,10 +5,9 @@ use mathlib.Core.List.{List, [], _∷_, _++_}
 use Prim.Native.Nat.{ℕ, suc, _+_, _-_, _*_, _/_, _%_, _≤_, _<_}
 use native.Mathlib.Omega.{arith}
 use lib.Dec.{leb}
-use lib.ListN.{length}
 use borrow.Author.Tests.{leb-true}
 use Rattle.rules.specs.Reader.{has-filler}
-use Rattle.rules.specs.Frame.{cells, ended}
+use Rattle.rules.specs.Frame.{ended}
 use Rattle.rules.specs.V0.{Block, Blocks, Kind, apply, write, write-all, sample-kind, head, predictor, order, blocks, row-blocks, fresh-row}
 use Rattle.rules.specs.Map.{with-filler, v0-marks}
 use Rattle.rules.specs.declared.answer.Size.{Size}
@@ -16,9 +15,9 @@ use Rattle.rules.specs.declared.reader.Bits.{Bits}
 use Rattle.rules.specs.declared.v0.V0Row.{V0Row}
 use Rattle.rules.specs.declared.v0.V0Head.{V0Head}
 use Rattle.v0_stream.specs.Lengths.{Within, furthest}
-use Rattle.v0_cells.specs.Places.{Whole, InFrame, Inner}
-use Rattle.v0_direct.specs.Lent.{InRow}
-use Rattle.v0_direct.specs.Block.{samples-of, block-ops, after-block}
+use Rattle.v0_cells.specs.Places.{InFrame, Inner}
+use Rattle.v0_direct.specs.Lent.{InRow, BlockLent}
+use Rattle.v0_direct.specs.Block.{samples-of, block-ops, after-block, Decoded}
 use Rattle.v0_stream.proofs.HeadLaws.{within-more, fresh-within, head-within}
 use Rattle.rules.proofs.V0Cells.{write-plain}
 use Rattle.v0_cells.proofs.CellLaws.{product, blocks-walk, Left, left-begun, left-on, left-none}
@@ -31,16 +30,18 @@ not-inner z row col e = absurd (let n : _≡_ {A = ℕ} 0 1 = cc in omega arith)
 pub inner-when : (z : Size) (row col : ℕ) → InFrame z row col → 2 ≤ row → (col ≡ 0 → ⊥) → leb (col + 16) (z .width) ≡ true → Inner z row col
 inner-when z row col i l some e = record { frame = i; late = l; after = omega arith; inside = leb-true (col + 16) (z .width) e }
 
-module _ (s : List ℕ) (z : Size) (row col : ℕ) (st : V0Row) (h : V0Head) (eh : h ≡ head s st) where
-  pub block-state : (b : Bits) → b ≡ samples-of s z row col h order (h .row .bits) .bits
-      → record { lengths = h .row .lengths; bits = b } ≡ after-block s z row col st
+module _ (s : List ℕ) (z : Size) (row col : ℕ) (st : V0Row) (h : V0Head) (eh : h ≡ head s st) (b : Bits) where
+  pub block-state : b ≡ samples-of s z row col h order (h .row .bits) .bits → record { lengths = h .row .lengths; bits = b } ≡ after-block s z row col st
   unfolding after-block block-ops
-  block-state b e = rw (e, eh)
+  block-state e = rw (e, eh)
 
-  pub block-cells : (k : Kind ℕ) (f f′ : List ℕ) → f′ ≡ apply k (samples-of s z row col h order (h .row .bits) .ops) f
-      → f′ ≡ apply k (block-ops s z row col st .ops) f
+  -- A block is decoded once its samples are, after its head.
+  pub block-decoded : (out out′ map map′ : List ℕ)
+      → (b ≡ samples-of s z row col h order (h .row .bits) .bits)
+      × ((out′ ≡ apply sample-kind (samples-of s z row col h order (h .row .bits) .ops) out) × (map′ ≡ apply v0-marks (samples-of s z row col h order (h .row .bits) .ops) map))
+      → Decoded s z row col st out map (record { lengths = h .row .lengths; bits = b }) out′ map′
   unfolding block-ops
-  block-cells k f f′ e = e ∙ ap (λ x. apply k (samples-of s z row col x order (x .row .bits) .ops) f) eh
+  block-decoded out out′ map map′ (eb, (eo, em)) = record { state = block-state eb; samples = rw (← eh) eo; marks = rw (← eh) em }
 
 -- The block with its place and its end.
 abbrev this-block : List ℕ → Size → ℕ → ℕ → V0Row → Block
@@ -92,27 +93,27 @@ module _ (s : List ℕ) (z : Size) (row offset : ℕ) (out₀ map₀ : List ℕ)
 
   -- A block that the row still has lies in the frame, its lengths near enough to 0.
   pub row-block : (out map : List ℕ) (st : V0Row) (col : ℕ) → col < z .width → InRow z row out₀ map₀ → Rowing s z row offset out₀ out map₀ map st col
-      → InFrame z row col × (Within furthest (st .lengths) × ((length out ≡ cells z) × Whole z map))
+      → InFrame z row col × BlockLent z (st .lengths) out map
   row-block out map st col l i r = (
     record { width = i .width; height = i .height; row-in = i .row-in; col-in = l; block = r .whole },
-    (
-      within-more (15 + col / 16) furthest (st .lengths) (omega (arith, i .width)) (r .near),
-      (r .samples-left .same-length ∙ i .samples-lent, rw (r .marks-left .same-length) (i .map-lent)),
-    ),
+    record {
+      near = within-more (15 + col / 16) furthest (st .lengths) (omega (arith, i .width)) (r .near);
+      samples-lent = r .samples-left .same-length ∙ i .samples-lent;
+      map-lent = rw (r .marks-left .same-length) (i .map-lent);
+    },
   )
 
-  pub rowing-on : (out out′ map marked map′ : List ℕ) (st st′ : V0Row) (col : ℕ) → col < z .width → st′ ≡ after-block s z row col st
-      → out′ ≡ apply sample-kind (block-ops s z row col st .ops) out → marked ≡ apply v0-marks (block-ops s z row col st .ops) map
+  pub rowing-on : (out out′ map marked map′ : List ℕ) (st st′ : V0Row) (col : ℕ) → col < z .width → Decoded s z row col st out map st′ out′ marked
       → map′ ≡ ended with-filler 0 (has-filler (st′ .bits)) (row * z .width + col) marked
       → Rowing s z row offset out₀ out map₀ map st col → Rowing s z row offset out₀ out′ map₀ map′ st′ (col + 16)
   unfolding blocks block-ops after-block
-  rowing-on out out′ map marked map′ st st′ col l es eo em ee r =
+  rowing-on out out′ map marked map′ st st′ col l d ee r =
       record {
         whole = omega (arith, r .whole);
         below = omega arith;
-        near = rw es (within-more (suc (15 + col / 16)) (15 + (col + 16) / 16) (head s st .row .lengths) (omega arith) (head-within s st (15 + col / 16) (omega arith) (r .near)));
-        samples-left = left-on (blocks-walk sample-kind) (this ∷ []) _ _ _ out₀ out out′ first (samples-written s z row col st out out′ eo) (r .samples-left);
-        marks-left = left-on (blocks-walk v0-marks) (this ∷ []) _ _ _ map₀ map map′ first (marks-written s z row col st st′ map marked map′ es em ee) (r .marks-left);
+        near = rw (d .state) (within-more (suc (15 + col / 16)) (15 + (col + 16) / 16) (head s st .row .lengths) (omega arith) (head-within s st (15 + col / 16) (omega arith) (r .near)));
+        samples-left = left-on (blocks-walk sample-kind) (this ∷ []) _ _ _ out₀ out out′ first (samples-written s z row col st out out′ (d .samples)) (r .samples-left);
+        marks-left = left-on (blocks-walk v0-marks) (this ∷ []) _ _ _ map₀ map map′ first (marks-written s z row col st st′ map marked map′ (d .state) (d .marks) ee) (r .marks-left);
         reader-left = sym on ∙ r .reader-left;
       }
     where
@@ -125,12 +126,12 @@ module _ (s : List ℕ) (z : Size) (row offset : ℕ) (out₀ map₀ : List ℕ)
       first : rest-of s z row col st .blocks ≡ (this ∷ []) ++ rest-of s z row (col + 16) st′ .blocks
       first =
           ap (λ n. blocks s (row * z .width) (predictor z row) n col st .blocks) more
-          ∙ ap (λ x. (this ∷ []) ++ rest-of s z row (col + 16) x .blocks) (sym es)
+          ∙ ap (λ x. (this ∷ []) ++ rest-of s z row (col + 16) x .blocks) (sym (d .state))
 
       on : rest-of s z row col st .bits ≡ rest-of s z row (col + 16) st′ .bits
       on =
           ap (λ n. blocks s (row * z .width) (predictor z row) n col st .bits) more
-          ∙ ap (λ x. rest-of s z row (col + 16) x .bits) (sym es)
+          ∙ ap (λ x. rest-of s z row (col + 16) x .bits) (sym (d .state))
 
   -- From the row's end on nothing is left.
   none-left : (st : V0Row) (col : ℕ) → z .width ≤ col → rest-of s z row col st ≡ record { blocks = []; bits = st .bits }

@@ -14,7 +14,7 @@ use Rattle.rules.specs.declared.reader.Bits.{Bits}
 use Rattle.rules.specs.declared.reader.Residual.{Residual}
 use Rattle.rules.specs.declared.v0.Predictor.{Predictor}
 use Rattle.rules.specs.declared.v0.V0Head.{V0Head}
-use Rattle.v0_direct.specs.Block.{samples-of}
+use Rattle.v0_direct.specs.Block.{samples-of, Applied}
 use Rattle.v0_cells.proofs.CellLaws.{put-mark-alike, ops-walk, Left, left-begun, left-on, left-none}
 
 -- ── One sample ──
@@ -25,19 +25,11 @@ module _ (s : List ℕ) (z : Size) (row col : ℕ) (h : V0Head) (c : ℕ) (b : B
   unfolding samples sample
   sample-is = rw (← ep, ← en, ← eg)
 
-  pub sample-bits : g .bits ≡ samples-of s z row col h (c ∷ []) b .bits
-  sample-bits = sym (ap (λ x. x .bits) sample-is)
-
-  pub sample-put : (out out′ : List ℕ) → out′ ≡ put sample-kind (row * z .width + col + c) p (g .value) out
-      → out′ ≡ apply sample-kind (samples-of s z row col h (c ∷ []) b .ops) out
+  pub sample-applied : (out out′ map map′ : List ℕ) → out′ ≡ put sample-kind (row * z .width + col + c) p (g .value) out
+      → map′ ≡ put v0-marks (row * z .width + col + c) p 0 map → Applied (samples-of s z row col h (c ∷ []) b) out map (g .bits) out′ map′
   unfolding apply
-  sample-put out out′ e = e ∙ sym (ap (λ x. apply sample-kind (x .ops) out) sample-is)
-
-  pub sample-mark : (map map′ : List ℕ) → map′ ≡ put v0-marks (row * z .width + col + c) p 0 map
-      → map′ ≡ apply v0-marks (samples-of s z row col h (c ∷ []) b .ops) map
-  unfolding apply
-  sample-mark map map′ e =
-      e ∙ put-mark-alike (row * z .width + col + c) p 0 (g .value) map ∙ sym (ap (λ x. apply v0-marks (x .ops) map) sample-is)
+  sample-applied out out′ map map′ eo em =
+      rw sample-is (record { reader = refl; samples = eo; marks = em ∙ put-mark-alike (row * z .width + col + c) p 0 (g .value) map })
 
 -- ── The sixteen ──
 
@@ -53,17 +45,15 @@ module _ (s : List ℕ) (z : Size) (row col : ℕ) (h : V0Head) (b₀ : Bits) (o
   sampling-begun = record { below = omega arith; bits-are = refl; samples-left = left-begun (ops-walk sample-kind) _ _ out₀ refl; marks-left = left-begun (ops-walk v0-marks) _ _ map₀ refl }
 
   pub sampling-on : (b b′ : Bits) (out out′ map map′ : List ℕ) (k c : ℕ) → k < 16 → c ≡ getD order k 0
-      → b′ ≡ samples-of s z row col h (c ∷ []) b .bits
-      → out′ ≡ apply sample-kind (samples-of s z row col h (c ∷ []) b .ops) out
-      → map′ ≡ apply v0-marks (samples-of s z row col h (c ∷ []) b .ops) map
+      → Applied (samples-of s z row col h (c ∷ []) b) out map b′ out′ map′
       → Sampling s z row col h b₀ b out₀ out map₀ map k → Sampling s z row col h b₀ b′ out₀ out′ map₀ map′ (k + 1)
   unfolding samples
-  sampling-on b b′ out out′ map map′ k c l ec eb eo em r =
+  sampling-on b b′ out out′ map map′ k c l ec d r =
       record {
         below = omega arith;
         bits-are = sym (ap (λ x. x .bits) first) ∙ r .bits-are;
-        samples-left = left-on (ops-walk sample-kind) (one .ops) _ _ _ out₀ out out′ (ap (λ x. x .ops) first) eo (r .samples-left);
-        marks-left = left-on (ops-walk v0-marks) (one .ops) _ _ _ map₀ map map′ (ap (λ x. x .ops) first) em (r .marks-left);
+        samples-left = left-on (ops-walk sample-kind) (one .ops) _ _ _ out₀ out out′ (ap (λ x. x .ops) first) (d .samples) (r .samples-left);
+        marks-left = left-on (ops-walk v0-marks) (one .ops) _ _ _ map₀ map map′ (ap (λ x. x .ops) first) (d .marks) (r .marks-left);
       }
     where
       one : Ops
@@ -71,7 +61,7 @@ module _ (s : List ℕ) (z : Size) (row col : ℕ) (h : V0Head) (b₀ : Bits) (o
 
       first : samples-of s z row col h (drop k order) b
           ≡ record { ops = one .ops ++ samples-of s z row col h (drop (k + 1) order) b′ .ops; bits = samples-of s z row col h (drop (k + 1) order) b′ .bits }
-      first = rw (add-one k, drop-cons order k 0 l, eb, ec)
+      first = rw (add-one k, drop-cons order k 0 l, d .reader, ec)
 
   pub sampled : (b : Bits) (out map : List ℕ) (k : ℕ) → 16 ≤ k → Sampling s z row col h b₀ b out₀ out map₀ map k
       → (b ≡ samples-of s z row col h order b₀ .bits) × ((out ≡ apply sample-kind (samples-of s z row col h order b₀ .ops) out₀) × (map ≡ apply v0-marks (samples-of s z row col h order b₀ .ops) map₀))

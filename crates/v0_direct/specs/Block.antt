@@ -1,7 +1,9 @@
 -- One block, by the definitions of its samples: what it does to the frame, and what it leaves of the row's state.
 use Prim.Native.Nat.{ℕ, _+_, _*_}
+use mathlib.Core.Path.{_≡_}
 use mathlib.Core.List.{List}
-use Rattle.rules.specs.V0.{Ops, head, samples, predictor, order}
+use Rattle.rules.specs.V0.{Ops, apply, sample-kind, head, samples, predictor, order}
+use Rattle.rules.specs.Map.{v0-marks}
 use Rattle.rules.specs.declared.answer.Size.{Size}
 use Rattle.rules.specs.declared.reader.Bits.{Bits}
 use Rattle.rules.specs.declared.v0.V0Row.{V0Row}
@@ -11,6 +13,12 @@ use Rattle.rules.specs.declared.v0.V0Head.{V0Head}
 abbrev pub samples-of : List ℕ → Size → ℕ → ℕ → V0Head → List ℕ → Bits → Ops
 samples-of s z row col h cs b = samples s (row * z .width + col) (h .row .lengths) (predictor z row col (h .up)) cs b
 
+-- Operations done to the samples and to the map, and the reader after them.
+pub record Applied (x : Ops) (out map : List ℕ) (b : Bits) (out′ map′ : List ℕ) : Type 0 where
+  pub reader : b ≡ x .bits
+  pub samples : out′ ≡ apply sample-kind (x .ops) out
+  pub marks : map′ ≡ apply v0-marks (x .ops) map
+
 -- What a block does, by the state of the row before it.
 unfoldable pub block-ops : List ℕ → Size → ℕ → ℕ → V0Row → Ops
 block-ops s z row col st = samples-of s z row col (head s st) order (head s st .row .bits)
@@ -18,3 +26,9 @@ block-ops s z row col st = samples-of s z row col (head s st) order (head s st .
 -- The row's state after it.
 unfoldable pub after-block : List ℕ → Size → ℕ → ℕ → V0Row → V0Row
 after-block s z row col st = record { lengths = head s st .row .lengths; bits = block-ops s z row col st .bits }
+
+-- A block decoded, from a row's state to the next: its operations done to the samples and to the map.
+pub record Decoded (s : List ℕ) (z : Size) (row col : ℕ) (st : V0Row) (out map : List ℕ) (st′ : V0Row) (out′ map′ : List ℕ) : Type 0 where
+  pub state : st′ ≡ after-block s z row col st
+  pub samples : out′ ≡ apply sample-kind (block-ops s z row col st .ops) out
+  pub marks : map′ ≡ apply v0-marks (block-ops s z row col st .ops) map

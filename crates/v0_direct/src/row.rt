@@ -9,11 +9,10 @@ ghost use Rattle.rules.specs.Frame.{cells, ended};
 ghost use Rattle.rules.specs.Map.{with-filler, v0-marks};
 ghost use Rattle.v0_stream.specs.Block.{whole-block};
 ghost use Rattle.v0_stream.specs.ByWindow.{Opened};
-ghost use Rattle.v0_stream.specs.Lengths.{Within, furthest};
 ghost use Rattle.v0_cells.specs.Inner.{inner-ops};
-ghost use Rattle.v0_cells.specs.Places.{Whole, InFrame, Inner};
-ghost use Rattle.v0_direct.specs.Lent.{InRow};
-ghost use Rattle.v0_direct.specs.Block.{block-ops, after-block};
+ghost use Rattle.v0_cells.specs.Places.{InFrame, Inner};
+ghost use Rattle.v0_direct.specs.Lent.{InRow, BlockLent};
+ghost use Rattle.v0_direct.specs.Block.{Decoded};
 use super::sample::decode_samples;
 use maps::fill_block;
 use rules::Bits;
@@ -112,10 +111,8 @@ fn decode_by_record(
     out: &mut [u16],
     map: &mut [u8],
 ) -> V0Row
-    requires { ⌜ Inner size row col × (Within furthest (state .lengths) × ((length (now out) ≡ cells size) × Whole size (now map))) ⌝ }
-    ensures { λ r. ⌜ r ≡ after-block (now (src .entry)) size row col state ⌝ }
-    ensures { λ _. ⌜ now (out .exit) ≡ V0.apply V0.sample-kind (block-ops (now (src .entry)) size row col state .ops) (now (out .entry)) ⌝ }
-    ensures { λ _. ⌜ now (map .exit) ≡ V0.apply v0-marks (block-ops (now (src .entry)) size row col state .ops) (now (map .entry)) ⌝ }
+    requires { ⌜ Inner size row col × BlockLent size (state .lengths) (now out) (now map) ⌝ }
+    ensures { λ r. ⌜ Decoded (now (src .entry)) size row col state (now (out .entry)) (now (map .entry)) r (now (out .exit)) (now (map .exit)) ⌝ }
 {
     let x = read_block(src, state, true);
     let residuals = x.residuals;
@@ -136,10 +133,8 @@ fn decode_inner(
     out: &mut [u16],
     map: &mut [u8],
 ) -> V0Row
-    requires { ⌜ Inner size row col × (Within furthest (state .lengths) × ((length (now out) ≡ cells size) × Whole size (now map))) ⌝ }
-    ensures { λ r. ⌜ r ≡ after-block (now (src .entry)) size row col state ⌝ }
-    ensures { λ _. ⌜ now (out .exit) ≡ V0.apply V0.sample-kind (block-ops (now (src .entry)) size row col state .ops) (now (out .entry)) ⌝ }
-    ensures { λ _. ⌜ now (map .exit) ≡ V0.apply v0-marks (block-ops (now (src .entry)) size row col state .ops) (now (map .entry)) ⌝ }
+    requires { ⌜ Inner size row col × BlockLent size (state .lengths) (now out) (now map) ⌝ }
+    ensures { λ r. ⌜ Decoded (now (src .entry)) size row col state (now (out .entry)) (now (map .entry)) r (now (out .exit)) (now (map .exit)) ⌝ }
 {
     let bits = state.bits;
     let lengths = state.lengths;
@@ -167,10 +162,8 @@ fn decode_block(
     out: &mut [u16],
     map: &mut [u8],
 ) -> V0Row
-    requires { ⌜ InFrame size row col × (Within furthest (state .lengths) × ((length (now out) ≡ cells size) × Whole size (now map))) ⌝ }
-    ensures { λ r. ⌜ r ≡ after-block (now (src .entry)) size row col state ⌝ }
-    ensures { λ _. ⌜ now (out .exit) ≡ V0.apply V0.sample-kind (block-ops (now (src .entry)) size row col state .ops) (now (out .entry)) ⌝ }
-    ensures { λ _. ⌜ now (map .exit) ≡ V0.apply v0-marks (block-ops (now (src .entry)) size row col state .ops) (now (map .entry)) ⌝ }
+    requires { ⌜ InFrame size row col × BlockLent size (state .lengths) (now out) (now map) ⌝ }
+    ensures { λ r. ⌜ Decoded (now (src .entry)) size row col state (now (out .entry)) (now (map .entry)) r (now (out .exit)) (now (map .exit)) ⌝ }
 {
     if is_inner(size, row, col) {
         return decode_inner(src, size, row, col, state, out, map);

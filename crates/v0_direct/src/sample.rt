@@ -6,7 +6,7 @@ ghost use Prim.Native.Nat.{_<_};
 ghost use Rattle.rules.specs.V0 as V0;
 ghost use Rattle.rules.specs.Map.{v0-marks};
 ghost use Rattle.v0_cells.specs.Places.{InFrame};
-ghost use Rattle.v0_direct.specs.Block.{samples-of};
+ghost use Rattle.v0_direct.specs.Block.{samples-of, Applied};
 use bits::read_residual;
 use rules::Bits;
 use rules::Size;
@@ -31,9 +31,7 @@ fn decode_sample(
     map: &mut [u8],
 ) -> Bits
     requires { ⌜ InFrame size row col × (c < 16) ⌝ }
-    ensures { λ r. ⌜ r ≡ samples-of (now (src .entry)) size row col head (c ∷ []) bits .bits ⌝ }
-    ensures { λ _. ⌜ now (out .exit) ≡ V0.apply V0.sample-kind (samples-of (now (src .entry)) size row col head (c ∷ []) bits .ops) (now (out .entry)) ⌝ }
-    ensures { λ _. ⌜ now (map .exit) ≡ V0.apply v0-marks (samples-of (now (src .entry)) size row col head (c ∷ []) bits .ops) (now (map .entry)) ⌝ }
+    ensures { λ r. ⌜ Applied (samples-of (now (src .entry)) size row col head (c ∷ []) bits) (now (out .entry)) (now (map .entry)) r (now (out .exit)) (now (map .exit)) ⌝ }
 {
     let after = head.row;
     let lengths = after.lengths;

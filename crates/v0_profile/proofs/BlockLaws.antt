@@ -93,7 +93,7 @@ module _ (s : List ℕ) (z : Size) (row col : ℕ) (st : V0Row) where
   -- In one go ..
   pub seen-whole : Inner z row col → (x : ReadBlock) → x ≡ whole-block s st → record { up = x .up; row = x .row } ≡ seen s z row col st
   unfolding seen whole-block with-residuals
-  seen-whole i x e = ap₂ (λ u r. record { up = u; row = r }) (ap (λ b. b .up) e) (inner-state s z row col st i x e)
+  seen-whole i x e = ap₂ (λ u r. record { up = u; row = r }) (ap (λ b. b .up) e) (inner-state s st i x e)
 
   -- .. or sample by sample.
   pub seen-samples : (h : V0Head) (b : Bits) → h ≡ head s st → b ≡ samples-of s z row col h order (h .row .bits) .bits

@@ -1,5 +1,6 @@
 -- Residuals by position are those that the record reads: first the sign, then four of one length out of windows, then the block.
-use mathlib.Core.Path.{_≡_, refl, sym, ap, _∙_}
+use mathlib.Core.Logic.{_⊎_, ⊎-elim}
+use mathlib.Core.Path.{_≡_, refl, sym, ap, subst, _∙_}
 use mathlib.Core.Bool.{Bool, true, false}
 use mathlib.Core.List.{List, [], _∷_}
 use Prim.Native.Nat.{ℕ, zero, suc, _+_, _*_, _-_, _/_, _%_, _^_, _≤_, _<_}
@@ -9,7 +10,11 @@ use native.Mathlib.Numerals.{add-one}
 use lib.Dec.{ltb, leb}
 use lib.IntN.{ℤ, pos}
 use lib.ListN.{length, getD, set, replicate}
+use lib.Signed.{mag}
 use lib.Pow.{pow-pos, pow-mono, pow-add, mod-mod-pow}
+use mir.Syntax.{w32}
+use mir.Val.{toZ, ofZ}
+use mir.ValLaws.{toZ-ofZ}
 use borrow.Author.Tests.{ltb-true, ltb-false, leb-true, leb-false}
 use Rattle.rules.specs.Reader.{word-at, four}
 use Rattle.rules.specs.V0.{length-bits, head}
@@ -155,6 +160,23 @@ pub record Planned (s : List ℕ) (st : V0Row) (h : WindowHead) (n₀ n₁ n₂ 
   pub is₂ : n₂ ≡ length-bits (getD (h .lengths) 2 (pos 0))
   pub is₃ : n₃ ≡ length-bits (getD (h .lengths) 3 (pos 0))
 
+-- Each length is counted as a machine's number.
+pub plan-made : {s : List ℕ} {st : V0Row} {h : WindowHead} {n₀ n₁ n₂ n₃ : ℕ} → Opened s st h
+    → mag (getD (h .lengths) 0 (pos 0)) < 2 ^ 31 → n₀ ≡ length-bits (toZ w32 (ofZ w32 (getD (h .lengths) 0 (pos 0))))
+    → mag (getD (h .lengths) 1 (pos 0)) < 2 ^ 31 → n₁ ≡ length-bits (toZ w32 (ofZ w32 (getD (h .lengths) 1 (pos 0))))
+    → mag (getD (h .lengths) 2 (pos 0)) < 2 ^ 31 → n₂ ≡ length-bits (toZ w32 (ofZ w32 (getD (h .lengths) 2 (pos 0))))
+    → mag (getD (h .lengths) 3 (pos 0)) < 2 ^ 31 → n₃ ≡ length-bits (toZ w32 (ofZ w32 (getD (h .lengths) 3 (pos 0))))
+    → Planned s st h n₀ n₁ n₂ n₃
+plan-made o f₀ e₀ f₁ e₁ f₂ e₂ f₃ e₃ = record { opened = o; is₀ = counted _ _ f₀ e₀; is₁ = counted _ _ f₁ e₁; is₂ = counted _ _ f₂ e₂; is₃ = counted _ _ f₃ e₃ }
+  where
+    counted : (l : ℤ) (n : ℕ) → mag l < 2 ^ 31 → n ≡ length-bits (toZ w32 (ofZ w32 l)) → n ≡ length-bits l
+    counted l n fits e = rw (toZ-ofZ w32 l (record { sfits = fits })) at e
+
+-- What the readers of four ask, of n bits from bit q on: of short ones, and of long ones.
+pub record FourIn (s : List ℕ) (base q n : ℕ) : Type 0 where
+  pub short : n ≤ 16 → (n ≤ 16) × ((64 ≤ q) × ((q < 2 ^ 32) × (base + (q + 4 * n - 64) / 32 * 4 + 12 ≤ length s)))
+  pub long : 16 < n → (16 < n) × ((n ≤ 32) × ((q < 2 ^ 32) × (base + (q + 2 * n) / 32 * 4 + 12 ≤ length s)))
+
 module _ {s : List ℕ} {st : V0Row} {h : WindowHead} {n₀ n₁ n₂ n₃ : ℕ} (x : Planned s st h n₀ n₁ n₂ n₃) where
   few₀ : n₀ ≤ 32
   few₀ = omega (arith, x .is₀, bits-few-enough (getD (h .lengths) 0 (pos 0)))
@@ -170,19 +192,29 @@ module _ {s : List ℕ} {st : V0Row} {h : WindowHead} {n₀ n₁ n₂ n₃ : ℕ
 
   -- The head's end, and the bits of each residual.
   pub near : (64 < h .q) × ((h .q ≤ 121) × ((n₀ ≤ 32) × ((n₁ ≤ 32) × ((n₂ ≤ 32) × (n₃ ≤ 32)))))
-  near =
-      let few = x .opened .stands .few in
-      let some = x .opened .head-at .some in
-      let soon = x .opened .head-at .soon in
-      (omega arith, (omega arith, (few₀, (few₁, (few₂, few₃)))))
+  near = (omega arith, (omega arith, (few₀, (few₁, (few₂, few₃)))))
 
-  -- A window that begins at most 64 bits after the start of the fourth group.
-  pub room : (p : ℕ) → p ≤ 569 → st .bits .pos - 12 + p / 32 * 4 + 12 ≤ length s
-  room p l = let there = x .opened .stands .there in omega arith
+  -- A group that begins no later than the fourth may.
+  in-room : (q n : ℕ) → 64 < q → q ≤ 505 → n ≤ 32 → FourIn s (st .bits .pos - 12) q n
+  in-room q n late soon few =
+      record { short = λ l. (l, (omega arith, (omega arith, omega arith))); long = λ l. (l, (few, (omega arith, omega arith))) }
+
+  -- Each of the four.
+  pub first-in : FourIn s (st .bits .pos - 12) (h .q) n₀
+  first-in = in-room _ _ (omega (arith, near)) (omega (arith, near)) few₀
+
+  pub second-in : FourIn s (st .bits .pos - 12) (h .q + 4 * n₀) n₁
+  second-in = in-room _ _ (omega (arith, near)) (omega (arith, near)) few₁
+
+  pub third-in : FourIn s (st .bits .pos - 12) (h .q + 4 * n₀ + 4 * n₁) n₂
+  third-in = in-room _ _ (omega (arith, near)) (omega (arith, near)) few₂
+
+  pub fourth-in : FourIn s (st .bits .pos - 12) (h .q + 4 * n₀ + 4 * n₁ + 4 * n₂) n₃
+  fourth-in = in-room _ _ (omega (arith, near)) (omega (arith, near)) few₃
 
   -- The state after the block.
   pub end-room : (p : ℕ) → p ≤ 633 → st .bits .pos - 12 + (p + 31) / 32 * 4 ≤ length s
-  end-room p l = let there = x .opened .stands .there in omega arith
+  end-room p l = omega arith
 
 -- A block read by position: its four groups too.
 pub record ByPosition (s : List ℕ) (st : V0Row) (h : WindowHead) (n₀ n₁ n₂ n₃ : ℕ) (a b c d : List ℕ) : Type 0 where
@@ -192,8 +224,14 @@ pub record ByPosition (s : List ℕ) (st : V0Row) (h : WindowHead) (n₀ n₁ n�
   pub third : Group s (st .bits .pos - 12) (h .q + 4 * n₀ + 4 * n₁) n₂ c
   pub fourth : Group s (st .bits .pos - 12) (h .q + 4 * n₀ + 4 * n₁ + 4 * n₂) n₃ d
 
+-- A group is one, whichever of the two readers of four made it.
+pub either-way : {s : List ℕ} {base q n : ℕ} {a : List ℕ} {A B : Type 0} {C : A → Type 0} {D : B → Type 0} {u : (x : A) → C x → List ℕ} {v : (x : B) → D x → List ℕ}
+    → ((x : A) × (y : C x) × (a ≡ u x y)) ⊎ ((x : B) × (y : D x) × (a ≡ v x y))
+    → ((x : A) (y : C x) → Group s base q n (u x y)) → ((x : B) (y : D x) → Group s base q n (v x y)) → Group s base q n a
+either-way w f g = ⊎-elim (λ x. subst (Group _ _ _ _) (sym (x .2)) (f (x .0) (x .1))) (λ x. subst (Group _ _ _ _) (sym (x .2)) (g (x .0) (x .1))) w
+
 -- So it is the block that the record reads whole.
-pub block-made : (s : List ℕ) (st : V0Row) (h : WindowHead) (n₀ n₁ n₂ n₃ : ℕ) (a b c d : List ℕ) (after : Bits) (r : List ℕ) → ByPosition s st h n₀ n₁ n₂ n₃ a b c d
+block-made : (s : List ℕ) (st : V0Row) (h : WindowHead) (n₀ n₁ n₂ n₃ : ℕ) (a b c d : List ℕ) (after : Bits) (r : List ℕ) → ByPosition s st h n₀ n₁ n₂ n₃ a b c d
     → after ≡ state-at s (st .bits .pos - 12) (h .q + 4 * n₀ + 4 * n₁ + 4 * n₂ + 4 * n₃) (st .bits .filler) → r ≡ joined a b c d
     → record { up = h .up; row = record { lengths = h .lengths; bits = after }; residuals = r } ≡ whole-block s st
 block-made s st h n₀ n₁ n₂ n₃ a b c d after r x ea er =
@@ -215,6 +253,14 @@ block-made s st h n₀ n₁ n₂ n₃ a b c d after r x ea er =
     = ap (λ (z : Bits). record { lengths = st .lengths; bits = z }) (sym (p .opened .stands .is)) in
     let read : y ≡ head s st = sym (p .opened .head-at .reads f) ∙ ap (head s) stood in
     whole-read s st y _ read (rw (ea, er) (read-all s ls (state-at s base q f) _ _ 16 y (omega arith) refl refl r₄))
+
+-- Its state after the block, and its residuals.
+pub groups-made : (s : List ℕ) (st : V0Row) (h : WindowHead) (n₀ n₁ n₂ n₃ : ℕ) (a b c d : List ℕ) (after : Bits) → ByPosition s st h n₀ n₁ n₂ n₃ a b c d
+    → after ≡ state-at s (st .bits .pos - 12) (h .q + 4 * n₀ + 4 * n₁ + 4 * n₂ + 4 * n₃) (st .bits .filler)
+    → (after ≡ whole-block s st .row .bits) × (joined a b c d ≡ whole-block s st .residuals)
+groups-made s st h n₀ n₁ n₂ n₃ a b c d after x ea =
+    let made = block-made s st h n₀ n₁ n₂ n₃ a b c d after (joined a b c d) x ea refl in
+    (ap (λ r. r .row .bits) made, ap (λ r. r .residuals) made)
 
 -- A head that stands in the stream is the block's own.
 pub opened-block : (s : List ℕ) (st : V0Row) (h : WindowHead) (b : Bits) → Opened s st h → b ≡ whole-block s st .row .bits

@@ -1,8 +1,8 @@
 -- A head by position is the one that the record reads: its nine bits at once, then one length after another.
-use mathlib.Core.Path.{_≡_, refl, sym, ap, ap₂, _∙_}
+use mathlib.Core.Path.{_≡_, refl, sym, ap, _∙_}
 use mathlib.Core.Bool.{Bool, true, false, cond}
 use mathlib.Core.List.{List, [], _∷_}
-use Prim.Native.Nat.{ℕ, zero, suc, _+_, _*_, _-_, _/_, _%_, _^_, _≤_, _<_}
+use Prim.Native.Nat.{ℕ, zero, _+_, _*_, _-_, _/_, _%_, _^_, _≤_, _<_}
 use native.Mathlib.Omega.{arith}
 use lib.Dec.{eqb}
 use lib.IntN.{ℤ, pos}
@@ -12,21 +12,25 @@ use mir.Syntax.{w32}
 use mir.Val.{SFits, toZ, ofZ}
 use mir.ValLaws.{toZ-ofZ}
 use mir.Facts.{toZ-pos}
-use borrow.Author.Tests.{eqb-true, eqb-false, ne-eqb}
+use borrow.Author.Tests.{eqb-true, eqb-false}
 use Rattle.rules.specs.Reader.{read, four}
-use Rattle.rules.specs.V0.{operated, operate, head}
+use Rattle.rules.specs.V0.{operated, head}
 use Rattle.rules.specs.declared.reader.Bits.{Bits}
-use Rattle.rules.specs.declared.reader.Four.{Four}
 use Rattle.rules.specs.declared.v0.V0Length.{V0Length}
-use Rattle.window.specs.Window.{bits-from, state-at, Window}
-use Rattle.window.proofs.WindowLaws.{Reads, in-window, read-at, three-at}
+use Rattle.window.specs.Window.{bits-from, state-at, Standing, Window}
+use Rattle.window.proofs.WindowLaws.{Reads, in-window, read-at}
 use Rattle.v0_stream.specs.Lengths.{stepped, Within, furthest}
 use Rattle.v0_stream.specs.ByWindow.{Room, length-in, HeadAt}
 use Rattle.v0_stream.specs.declared.by_window.WindowLength.{WindowLength}
-use Rattle.v0_stream.specs.declared.by_window.WindowHead.{WindowHead}
 use Rattle.v0_stream.specs.declared.by_window.PlainHead.{PlainHead}
-use Rattle.v0_stream.proofs.HeadLaws.{stepped-near, length-read, length-stepped, lengths-made}
+use Rattle.v0_stream.proofs.HeadLaws.{stepped-near, lengths-made}
 use Rattle.v0_stream.proofs.GroupLaws.{four-is, window-words}
+
+-- ── Its window ──
+
+-- A record that stands in the stream with room for a block has room for the window.
+pub head-room : {s : List ℕ} {b : Bits} → Standing s b 76 → Room s (b .pos - 12) (96 - b .count)
+head-room x = record { some = omega arith; soon = omega arith; there = omega arith; far = omega arith }
 
 -- ── One length ──
 

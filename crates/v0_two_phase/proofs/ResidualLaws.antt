@@ -12,16 +12,12 @@ use lib.Seq.{drop-cons, take-suc-set, append-snoc, drop-set-lt}
 use borrow.Author.Tests.{lt-ltb, le-ltb}
 use Rattle.rules.specs.V0.{order, fresh-row, blocks-in}
 use Rattle.rules.specs.Phases.{BlockRecord, block-records, row-records, store-samples, store-blocks, direction}
-use Rattle.rules.specs.declared.reader.Bits.{Bits}
 use Rattle.rules.specs.declared.v0.V0Row.{V0Row}
-use Rattle.window.specs.Window.{state-at}
 use Rattle.v0_stream.specs.Block.{with-residuals, whole-block}
 use Rattle.v0_stream.specs.ByWindow.{joined}
 use Rattle.v0_stream.specs.Lengths.{Within, furthest}
 use Rattle.v0_stream.specs.declared.block.ReadBlock.{ReadBlock}
-use Rattle.v0_stream.specs.declared.by_window.WindowHead.{WindowHead}
 use Rattle.v0_stream.proofs.BlockLaws.{block-within}
-use Rattle.v0_stream.proofs.GroupLaws.{ByPosition, block-made}
 use Rattle.v0_stream.proofs.HeadLaws.{fresh-within}
 use Rattle.v0_two_phase.specs.Parsed.{Parsed}
 
@@ -99,19 +95,6 @@ module _ (w col : ℕ) where
       ∙ store-fours 1 (col + 1) c _ _ f₂ f₃ refl (omega arith) e₃
       ∙ store-fours 9 (col + 9) d _ _ f₃ f₄ refl (omega arith) e₄
       ∙ store-none f₄)
-
-  -- So it is where they were read by position: what the record reads of the block, and the state after it.
-  pub groups-stored : (s : List ℕ) (st : V0Row) (h : WindowHead) (n₀ n₁ n₂ n₃ : ℕ) (after : Bits) (a b c d f₀ f₁ f₂ f₃ f₄ : List ℕ) → col + 16 ≤ w
-      → ByPosition s st h n₀ n₁ n₂ n₃ a b c d
-      → after ≡ state-at s (st .bits .pos - 12) (h .q + 4 * n₀ + 4 * n₁ + 4 * n₂ + 4 * n₃) (st .bits .filler)
-      → f₁ ≡ set (set (set (set f₀ col (getD a 0 0)) (col + 2) (getD a 1 0)) (col + 4) (getD a 2 0)) (col + 6) (getD a 3 0)
-      → f₂ ≡ set (set (set (set f₁ (col + 8) (getD b 0 0)) (col + 8 + 2) (getD b 1 0)) (col + 8 + 4) (getD b 2 0)) (col + 8 + 6) (getD b 3 0)
-      → f₃ ≡ set (set (set (set f₂ (col + 1) (getD c 0 0)) (col + 1 + 2) (getD c 1 0)) (col + 1 + 4) (getD c 2 0)) (col + 1 + 6) (getD c 3 0)
-      → f₄ ≡ set (set (set (set f₃ (col + 9) (getD d 0 0)) (col + 9 + 2) (getD d 1 0)) (col + 9 + 4) (getD d 2 0)) (col + 9 + 6) (getD d 3 0)
-      → (after ≡ whole-block s st .row .bits) × (f₄ ≡ store-samples 0 w col order (whole-block s st .residuals) f₀)
-  groups-stored s st h n₀ n₁ n₂ n₃ after a b c d f₀ f₁ f₂ f₃ f₄ l x ea e₁ e₂ e₃ e₄ =
-      let made = block-made s st h n₀ n₁ n₂ n₃ a b c d after (joined a b c d) x ea refl in
-      (ap (λ r. r .row .bits) made, fours-stored a b c d f₀ f₁ f₂ f₃ f₄ l e₁ e₂ e₃ e₄ ∙ ap (λ r. store-samples 0 w col order (r .residuals) f₀) made)
 
 -- ── A block of a row ──
 

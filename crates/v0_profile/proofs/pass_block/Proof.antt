@@ -3,13 +3,10 @@
 use mathlib.Core.Path.{ap}
 use native.Mathlib.Omega.{arith}
 use denote.Ref.{now}
-use lib.IntN.{pos}
-use lib.ListN.{getD}
-use mir.Syntax.{w32}
-use mir.ValLaws.{toZ-ofZ}
 use borrow.Author.Needs.{needs}
 use Rattle.window.specs.Window.{Standing}
-use Rattle.v0_stream.proofs.GroupLaws.{Planned, near, end-room}
+use Rattle.v0_stream.proofs.GroupLaws.{Planned, plan-made, near, end-room}
+use Rattle.v0_stream.proofs.WindowHeadLaws.{head-room}
 use Rattle.v0_profile.proofs.PassLaws.{passed}
 use Rattle.v0_profile.proofs.pass_block.Statement.{statement}
 use Rattle.v0_profile.proofs.pass_block.Tie as tie
@@ -35,17 +32,10 @@ stood c = c .before .stands-within .ensures (c .if1 .taken)
 planned : (c : tie.After-residual-length4) → (let a = start (standing (headed c)) .args in
     Planned (now (a .src)) (a .state) (headed c .window-head .result) (counted (c .before .before) .residual-length .result) (c .before .before .before .before .residual-length2 .result) (c .before .before .residual-length3 .result) (c .residual-length4 .result))
 planned c =
-    let ls = headed c .window-head .result .lengths in
-    let third = c .before .before in
-    let second = third .before .before in
-    let first = second .before .before in
-    record {
-      opened = record { stands = stood (standing (headed c)); head-at = headed c .window-head .ensures };
-      is₀ = rw (toZ-ofZ w32 (getD ls 0 (pos 0)) (record { sfits = first .before .residual-length-arg .given })) at (first .residual-length .ensures);
-      is₁ = rw (toZ-ofZ w32 (getD ls 1 (pos 0)) (record { sfits = second .before .residual-length-arg2 .given })) at (second .residual-length2 .ensures);
-      is₂ = rw (toZ-ofZ w32 (getD ls 2 (pos 0)) (record { sfits = third .before .residual-length-arg3 .given })) at (third .residual-length3 .ensures);
-      is₃ = rw (toZ-ofZ w32 (getD ls 3 (pos 0)) (record { sfits = c .before .residual-length-arg4 .given })) at (c .residual-length4 .ensures);
-    }
+    let n₂ = c .before .before in let n₁ = n₂ .before .before in let n₀ = n₁ .before .before in
+    plan-made (record { stands = stood (standing (headed c)); head-at = headed c .window-head .ensures }) (n₀ .before .residual-length-arg .given) (n₀ .residual-length .ensures)
+    (n₁ .before .residual-length-arg2 .given) (n₁ .residual-length2 .ensures) (n₂ .before .residual-length-arg3 .given) (n₂ .residual-length3 .ensures)
+    (c .before .residual-length-arg4 .given) (c .residual-length4 .ensures)
 
 stands-within-requires : tie.Need-stands-within-requires
 stands-within-requires c κs = search needs
@@ -60,9 +50,7 @@ sub-window-head : tie.Need-sub-window-head
 sub-window-head c = let few = stood (c .before) .few in omega arith
 
 window-head-requires : tie.Need-window-head-requires
-window-head-requires c κs =
-    let x = stood (c .before) in let few = x .few in let there = x .there in let far = x .far in
-    (record { some = omega arith; soon = omega arith; there = omega arith; far = omega arith }, start (c .before) .pre)
+window-head-requires c κs = (head-room (stood (c .before)), start (c .before) .pre)
 
 array-copy-out-residual-length : tie.Need-array-copy-out-residual-length
 array-copy-out-residual-length c = search needs

@@ -1,5 +1,4 @@
 -- By the format; in V2 the block ends within its row.
-use native.Mathlib.Omega.{arith}
 use borrow.Author.Needs.{needs}
 use Rattle.frame_writer.proofs.CodingLaws.{numbers-v0, numbers-v2, inner-block}
 use Rattle.frame_writer.proofs.format.numbers_of.Statement.{statement}
@@ -15,7 +14,7 @@ enum-told-2 : tie.Need-enum-told-2
 enum-told-2 c = search needs
 
 differences-of-requires : tie.Need-differences-of-requires
-differences-of-requires c κs = let s = c .before .before .before in let a = s .args in (s .pre .0, s .pre .1, inner-block (a .format) (a .width) (a .col) (s .pre .2) (c .enum-told2 .given .1) (s .pre .1) (s .pre .0 .col-in), s .pre .3)
+differences-of-requires c κs = let s = c .before .before .before in (s .pre .0, inner-block (s .pre .0) (s .pre .1) (c .enum-told2 .given .1))
 
 returns : tie.Need-returns
 returns c = let a = c .before .before .before .before .args in numbers-v0 (a .format) (a .width) (a .height) (a .samples .now) (a .row) (a .col) _ (c .before .enum-told .given .1) (c .residuals-of .ensures)

@@ -2,7 +2,7 @@
 use Prim.Native.Nat.{_+_, _-_}
 use native.Mathlib.Omega.{arith}
 use Rattle.frame_writer.specs.Frames.{coding}
-use Rattle.frame_writer.proofs.CodingLaws.{unit-is, width-is, coding-unit, block-short}
+use Rattle.frame_writer.proofs.CodingLaws.{unit-is, width-is, coding-unit, block-short, block-lent}
 use Rattle.frame_writer.proofs.RowLaws.{block-most, Counting, count-begun, count-most, count-on, count-gone}
 use Rattle.frame_writer.proofs.measure.row_length.Statement.{statement}
 use Rattle.frame_writer.proofs.measure.row_length.Tie as tie
@@ -17,7 +17,7 @@ loop-holds : tie.Need-loop-holds Inv-loop μ-loop
 loop-holds c = let a = c .before .args in count-begun (coding (a .format) (a .width) (a .height) (a .samples .now)) (a .row)
 
 numbers-of-requires : tie.Need-numbers-of-requires Inv-loop μ-loop
-numbers-of-requires c κs = let s = c .before .before .before in let w = s .pre .0 in (record { wide = w .wide; high = w .high; row-in = s .pre .1; col-in = omega arith }, c .before .loop .inv .whole, w .blocks, record { whole = w .whole })
+numbers-of-requires c κs = let s = c .before .before .before in block-lent (s .pre .0) (s .pre .1) (omega arith) (c .before .loop .inv .whole)
 
 block-length-requires : tie.Need-block-length-requires Inv-loop μ-loop
 block-length-requires c κs = let s = c .before .before .before .before in let a = s .args in block-short (a .format) (a .width) (a .height) (a .samples .now) (a .row) (c .before .before .loop .col) (s .pre .0) (s .pre .1) _ (c .numbers-of .ensures)

@@ -28,7 +28,7 @@ add-residual-at : tie.Need-add-residual-at Inv-loop μ-loop
 add-residual-at c = record { fits = omega arith }
 
 residual-at-requires : tie.Need-residual-at-requires Inv-loop μ-loop
-residual-at-requires c κs = let s = c .before .before .before in (s .pre .0, s .pre .1, omega arith, s .pre .2)
+residual-at-requires c κs = (c .before .before .before .pre, omega arith)
 
 mul-d : tie.Need-mul-d Inv-loop μ-loop
 mul-d c = record { fits = omega arith }

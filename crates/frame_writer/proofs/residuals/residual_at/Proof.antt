@@ -41,7 +41,7 @@ less-requires-2 : tie.Need-less-requires-2
 less-requires-2 c κs = search needs
 
 returns-3 : tie.Need-returns-3
-returns-3 c = let s = at-start (c .before .before .before) in let a = s .args in later-block (a .width) (a .row) (a .col) (a .c) (exchanged (a .width) (a .height) (a .samples .now)) _ _ _ (omega arith) (s .pre .1) (λ e. omega arith) (c .before .before .before .sample .ensures) (c .before .sample2 .ensures) (c .less2 .ensures)
+returns-3 c = let s = at-start (c .before .before .before) in let a = s .args in later-block (a .width) (a .row) (a .col) (a .c) (exchanged (a .width) (a .height) (a .samples .now)) _ _ _ (omega arith) (s .pre .0 .block) (λ e. omega arith) (c .before .before .before .sample .ensures) (c .before .sample2 .ensures) (c .less2 .ensures)
 
 pub residual-at-spec : {M : Type 1} → statement M
 residual-at-spec =

@@ -12,10 +12,10 @@ mul-result : tie.Need-mul-result
 mul-result c = let s = c .before .before in let a = s .args in let i = s .pre .0 in record { fits = omega (arith, c .place .ensures, place-in (a .width) (a .height) (a .row) (a .col) (i .row-in) (i .col-in), product (a .width) (a .height) (i .wide) (i .high)) }
 
 shared-slice-read-result : tie.Need-shared-slice-read-result
-shared-slice-read-result c = let s = c .before .before .before in let a = s .args in let i = s .pre .0 in omega (arith, c .before .place .ensures, place-in (a .width) (a .height) (a .row) (a .col) (i .row-in) (i .col-in), s .pre .1 .whole)
+shared-slice-read-result c = let s = c .before .before .before in let a = s .args in let i = s .pre .0 in omega (arith, c .before .place .ensures, place-in (a .width) (a .height) (a .row) (a .col) (i .row-in) (i .col-in), s .pre .1)
 
 returns : tie.Need-returns
-returns c = let s = c .before .before .before in let a = s .args in let i = s .pre .0 in sample-is (a .width) (a .height) (a .row) (a .col) (a .samples .now) (c .before .place .result) (i .row-in) (i .col-in) (s .pre .1 .whole) (c .before .place .ensures)
+returns c = let s = c .before .before .before in let a = s .args in let i = s .pre .0 in sample-is (a .width) (a .height) (a .row) (a .col) (a .samples .now) (c .before .place .result) (i .row-in) (i .col-in) (s .pre .1) (c .before .place .ensures)
 
 pub sample-spec : {M : Type 1} → statement M
 sample-spec = tie.close (tie.spec place-requires mul-result shared-slice-read-result returns)

@@ -5,7 +5,7 @@ use native.Mathlib.Omega.{arith}
 use denote.Ref.{now}
 use borrow.Author.Needs.{needs}
 use Rattle.frame_writer.specs.Frames.{coding}
-use Rattle.frame_writer.proofs.CodingLaws.{unit-is, width-is, coding-unit, format-unit, block-short}
+use Rattle.frame_writer.proofs.CodingLaws.{unit-is, width-is, coding-unit, format-unit, block-short, block-lent}
 use Rattle.frame_writer.proofs.RowLaws.{Rowing, row-begun, block-room, row-on, fourth, end-is, row-gone}
 use Rattle.frame_writer.proofs.write.write_row.Statement.{statement}
 use Rattle.frame_writer.proofs.write.write_row.Tie as tie
@@ -31,10 +31,7 @@ at-loop c = c .before .before .before .before .before
 
 numbers-of-requires : tie.Need-numbers-of-requires Inv-loop μ-loop
 numbers-of-requires c κs =
-    let s = at-start (c .before) in
-    let a = s .args in
-    let l = c .before .loop in
-    (record { wide = s .pre .0 .wide; high = s .pre .0 .high; row-in = s .pre .1; col-in = omega arith }, l .inv .whole, s .pre .0 .blocks, record { whole = s .pre .0 .whole })
+    let s = at-start (c .before) in block-lent (s .pre .0) (s .pre .1) (omega arith) (c .before .loop .inv .whole)
 
 put-block-requires : tie.Need-put-block-requires Inv-loop μ-loop
 put-block-requires c κs =

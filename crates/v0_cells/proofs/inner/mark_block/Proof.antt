@@ -10,13 +10,13 @@ returns : tie.Need-returns
 returns c = not-lent v0-marks _ (c .before .before .args .map .now) (search needs)
 
 mul-mark-inner : tie.Need-mul-mark-inner
-mul-mark-inner c = let a = c .before .before .before in record { fits = omega (arith, inner-fits (a .args .size) (a .args .row) (a .args .col) (a .pre .0)) }
+mul-mark-inner c = let a = c .before .before .before in record { fits = omega (arith, inner-fits (a .pre .0)) }
 
 add-mark-inner : tie.Need-add-mark-inner
-add-mark-inner c = let a = c .before .before .before in record { fits = omega (arith, inner-fits (a .args .size) (a .args .row) (a .args .col) (a .pre .0)) }
+add-mark-inner c = let a = c .before .before .before in record { fits = omega (arith, inner-fits (a .pre .0)) }
 
 mark-inner-requires : tie.Need-mark-inner-requires
-mark-inner-requires c κs = let a = c .before .before .before in (lent-inside (a .args .size) (a .args .row) (a .args .col) (a .pre .0) (a .args .map .now) (a .pre .1) (search needs), inner-fits (a .args .size) (a .args .row) (a .args .col) (a .pre .0))
+mark-inner-requires c κs = let a = c .before .before .before in (lent-inside (a .pre .0) (a .args .map .now) (a .pre .1) (search needs), inner-fits (a .pre .0))
 
 same-length : tie.Need-same-length
 same-length c = search needs

@@ -1,8 +1,6 @@
 -- Either way the block's operations are done.
 use borrow.Author.Needs.{needs}
-use Rattle.rules.specs.Map.{v0-marks}
-use Rattle.rules.specs.V0.{sample-kind}
-use Rattle.v0_direct.proofs.RowLaws.{block-state, block-cells}
+use Rattle.v0_direct.proofs.RowLaws.{block-decoded}
 use Rattle.v0_direct.proofs.row.decode_block.Statement.{statement}
 use Rattle.v0_direct.proofs.row.decode_block.Tie as tie
 
@@ -44,13 +42,9 @@ same-length-4 : tie.Need-same-length-4
 same-length-4 c = search needs
 
 returns-2 : tie.Need-returns-2
-returns-2 c = let s = after-decode-samples (c .before .before) in let p = after-read-block-head s in let a = at-start (p .before .before) .args in let h = p .read-block-head in let d = s .decode-samples .ensures in (
-  block-state _ (a .size) (a .row) (a .col) (a .state) (h .result) (h .ensures) _ (d .0),
-  (
-    block-cells _ (a .size) (a .row) (a .col) (a .state) (h .result) (h .ensures) sample-kind _ _ (d .1 .0),
-    block-cells _ (a .size) (a .row) (a .col) (a .state) (h .result) (h .ensures) v0-marks _ _ (d .1 .1),
-  ),
-)
+returns-2 c =
+    let s = after-decode-samples (c .before .before) in let p = after-read-block-head s in let a = at-start (p .before .before) .args in
+    block-decoded _ (a .size) (a .row) (a .col) (a .state) (p .read-block-head .result) (p .read-block-head .ensures) _ _ _ _ _ (s .decode-samples .ensures)
 
 pub decode-block-spec : {M : Type 1} → statement M
 decode-block-spec =

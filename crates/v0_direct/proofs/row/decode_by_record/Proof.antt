@@ -3,7 +3,7 @@ use native.Mathlib.Omega.{arith}
 use denote.Ref.{now}
 use borrow.Author.Needs.{needs}
 use Rattle.v0_cells.proofs.InnerLaws.{inner-fits, inner-inside}
-use Rattle.v0_direct.proofs.InnerLaws.{inner-state, inner-samples, inner-marks}
+use Rattle.v0_direct.proofs.InnerLaws.{inner-decoded}
 use Rattle.v0_direct.proofs.row.decode_by_record.Statement.{statement}
 use Rattle.v0_direct.proofs.row.decode_by_record.Tie as tie
 
@@ -15,13 +15,13 @@ read-block-requires : tie.Need-read-block-requires
 read-block-requires c κs = search needs
 
 mul-put-inner : tie.Need-mul-put-inner
-mul-put-inner c = let a = start (c .before .before) in record { fits = omega (arith, inner-fits (a .args .size) (a .args .row) (a .args .col) (a .pre .0)) }
+mul-put-inner c = let a = start (c .before .before) in record { fits = omega (arith, inner-fits (a .pre .0)) }
 
 add-put-inner : tie.Need-add-put-inner
-add-put-inner c = let a = start (c .before .before) in record { fits = omega (arith, inner-fits (a .args .size) (a .args .row) (a .args .col) (a .pre .0)) }
+add-put-inner c = let a = start (c .before .before) in record { fits = omega (arith, inner-fits (a .pre .0)) }
 
 put-inner-requires : tie.Need-put-inner-requires
-put-inner-requires c κs = let a = start (c .before .before) in (inner-inside (a .args .size) (a .args .row) (a .args .col) (a .pre .0) (a .args .out .now) (a .pre .1 .1 .0), inner-fits (a .args .size) (a .args .row) (a .args .col) (a .pre .0))
+put-inner-requires c κs = let a = start (c .before .before) in (inner-inside (a .pre .0) (a .args .out .now) (a .pre .1 .samples-lent), inner-fits (a .pre .0))
 
 mark-block-requires : tie.Need-mark-block-requires
 mark-block-requires c κs = search needs
@@ -38,13 +38,9 @@ returns c =
     let put = marked .before .before .before .before in
     let block = put .before .before .before in
     let a = start block in
-    let x = block .read-block in (
-      inner-state (now (a .args .src)) (a .args .size) (a .args .row) (a .args .col) (a .args .state) (a .pre .0) (x .result) (x .ensures),
-      (
-        inner-samples (now (a .args .src)) (a .args .size) (a .args .row) (a .args .col) (a .args .state) (a .pre .0) (x .result) (x .ensures) _ _ (put .put-inner .ensures),
-        inner-marks (now (a .args .src)) (a .args .size) (a .args .row) (a .args .col) (a .args .state) (a .pre .0) (x .result) (x .ensures) _ _ (marked .mark-block .ensures),
-      ),
-    )
+    let x = block .read-block in
+    inner-decoded (now (a .args .src)) (a .args .state) (a .pre .0) (x .result) (x .ensures) _ _ _ _ (put .put-inner .ensures)
+    (marked .mark-block .ensures)
 
 pub decode-by-record-spec : {M : Type 1} → statement M
 decode-by-record-spec =

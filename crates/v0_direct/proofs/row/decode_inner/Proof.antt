@@ -5,7 +5,8 @@ use borrow.Author.Needs.{needs}
 use Rattle.window.specs.Window.{Standing}
 use Rattle.v0_stream.specs.ByWindow.{Opened}
 use Rattle.v0_stream.proofs.GroupLaws.{opened-block}
-use Rattle.v0_direct.proofs.InnerLaws.{inner-state, inner-samples, inner-marks}
+use Rattle.v0_stream.proofs.WindowHeadLaws.{head-room}
+use Rattle.v0_direct.proofs.InnerLaws.{inner-decoded}
 use Rattle.v0_direct.proofs.row.decode_inner.Statement.{statement}
 use Rattle.v0_direct.proofs.row.decode_inner.Tie as tie
 
@@ -44,12 +45,10 @@ sub-window-head : tie.Need-sub-window-head
 sub-window-head c = let few = stood (c .before) .few in omega arith
 
 window-head-requires : tie.Need-window-head-requires
-window-head-requires c κs =
-    let x = stood (c .before) in let few = x .few in let there = x .there in let far = x .far in
-    (record { some = omega arith; soon = omega arith; there = omega arith; far = omega arith }, start (c .before) .pre .1 .0)
+window-head-requires c κs = (head-room (stood (c .before)), start (c .before) .pre .1 .near)
 
 put-groups-requires : tie.Need-put-groups-requires
-put-groups-requires c κs = let a = start (standing (c .before)) in (a .pre .0, (opened (c .before), a .pre .1 .1 .0))
+put-groups-requires c κs = let a = start (standing (c .before)) in (a .pre .0, (opened (c .before), a .pre .1 .samples-lent))
 
 mark-block-requires : tie.Need-mark-block-requires
 mark-block-requires c κs = search needs
@@ -65,13 +64,9 @@ returns c =
     let groups = put (marked c) in
     let h = groups .before .before in
     let a = start (standing h) in
-    let x = opened-block (now (a .args .src)) (a .args .state) (h .window-head .result) _ (opened h) (groups .put-groups .ensures .0) in (
-      inner-state (now (a .args .src)) (a .args .size) (a .args .row) (a .args .col) (a .args .state) (a .pre .0) _ x,
-      (
-        inner-samples (now (a .args .src)) (a .args .size) (a .args .row) (a .args .col) (a .args .state) (a .pre .0) _ x _ _ (groups .put-groups .ensures .1),
-        inner-marks (now (a .args .src)) (a .args .size) (a .args .row) (a .args .col) (a .args .state) (a .pre .0) _ x _ _ (marked c .mark-block .ensures),
-      ),
-    )
+    let x = opened-block (now (a .args .src)) (a .args .state) (h .window-head .result) _ (opened h) (groups .put-groups .ensures .0) in
+    inner-decoded (now (a .args .src)) (a .args .state) (a .pre .0) _ x _ _ _ _ (groups .put-groups .ensures .1)
+    (marked c .mark-block .ensures)
 
 decode-by-record-requires : tie.Need-decode-by-record-requires
 decode-by-record-requires c κs = search needs

@@ -54,9 +54,8 @@ loop-again c =
     let p = at-loop (x .before) in
     let a = at-start p .args in
     let l = p .loop in
-    let d = x .decode-block .ensures in
-    rowing-on (a .src .now) (a .size) (a .row) (a .offset) (a .out .now) (a .map .now) (l .out) _ (l .map) _ _ (l .state) _ (l .col) (omega arith) (d .0)
-    (d .1 .0) (d .1 .1) (c .before .before .end-block .ensures) (l .inv)
+    rowing-on (a .src .now) (a .size) (a .row) (a .offset) (a .out .now) (a .map .now) (l .out) _ (l .map) _ _ (l .state) _ (l .col) (omega arith)
+    (x .decode-block .ensures) (c .before .before .end-block .ensures) (l .inv)
 
 same-length : tie.Need-same-length Inv-loop μ-loop
 same-length c = search needs

@@ -8,7 +8,7 @@ use mir.Syntax.{w32}
 use borrow.Author.Needs.{needs}
 use Rattle.rules.specs.V0.{length-of}
 use Rattle.v0_cells.proofs.CellLaws.{row-fits}
-use Rattle.v0_direct.proofs.SampleLaws.{sample-bits, sample-put, sample-mark}
+use Rattle.v0_direct.proofs.SampleLaws.{sample-applied}
 use Rattle.v0_direct.proofs.sample.decode_sample.Statement.{statement}
 use Rattle.v0_direct.proofs.sample.decode_sample.Tie as tie
 
@@ -72,13 +72,7 @@ unfolding length-of
 returns c = let m = after-put-mark c in let p = after-put m in let x = p .before .before in let f = after-predict x in let a = at-start (f .before) in
     let l = getD (a .args .head .row .lengths) (2 * (a .args .c % 2) + a .args .c / 8) (pos 0) in
     let en = rw (toZ-ofZ w32 l (record { sfits = x .before .before .residual-bits-arg .given })) at (x .before .residual-bits .ensures) in
-    let ep = f .predict .ensures in (
-      sample-bits _ (a .args .size) _ _ (a .args .head) (a .args .c) (a .args .bits) _ _ _ ep en (x .read-residual .ensures),
-      (
-        sample-put _ (a .args .size) _ _ (a .args .head) (a .args .c) (a .args .bits) _ _ _ ep en (x .read-residual .ensures) _ _ (p .put .ensures),
-        sample-mark _ (a .args .size) _ _ (a .args .head) (a .args .c) (a .args .bits) _ _ _ ep en (x .read-residual .ensures) _ _ (m .put-mark .ensures),
-      ),
-    )
+    sample-applied _ (a .args .size) _ _ (a .args .head) (a .args .c) (a .args .bits) _ _ _ (f .predict .ensures) en (x .read-residual .ensures) _ _ _ _ (p .put .ensures) (m .put-mark .ensures)
 
 pub decode-sample-spec : {M : Type 1} → statement M
 decode-sample-spec =

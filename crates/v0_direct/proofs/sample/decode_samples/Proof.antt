@@ -39,8 +39,8 @@ loop-less c = omega arith
 
 loop-again : tie.Need-loop-again Inv-loop μ-loop
 loop-again c =
-    let x = c .before .before .before .before in let s = after-stream-column x in let l = at-loop s in let a = at-start (l .before) .args in let d = x .decode-sample .ensures in
-    sampling-on _ (a .size) _ _ (a .head) _ _ _ _ _ _ _ _ _ _ _ (omega arith) (s .stream-column .ensures .0) (d .0) (d .1 .0) (d .1 .1) (l .loop .inv)
+    let x = c .before .before .before .before in let s = after-stream-column x in let l = at-loop s in let a = at-start (l .before) .args in
+    sampling-on _ (a .size) _ _ (a .head) _ _ _ _ _ _ _ _ _ _ _ (omega arith) (s .stream-column .ensures .0) (x .decode-sample .ensures) (l .loop .inv)
 
 same-length : tie.Need-same-length Inv-loop μ-loop
 same-length c = search needs

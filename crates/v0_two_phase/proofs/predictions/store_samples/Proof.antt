@@ -1,23 +1,22 @@
 -- After c turns the first c cells of the block hold the values.
 use mathlib.Core.Path.{refl}
-use Prim.Native.Nat.{_-_, _≤_}
+use Prim.Native.Nat.{_-_}
 use native.Mathlib.Omega.{arith}
 use lib.ListN.{getD}
 use borrow.Author.Needs.{needs}
 use Rattle.rules.specs.V0.{sample-kind}
-use Rattle.v0_cells.specs.Inner.{Replaced}
-use Rattle.v0_cells.proofs.StagedLaws.{replaced-none, replaced-on, replaced-done}
+use Rattle.v0_cells.proofs.StagedLaws.{Storing, storing-begun, storing-on, storing-done}
 use Rattle.v0_two_phase.proofs.predictions.store_samples.Statement.{statement}
 use Rattle.v0_two_phase.proofs.predictions.store_samples.Tie as tie
 
 abbrev Inv-loop : tie.InvT-loop
-Inv-loop out₀ base values c₀ out c = (c ≤ 16) × Replaced sample-kind base c (λ i. getD values i 0) out₀ out
+Inv-loop out₀ base values c₀ out c = Storing sample-kind base (λ i. getD values i 0) out₀ out c
 
 abbrev μ-loop : tie.MeasureT-loop
 μ-loop out₀ base values c₀ out c = 16 - c
 
 loop-holds : tie.Need-loop-holds Inv-loop μ-loop
-loop-holds c = (omega arith, replaced-none _ _ _ _)
+loop-holds c = storing-begun
 
 mul-out : tie.Need-mul-out Inv-loop μ-loop
 mul-out c = omega arith
@@ -41,13 +40,13 @@ loop-less : tie.Need-loop-less Inv-loop μ-loop
 loop-less c = omega arith
 
 loop-again : tie.Need-loop-again Inv-loop μ-loop
-loop-again c = (omega arith, replaced-on _ _ _ _ _ _ _ _ refl (omega arith) refl (c .before .loop .inv .1))
+loop-again c = storing-on (omega arith) refl (omega arith) refl (c .before .loop .inv)
 
 same-length : tie.Need-same-length Inv-loop μ-loop
 same-length c = search needs
 
 returns : tie.Need-returns Inv-loop μ-loop
-returns c = replaced-done _ _ _ _ _ _ (omega arith) (c .before .loop .inv)
+returns c = storing-done (omega arith) (c .before .loop .inv)
 
 pub store-samples-spec : {M : Type 1} → statement M
 store-samples-spec =

@@ -5,6 +5,7 @@ use borrow.Author.Needs.{needs}
 use Rattle.window.specs.Window.{Standing}
 use Rattle.v0_stream.specs.ByWindow.{Opened}
 use Rattle.v0_stream.proofs.GroupLaws.{opened-block}
+use Rattle.v0_stream.proofs.WindowHeadLaws.{head-room}
 use Rattle.v0_two_phase.proofs.ResidualLaws.{block-parsed}
 use Rattle.v0_two_phase.proofs.residuals.parse_block.Statement.{statement}
 use Rattle.v0_two_phase.proofs.residuals.parse_block.Tie as tie
@@ -52,9 +53,7 @@ sub-plain-head : tie.Need-sub-plain-head
 sub-plain-head c = let few = stood (c .before) .few in omega arith
 
 plain-head-requires : tie.Need-plain-head-requires
-plain-head-requires c κs =
-    let x = stood (c .before) in let few = x .few in let there = x .there in let far = x .far in
-    (record { some = omega arith; soon = omega arith; there = omega arith; far = omega arith }, entry (c .before) .pre .near)
+plain-head-requires c κs = (head-room (stood (c .before)), entry (c .before) .pre .near)
 
 store-groups-requires : tie.Need-store-groups-requires
 store-groups-requires c κs =

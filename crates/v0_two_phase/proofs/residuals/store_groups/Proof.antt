@@ -1,17 +1,13 @@
 -- The head tells the bits of each residual, so each group is the one that the record would read from there on; stored one after another
 -- they are the block's.
-use mathlib.Core.Logic.{⊎-elim}
-use mathlib.Core.Path.{sym, subst}
+use mathlib.Core.Path.{ap, _∙_}
 use native.Mathlib.Omega.{arith}
 use denote.Ref.{now}
-use lib.IntN.{pos}
-use lib.ListN.{getD}
-use mir.Syntax.{w32}
-use mir.ValLaws.{toZ-ofZ}
 use borrow.Author.Needs.{needs}
-use Rattle.v0_stream.specs.ByWindow.{Group}
-use Rattle.v0_stream.proofs.GroupLaws.{Planned, near, room, end-room}
-use Rattle.v0_two_phase.proofs.ResidualLaws.{groups-stored}
+use Rattle.rules.specs.V0.{order}
+use Rattle.rules.specs.Phases.{store-samples}
+use Rattle.v0_stream.proofs.GroupLaws.{Planned, plan-made, first-in, second-in, third-in, fourth-in, near, end-room, either-way, groups-made}
+use Rattle.v0_two_phase.proofs.ResidualLaws.{fours-stored}
 use Rattle.v0_two_phase.proofs.residuals.store_groups.Statement.{statement}
 use Rattle.v0_two_phase.proofs.residuals.store_groups.Tie as tie
 
@@ -41,17 +37,9 @@ fourth c = c .before .before .before .before
 planned : (c : tie.After-residual-length4) → (let a = entry c .args in
     Planned (now (a .src)) (a .row) (a .head) (counted (c .before .before) .residual-length .result) (c .before .before .before .before .residual-length2 .result) (c .before .before .residual-length3 .result) (c .residual-length4 .result))
 planned c =
-    let ls = entry c .args .head .lengths in
-    let n₂ = c .before .before in
-    let n₁ = n₂ .before .before in
-    let n₀ = n₁ .before .before in
-    record {
-      opened = entry c .pre .0;
-      is₀ = rw (toZ-ofZ w32 (getD ls 0 (pos 0)) (record { sfits = n₀ .before .residual-length-arg .given })) at (n₀ .residual-length .ensures);
-      is₁ = rw (toZ-ofZ w32 (getD ls 1 (pos 0)) (record { sfits = n₁ .before .residual-length-arg2 .given })) at (n₁ .residual-length2 .ensures);
-      is₂ = rw (toZ-ofZ w32 (getD ls 2 (pos 0)) (record { sfits = n₂ .before .residual-length-arg3 .given })) at (n₂ .residual-length3 .ensures);
-      is₃ = rw (toZ-ofZ w32 (getD ls 3 (pos 0)) (record { sfits = c .before .residual-length-arg4 .given })) at (c .residual-length4 .ensures);
-    }
+    let n₂ = c .before .before in let n₁ = n₂ .before .before in let n₀ = n₁ .before .before in
+    plan-made (entry c .pre .0) (n₀ .before .residual-length-arg .given) (n₀ .residual-length .ensures) (n₁ .before .residual-length-arg2 .given) (n₁ .residual-length2 .ensures)
+    (n₂ .before .residual-length-arg3 .given) (n₂ .residual-length3 .ensures) (c .before .residual-length-arg4 .given) (c .residual-length4 .ensures)
 
 sub-base : tie.Need-sub-base
 sub-base c = search needs
@@ -108,19 +96,19 @@ add-q3 : tie.Need-add-q3
 add-q3 c = search needs
 
 four-at-requires : tie.Need-four-at-requires
-four-at-requires c κs = let x = planned (c .before) in let n = near x in (search needs, (omega arith, (omega arith, room x _ (omega arith))))
+four-at-requires c κs = first-in (planned (c .before)) .short (search needs)
 
 four-long-at-requires : tie.Need-four-long-at-requires
-four-long-at-requires c κs = let x = planned (c .before) in let n = near x in (omega arith, (omega arith, (omega arith, room x _ (omega arith))))
+four-long-at-requires c κs = first-in (planned (c .before)) .long (search needs)
 
 store-four-requires : tie.Need-store-four-requires
 store-four-requires c κs = search needs
 
 four-at-requires-2 : tie.Need-four-at-requires-2
-four-at-requires-2 c κs = let x = planned (first (c .before) .before) in let n = near x in (search needs, (omega arith, (omega arith, room x _ (omega arith))))
+four-at-requires-2 c κs = second-in (planned (first (c .before) .before)) .short (search needs)
 
 four-long-at-requires-2 : tie.Need-four-long-at-requires-2
-four-long-at-requires-2 c κs = let x = planned (first (c .before) .before) in let n = near x in (omega arith, (omega arith, (omega arith, room x _ (omega arith))))
+four-long-at-requires-2 c κs = second-in (planned (first (c .before) .before)) .long (search needs)
 
 add-store-four : tie.Need-add-store-four
 add-store-four c = search needs
@@ -129,10 +117,10 @@ store-four-requires-2 : tie.Need-store-four-requires-2
 store-four-requires-2 c κs = search needs
 
 four-at-requires-3 : tie.Need-four-at-requires-3
-four-at-requires-3 c κs = let x = planned (first (second (c .before) .before) .before) in let n = near x in (search needs, (omega arith, (omega arith, room x _ (omega arith))))
+four-at-requires-3 c κs = third-in (planned (first (second (c .before) .before) .before)) .short (search needs)
 
 four-long-at-requires-3 : tie.Need-four-long-at-requires-3
-four-long-at-requires-3 c κs = let x = planned (first (second (c .before) .before) .before) in let n = near x in (omega arith, (omega arith, (omega arith, room x _ (omega arith))))
+four-long-at-requires-3 c κs = third-in (planned (first (second (c .before) .before) .before)) .long (search needs)
 
 add-store-four-2 : tie.Need-add-store-four-2
 add-store-four-2 c = search needs
@@ -141,10 +129,10 @@ store-four-requires-3 : tie.Need-store-four-requires-3
 store-four-requires-3 c κs = search needs
 
 four-at-requires-4 : tie.Need-four-at-requires-4
-four-at-requires-4 c κs = let x = planned (first (second (third (c .before) .before) .before) .before) in let n = near x in (search needs, (omega arith, (omega arith, room x _ (omega arith))))
+four-at-requires-4 c κs = fourth-in (planned (first (second (third (c .before) .before) .before) .before)) .short (search needs)
 
 four-long-at-requires-4 : tie.Need-four-long-at-requires-4
-four-long-at-requires-4 c κs = let x = planned (first (second (third (c .before) .before) .before) .before) in let n = near x in (omega arith, (omega arith, (omega arith, room x _ (omega arith))))
+four-long-at-requires-4 c κs = fourth-in (planned (first (second (third (c .before) .before) .before) .before)) .long (search needs)
 
 add-store-four-3 : tie.Need-add-store-four-3
 add-store-four-3 c = search needs
@@ -171,15 +159,20 @@ returns : tie.Need-returns
 returns c =
     let s₃ = fourth (c .before) in let s₂ = third (s₃ .before) in let s₁ = second (s₂ .before) in let s₀ = first (s₁ .before) in
     let a = entry (s₀ .before) .args in
-    groups-stored (a .width) (a .col) (now (a .src)) (a .row) (a .head) _ _ _ _ _ (s₀ .if1 .a) (s₁ .if2 .b) (s₂ .if3 .c) (s₃ .if4 .d) _ _ _ _ _ (entry (s₀ .before) .pre .1 .1 .0)
+    let x = groups-made (now (a .src)) (a .row) (a .head) _ _ _ _ (s₀ .if1 .a) (s₁ .if2 .b) (s₂ .if3 .c) (s₃ .if4 .d) _
     (record {
       plan = planned (s₀ .before);
-      first = ⊎-elim (λ w. subst (Group _ _ _ _) (sym (w .2)) (w .1 .ensures)) (λ w. subst (Group _ _ _ _) (sym (w .2)) (w .1 .ensures)) (s₀ .if1 .came);
-      second = ⊎-elim (λ w. subst (Group _ _ _ _) (sym (w .2)) (w .1 .ensures)) (λ w. subst (Group _ _ _ _) (sym (w .2)) (w .1 .ensures)) (s₁ .if2 .came);
-      third = ⊎-elim (λ w. subst (Group _ _ _ _) (sym (w .2)) (w .1 .ensures)) (λ w. subst (Group _ _ _ _) (sym (w .2)) (w .1 .ensures)) (s₂ .if3 .came);
-      fourth = ⊎-elim (λ w. subst (Group _ _ _ _) (sym (w .2)) (w .1 .ensures)) (λ w. subst (Group _ _ _ _) (sym (w .2)) (w .1 .ensures)) (s₃ .if4 .came);
+      first = either-way (s₀ .if1 .came) (λ _ y. y .ensures) (λ _ y. y .ensures);
+      second = either-way (s₁ .if2 .came) (λ _ y. y .ensures) (λ _ y. y .ensures);
+      third = either-way (s₂ .if3 .came) (λ _ y. y .ensures) (λ _ y. y .ensures);
+      fourth = either-way (s₃ .if4 .came) (λ _ y. y .ensures) (λ _ y. y .ensures);
     })
-    (c .state-at .ensures) (s₁ .before .before .before .store-four .ensures) (s₂ .before .before .before .store-four2 .ensures) (s₃ .before .before .before .store-four3 .ensures) (c .before .before .before .store-four4 .ensures)
+    (c .state-at .ensures) in (
+      x .0,
+      fours-stored (a .width) (a .col) (s₀ .if1 .a) (s₁ .if2 .b) (s₂ .if3 .c) (s₃ .if4 .d) _ _ _ _ _ (entry (s₀ .before) .pre .1 .1 .0)
+          (s₁ .before .before .before .store-four .ensures) (s₂ .before .before .before .store-four2 .ensures) (s₃ .before .before .before .store-four3 .ensures) (c .before .before .before .store-four4 .ensures)
+          ∙ ap (λ r. store-samples 0 (a .width) (a .col) order r (now (a .out))) (x .1),
+    )
 
 pub store-groups-spec : {M : Type 1} → statement M
 store-groups-spec =
