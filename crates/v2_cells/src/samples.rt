@@ -79,9 +79,9 @@ pub fn store(out: &mut [u16], at: usize, samples: &[u16; 16])
     requires { ⌜ (at + 16 ≤ length (now out)) × (length (now samples) ≡ 16) ⌝ }
     ensures { λ _. ⌜ now (out .exit) ≡ sets (now (out .entry)) at (now (samples .entry)) ⌝ }
 {
-    let mut i: usize = 0;
-    while i < V2Row::BLOCK {
-        out[at + i] = samples[i];
-        i += 1;
+    let mut k: usize = 0;
+    while k < V2Row::BLOCK {
+        out[at + k] = samples[k];
+        k += 1;
     }
 }

@@ -1,15 +1,16 @@
--- The loop's invariant: the stores from i on come to what all sixteen come to.
+-- The loop's invariant: the stores from k on come to what all sixteen come to.
 use Prim.Native.Nat.{_-_}
+use native.Mathlib.Omega.{arith}
 use borrow.Author.Needs.{needs}
 use Rattle.v2_cells.proofs.Fill.{Stored, stored-none, stored-more, stored-all}
 use Rattle.v2_cells.proofs.samples.store.Statement.{statement}
 use Rattle.v2_cells.proofs.samples.store.Tie as tie
 
 abbrev Inv-loop : tie.InvT-loop
-Inv-loop out₀ at samples i₀ out i = Stored out₀ samples at out i
+Inv-loop out₀ at samples k₀ out k = Stored out₀ samples at out k
 
 abbrev μ-loop : tie.MeasureT-loop
-μ-loop out₀ at samples i₀ out i = 16 - i
+μ-loop out₀ at samples k₀ out k = 16 - k
 
 loop-holds : tie.Need-loop-holds Inv-loop μ-loop
 loop-holds c = stored-none
@@ -29,20 +30,20 @@ mul-out-2 c = search needs
 slice-write-out : tie.Need-slice-write-out Inv-loop μ-loop
 slice-write-out c = search needs
 
-add-i : tie.Need-add-i Inv-loop μ-loop
-add-i c = search needs
+add-k : tie.Need-add-k Inv-loop μ-loop
+add-k c = search needs
 
 loop-less : tie.Need-loop-less Inv-loop μ-loop
 loop-less c = search needs
 
 loop-again : tie.Need-loop-again Inv-loop μ-loop
-loop-again c = stored-more (c .before .before .loop .inv) (c .before .before .before .pre .1) (c .before .loop-test .taken)
+loop-again c = stored-more (c .before .before .loop .inv) (c .before .before .before .pre .1) (omega arith)
 
 same-length : tie.Need-same-length Inv-loop μ-loop
 same-length c = search needs
 
 returns : tie.Need-returns Inv-loop μ-loop
-returns c = stored-all (c .before .loop .inv) (c .before .before .pre .1) (c .loop-test .left)
+returns c = stored-all (c .before .loop .inv) (c .before .before .pre .1) (omega arith)
 
 pub store-spec : {M : Type 1} → statement M
 store-spec =
@@ -56,7 +57,7 @@ store-spec =
     add-out
     mul-out-2
     slice-write-out
-    add-i
+    add-k
     loop-less
     loop-again
     same-length
