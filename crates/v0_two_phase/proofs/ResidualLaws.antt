@@ -14,7 +14,7 @@ use Rattle.rules.specs.V0.{order, fresh-row, blocks-in}
 use Rattle.rules.specs.Phases.{BlockRecord, block-records, row-records, store-samples, store-blocks, direction}
 use Rattle.rules.specs.declared.v0.V0Row.{V0Row}
 use Rattle.v0_stream.specs.Block.{with-residuals, whole-block}
-use Rattle.v0_stream.specs.ByWindow.{joined}
+use Rattle.v0_windows.specs.ByWindow.{joined}
 use Rattle.v0_stream.specs.Lengths.{Within, furthest}
 use Rattle.v0_stream.specs.declared.block.ReadBlock.{ReadBlock}
 use Rattle.v0_stream.proofs.BlockLaws.{block-within}

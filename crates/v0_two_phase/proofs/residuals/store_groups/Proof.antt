@@ -6,7 +6,7 @@ use denote.Ref.{now}
 use borrow.Author.Needs.{needs}
 use Rattle.rules.specs.V0.{order}
 use Rattle.rules.specs.Phases.{store-samples}
-use Rattle.v0_stream.proofs.GroupLaws.{Planned, plan-made, first-in, second-in, third-in, fourth-in, near, end-room, either-way, groups-made}
+use Rattle.v0_windows.proofs.GroupLaws.{Planned, plan-made, first-in, second-in, third-in, fourth-in, near, end-room, either-way, groups-made}
 use Rattle.v0_two_phase.proofs.ResidualLaws.{fours-stored}
 use Rattle.v0_two_phase.proofs.residuals.store_groups.Statement.{statement}
 use Rattle.v0_two_phase.proofs.residuals.store_groups.Tie as tie

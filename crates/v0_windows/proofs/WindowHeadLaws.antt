@@ -19,12 +19,12 @@ use Rattle.rules.specs.declared.reader.Bits.{Bits}
 use Rattle.rules.specs.declared.v0.V0Length.{V0Length}
 use Rattle.window.specs.Window.{bits-from, state-at, Standing, Window}
 use Rattle.window.proofs.WindowLaws.{Reads, in-window, read-at}
 use Rattle.v0_stream.specs.Lengths.{stepped, Within, furthest}
-use Rattle.v0_stream.specs.ByWindow.{Room, length-in, HeadAt}
-use Rattle.v0_stream.specs.declared.by_window.WindowLength.{WindowLength}
-use Rattle.v0_stream.specs.declared.by_window.PlainHead.{PlainHead}
+use Rattle.v0_windows.specs.ByWindow.{Room, length-in, HeadAt}
+use Rattle.v0_windows.specs.declared.WindowLength.{WindowLength}
+use Rattle.v0_windows.specs.declared.PlainHead.{PlainHead}
 use Rattle.v0_stream.proofs.HeadLaws.{stepped-near, lengths-made}
-use Rattle.v0_stream.proofs.GroupLaws.{four-is, window-words}
+use Rattle.v0_windows.proofs.GroupLaws.{four-is, window-words}
 
 -- ── Its window ──
 

@@ -1,10 +1,10 @@
 -- Two fields from the top of each of two windows, one of which begins where the other ends.
 use lib.Pow.{pow-pos}
 use denote.Ref.{now}
-use Rattle.v0_stream.proofs.GroupLaws.{long-made}
+use Rattle.v0_windows.proofs.GroupLaws.{long-made}
 use borrow.Author.Needs.{needs}
-use Rattle.v0_stream.proofs.by_window.four_long_at.Statement.{statement}
-use Rattle.v0_stream.proofs.by_window.four_long_at.Tie as tie
+use Rattle.v0_windows.proofs.four_long_at.Statement.{statement}
+use Rattle.v0_windows.proofs.four_long_at.Tie as tie
 
 window-requires : tie.Need-window-requires
 window-requires c κs = search needs

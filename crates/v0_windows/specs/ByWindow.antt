@@ -12,9 +12,9 @@ use Rattle.rules.specs.Reader.{word-at, signed, modulo}
 use Rattle.rules.specs.V0.{head}
 use Rattle.rules.specs.declared.v0.V0Row.{V0Row}
 use Rattle.window.specs.Window.{bits-from, state-at, Standing}
 use Rattle.v0_stream.specs.Lengths.{stepped}
-use Rattle.v0_stream.specs.declared.by_window.WindowLength.{WindowLength}
-use Rattle.v0_stream.specs.declared.by_window.WindowHead.{WindowHead}
+use Rattle.v0_windows.specs.declared.WindowLength.{WindowLength}
+use Rattle.v0_windows.specs.declared.WindowHead.{WindowHead}
 
 -- Bit q lies in one of the first words from `base` on, and a window that begins there is in the stream.
 pub record Room (s : List ℕ) (base q : ℕ) : Type 0 where

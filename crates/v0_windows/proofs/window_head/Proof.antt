@@ -8,10 +8,10 @@ use lib.ListN.{length, getD}
 use mir.Syntax.{w32}
 use mir.ValLaws.{toZ-ofZ}
 use denote.Ref.{now}
-use Rattle.v0_stream.proofs.WindowHeadLaws.{left-of, head-made}
+use Rattle.v0_windows.proofs.WindowHeadLaws.{left-of, head-made}
 use borrow.Author.Needs.{needs}
-use Rattle.v0_stream.proofs.by_window.window_head.Statement.{statement}
-use Rattle.v0_stream.proofs.by_window.window_head.Tie as tie
+use Rattle.v0_windows.proofs.window_head.Statement.{statement}
+use Rattle.v0_windows.proofs.window_head.Tie as tie
 
 abbrev start : tie.After-window-length → tie.Start
 start c = c .before .before .before .before

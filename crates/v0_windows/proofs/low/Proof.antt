@@ -1,8 +1,8 @@
 -- Adding half of 2^n and taking it off again, in a turn of 2^n, is the sign.
-use Rattle.v0_stream.proofs.GroupLaws.{Low, low-made}
+use Rattle.v0_windows.proofs.GroupLaws.{Low, low-made}
 use borrow.Author.Needs.{needs}
-use Rattle.v0_stream.proofs.by_window.low.Statement.{statement}
-use Rattle.v0_stream.proofs.by_window.low.Tie as tie
+use Rattle.v0_windows.proofs.low.Statement.{statement}
+use Rattle.v0_windows.proofs.low.Tie as tie
 
 low : (c : tie.After-wrapping-add-u64) → Low (c .before .before .args .x) (c .before .before .args .n) (c .before .power .result) (c .wrapping-add-u64 .result)
 low c = low-made _ _ _ _ (c .before .before .pre) (c .before .power .ensures) (c .wrapping-add-u64 .ensures)

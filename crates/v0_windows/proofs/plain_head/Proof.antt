@@ -8,10 +8,10 @@ use lib.ListN.{length, getD}
 use mir.Syntax.{w32}
 use mir.ValLaws.{toZ-ofZ}
 use denote.Ref.{now}
-use Rattle.v0_stream.proofs.WindowHeadLaws.{left-of, head-made, no-head}
+use Rattle.v0_windows.proofs.WindowHeadLaws.{left-of, head-made, no-head}
 use borrow.Author.Needs.{needs}
-use Rattle.v0_stream.proofs.by_window.plain_head.Statement.{statement}
-use Rattle.v0_stream.proofs.by_window.plain_head.Tie as tie
+use Rattle.v0_windows.proofs.plain_head.Statement.{statement}
+use Rattle.v0_windows.proofs.plain_head.Tie as tie
 
 -- Points on the way: the entry, and each length after the one before.
 abbrev start : tie.After-window-length → tie.Start

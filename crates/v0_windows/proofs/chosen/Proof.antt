@@ -1,8 +1,8 @@
 -- A product with 0 or 1 of numbers so near to 0 stays within 32 signed bits.
-use Rattle.v0_stream.proofs.ChosenLaws.{difference-fits, product-fits, sum-fits, chosen-is}
+use Rattle.v0_windows.proofs.ChosenLaws.{difference-fits, product-fits, sum-fits, chosen-is}
 use borrow.Author.Needs.{needs}
-use Rattle.v0_stream.proofs.by_window.chosen.Statement.{statement}
-use Rattle.v0_stream.proofs.by_window.chosen.Tie as tie
+use Rattle.v0_windows.proofs.chosen.Statement.{statement}
+use Rattle.v0_windows.proofs.chosen.Tie as tie
 
 cast-result : tie.Need-cast-result
 cast-result c = search needs

@@ -8,17 +8,11 @@ ghost use lib.Dec.{eqb};
 ghost use lib.ListN.{length};
 ghost use lib.IntN.{pos};
 ghost use lib.Signed.{mag, leZ};
-ghost use Rattle.v0_stream.specs.Block.{whole-block};
-ghost use Rattle.v0_stream.specs.ByWindow.{residual, Room, length-in, HeadAt, Group};
+ghost use Rattle.v0_windows.specs.ByWindow.{residual, Room, length-in, HeadAt, Group};
 ghost use Rattle.v0_stream.specs.Lengths.{Within, furthest};
-use super::block::ReadBlock;
-use super::block::read_block;
-use super::block::residual_length;
-use super::head::step;
 use fields::field;
 use fields::power;
-use rules::Bits;
-use rules::V0Row;
+use v0_stream::head::step;
 use window::window;
 
 // The bytes that have to be there from the word fetched last on: a block ends at most 569 bits after that word's start.
@@ -166,59 +160,4 @@ pub fn four_long_at(src: &[u8], base: usize, q: usize, n: u32) -> [u16; 4]
         low(d / power(n), n),
         low(d, n),
     ]
-}
-
-// A block read by the record. The argument is made anew and the result taken apart, so that a caller that reads by windows keeps
-// both in registers.
-pub fn read_by_record(src: &[u8], lengths: [i32; 4], bits: Bits) -> ReadBlock
-    requires { ⌜ Within furthest lengths ⌝ }
-    ensures { λ r. ⌜ r ≡ whole-block (now (src .entry)) (record { lengths = lengths; bits = bits }) ⌝ }
-{
-    let start = Bits {
-        pos: bits.pos,
-        word: bits.word,
-        count: bits.count,
-        filler: bits.filler,
-    };
-    let row = V0Row {
-        lengths,
-        bits: start,
-    };
-    let x = read_block(src, row, true);
-    let after = x.row;
-    let kept = after.lengths;
-    let last = after.bits;
-    let end = Bits {
-        pos: last.pos,
-        word: last.word,
-        count: last.count,
-        filler: last.filler,
-    };
-    let next = V0Row {
-        lengths: kept,
-        bits: end,
-    };
-    let r = x.residuals;
-    ReadBlock {
-        up: x.up,
-        row: next,
-        residuals: [
-            r[0],
-            r[1],
-            r[2],
-            r[3],
-            r[4],
-            r[5],
-            r[6],
-            r[7],
-            r[8],
-            r[9],
-            r[10],
-            r[11],
-            r[12],
-            r[13],
-            r[14],
-            r[15],
-        ],
-    }
 }

@@ -5,12 +5,12 @@ use lib.Signed.{mag}
 use mir.Syntax.{w32}
 use mir.ValLaws.{toZ-ofZ}
 use mir.Facts.{toZ-pos}
 use Rattle.v0_stream.specs.Lengths.{stepped, furthest}
 use Rattle.v0_stream.proofs.HeadLaws.{stepped-near}
-use Rattle.v0_stream.proofs.WindowHeadLaws.{length-made}
+use Rattle.v0_windows.proofs.WindowHeadLaws.{length-made}
 use borrow.Author.Needs.{needs}
-use Rattle.v0_stream.proofs.by_window.window_length.Statement.{statement}
-use Rattle.v0_stream.proofs.by_window.window_length.Tie as tie
+use Rattle.v0_windows.proofs.window_length.Statement.{statement}
+use Rattle.v0_windows.proofs.window_length.Tie as tie
 
 field-requires : tie.Need-field-requires
 field-requires c κs = search needs

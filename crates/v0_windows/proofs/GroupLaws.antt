@@ -24,10 +24,10 @@ use Rattle.rules.specs.declared.v0.V0Head.{V0Head}
 use Rattle.rules.proofs.ReaderLaws.{four-fields, sign-low, sign-high, residual-is}
 use Rattle.window.specs.Window.{bits-from, state-at, values-at, span, none, also, Window}
 use Rattle.window.proofs.WindowLaws.{fields-at, fields-end, pair-top, three-at}
 use Rattle.v0_stream.specs.Block.{with-residuals, whole-block}
-use Rattle.v0_stream.specs.ByWindow.{residual, Opened, Group, joined}
-use Rattle.v0_stream.specs.declared.by_window.WindowHead.{WindowHead}
+use Rattle.v0_windows.specs.ByWindow.{residual, Opened, Group, joined}
+use Rattle.v0_windows.specs.declared.WindowHead.{WindowHead}
 use Rattle.v0_stream.proofs.BlockLaws.{bits-few-enough, Reading, reading-begun, reading-four, read-all, whole-read}
 
 -- ── The sign ──
 

@@ -2,8 +2,8 @@
 use mathlib.Core.Path.{sym, _∙_}
 use mir.Syntax.{w32}
 use mir.ValLaws.{toZ-ofZ}
-use Rattle.v0_stream.proofs.by_window.is_plain.Statement.{statement}
-use Rattle.v0_stream.proofs.by_window.is_plain.Tie as tie
+use Rattle.v0_windows.proofs.is_plain.Statement.{statement}
+use Rattle.v0_windows.proofs.is_plain.Tie as tie
 
 returns : tie.Need-returns
 returns c = let e = toZ-ofZ w32 (c .before .args .length) (c .before .fits .length) in rw (e, rw e at (c .if1 .taken))

@@ -1,10 +1,10 @@
 -- Four fields up to the end of a window: each is cut after those behind it are moved out.
 use lib.Pow.{pow-pos}
 use denote.Ref.{now}
-use Rattle.v0_stream.proofs.GroupLaws.{four-made}
+use Rattle.v0_windows.proofs.GroupLaws.{four-made}
 use borrow.Author.Needs.{needs}
-use Rattle.v0_stream.proofs.by_window.four_at.Statement.{statement}
-use Rattle.v0_stream.proofs.by_window.four_at.Tie as tie
+use Rattle.v0_windows.proofs.four_at.Statement.{statement}
+use Rattle.v0_windows.proofs.four_at.Tie as tie
 
 mul-window : tie.Need-mul-window
 mul-window c = search needs
