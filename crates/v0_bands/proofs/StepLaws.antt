@@ -15,7 +15,7 @@ use Rattle.bands.specs.Bands.{Cut, cut, sized, late-rows, blocks-per-band, step
 use Rattle.bands.proofs.AnySequence.{Fitting, fitting, start-up, start-last}
 use Rattle.bands.proofs.CheckLaws.{bands-most}
 use Rattle.bands.proofs.Counters.{some-block, stands, Turns, end, next, turns}
-use Rattle.v0_two_phase.specs.Lent.{LateRow}
+use Rattle.v0_predictions.specs.Lent.{LateRow}
 use Rattle.v0_bands.specs.Freed.{exchange-freed, steps-freed}
 use Rattle.v0_bands.specs.Lent.{BandLent, StepLent, StepsLent}
 use Rattle.v0_bands.proofs.FreedLaws.{some-late, begins}

@@ -14,8 +14,8 @@ use bands::late_rows;
 use rules::Size;
 use rules::V0Row;
 use v0_cells::exchange::exchange;
+use v0_predictions::add_part;
 use v0_two_phase::frame::store_rows;
-use v0_two_phase::predictions::add_part;
 
 // The smaller of two numbers.
 fn least(a: usize, b: usize) -> usize

@@ -7,7 +7,7 @@ use native.Mathlib.Omega.{arith}
 use lib.ListN.{getD, set}
 use Rattle.rules.specs.V0.{Kind, put, apply, order, rows-up, columns-back}
 use Rattle.rules.specs.declared.v0.Predictor.the-variants.{Sample}
-use Rattle.v0_stream.specs.ByWindow.{joined}
+use Rattle.v0_windows.specs.ByWindow.{joined}
 use Rattle.v0_cells.specs.Inner.{source-of, inner-ops}
 use Rattle.v0_cells.proofs.InnerLaws.{rows-most}
 

@@ -3,3 +3,4 @@ pub mod StagedLaws
 pub mod InnerLaws
 pub mod FourLaws
 pub mod ExchangeLaws
+pub mod RoomLaws

@@ -4,6 +4,7 @@ use mathlib.Core.Path.{_≡_}
 use mathlib.Core.Logic.{_⊎_}
 use mathlib.Core.List.{List}
 use lib.ListN.{length}
+use Rattle.rules.specs.Answer.{scratch-bytes}
 use Rattle.rules.specs.Frame.{cells}
 use Rattle.rules.specs.declared.answer.Size.{Size}
 
@@ -52,3 +53,8 @@ pub record MapFramed (z : Size) (map : List ℕ) : Type 0 where
   pub width : z .width ≤ 16_384
   pub height : z .height ≤ 16_384
   pub lent : Whole z map
+
+-- What a phase of the two-phase decoder is lent: a frame's cells, and a direction byte for each block from row 2 on.
+pub record PhaseLent (z : Size) (f dirs : List ℕ) : Type 0 where
+  pub frame : Framed z f
+  pub directions-lent : scratch-bytes z ≤ length dirs

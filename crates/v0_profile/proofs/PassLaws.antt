@@ -15,9 +15,9 @@ use Rattle.rules.proofs.ReaderLaws.{read-residual-is}
 use Rattle.window.specs.Window.{state-at}
 use Rattle.window.proofs.WindowLaws.{leaves}
 use Rattle.v0_stream.specs.Block.{with-residuals, whole-block}
-use Rattle.v0_stream.specs.declared.by_window.WindowHead.{WindowHead}
+use Rattle.v0_windows.specs.declared.WindowHead.{WindowHead}
 use Rattle.v0_stream.proofs.BlockLaws.{bits-few-enough}
-use Rattle.v0_stream.proofs.GroupLaws.{Planned, near}
+use Rattle.v0_windows.proofs.GroupLaws.{Planned, near}
 
 -- ── Residuals ──
 

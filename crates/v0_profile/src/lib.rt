@@ -16,11 +16,11 @@ use rules::V0Head;
 use rules::V0Row;
 use v0_direct::row::is_inner;
 use v0_direct::sample::decode_samples;
+use v0_stream::block::read_block;
 use v0_stream::block::read_block_head;
 use v0_stream::block::residual_length;
-use v0_stream::by_window::BLOCK_BYTES;
-use v0_stream::by_window::read_by_record;
-use v0_stream::by_window::window_head;
+use v0_windows::BLOCK_BYTES;
+use v0_windows::window_head;
 use window::stands_within;
 use window::state_at;
 
@@ -49,7 +49,7 @@ fn pass_block(src: &[u8], state: V0Row) -> V0Head
             },
         };
     }
-    let block = read_by_record(src, lengths, bits);
+    let block = read_block(src, state, true);
     let next = block.row;
     V0Head {
         up: block.up,

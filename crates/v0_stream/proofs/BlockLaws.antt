@@ -1,5 +1,5 @@
 -- A residual's bits, and a block of which every sample is read.
-use mathlib.Core.Path.{_≡_, refl, sym, ap, ap₂, _∙_}
+use mathlib.Core.Path.{_≡_, refl, sym, ap, _∙_}
 use mathlib.Core.Bool.{true, false}
 use mathlib.Core.List.{List, [], _∷_, _++_, append-nil}
 use Prim.Native.Nat.{ℕ, suc, _+_, _*_, _/_, _^_, _≤_, _<_, min}
@@ -17,7 +17,6 @@ use borrow.Author.Tests.{ltb-true, ltb-false, leb-true}
 use Rattle.rules.specs.Reader.{read, four, signed, modulo, read-residual}
 use Rattle.rules.proofs.ReaderLaws.{four-reads, four-below, read-residual-is}
 use Rattle.rules.specs.V0.{order, length-bits, residual-bits, head}
-use Rattle.rules.specs.Frame.{tabulate}
 use Rattle.rules.specs.Phases.{residuals}
 use Rattle.rules.specs.declared.reader.Bits.{Bits}
 use Rattle.rules.specs.declared.reader.Four.{Four}
@@ -164,20 +163,3 @@ head-alone s st r er = rw er
 pub block-within : (s : List ℕ) (st : V0Row) (n : ℕ) → 15 ≤ n → Within n (st .lengths) → Within (suc n) (whole-block s st .row .lengths)
 unfolding whole-block with-residuals
 block-within s st n h w = head-within s st n h w
-
--- ── A block taken apart ──
-
-tabulated : (xs : List ℕ) (i : ℕ) (f : ℕ → ℕ) → ((k : ℕ) → k < length xs → f (i + k) ≡ getD xs k 0) → tabulate (length xs) i f ≡ xs
-unfolding tabulate
-tabulated [] i f h = refl
-tabulated (x ∷ xs) i f h =
-    let first : i + 0 ≡ i = omega arith in
-    ap₂ _∷_ (rw first at (h 0 (omega arith)))
-    (tabulated xs (suc i) f (λ k l. let e : suc i + k ≡ i + suc k = omega arith in rw e (h (suc k) (omega arith))))
-
--- A block made anew of its parts, its residuals one by one, is itself.
-pub made-anew : (x y : ReadBlock) → x ≡ y → length (x .residuals) ≡ 16 → record { up = x .up; row = x .row; residuals = tabulate 16 0 (λ k. getD (x .residuals) k 0) } ≡ y
-made-anew x y e h =
-    let sixteen : tabulate 16 0 (λ k. getD (x .residuals) k 0) ≡ x .residuals
-    = ap (λ n. tabulate n 0 (λ k. getD (x .residuals) k 0)) (sym h) ∙ tabulated (x .residuals) 0 (λ k. getD (x .residuals) k 0) (λ k l. let z : 0 + k ≡ k = omega arith in rw z) in
-    rw sixteen e

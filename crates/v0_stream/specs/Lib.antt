@@ -1,4 +1,3 @@
 pub mod Lengths
 pub mod Block
-pub mod ByWindow
 pub mod PastEnd

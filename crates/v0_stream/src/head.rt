@@ -12,7 +12,7 @@ use rules::V0Length;
 use rules::V0Row;
 
 // A length after operation 0, 1 or 2; operation 3 leaves it. A sum, since a test of the operation would often be guessed wrong.
-pub(crate) fn step(op: u32, length: i32) -> i32
+pub fn step(op: u32, length: i32) -> i32
     requires { ⌜ (op < 4) × (mag length ≤ furthest) ⌝ }
     ensures { λ r. ⌜ r ≡ stepped op length ⌝ }
 {

@@ -1,6 +1,5 @@
 // What the stream says of a V0 block: its head, its samples' order, and, where nothing is skipped, all its residuals, by document
 // 01's "V0 row state".
 pub mod block;
-pub mod by_window;
 pub mod head;
 pub mod order;

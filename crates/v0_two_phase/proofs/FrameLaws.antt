@@ -10,7 +10,7 @@ use Rattle.rules.specs.declared.answer.Size.{Size}
 use Rattle.rules.proofs.TwoPhase.{scratch-length}
 use Rattle.v0_direct.specs.Lent.{Lends}
 use Rattle.v0_cells.specs.Places.{Framed}
-use Rattle.v0_two_phase.proofs.PredictionLaws.{directions-read}
+use Rattle.v0_predictions.proofs.PredictionLaws.{directions-read}
 
 module _ (s offsets : List ℕ) (z : Size) where
   abbrev late : ℕ

@@ -1,4 +1,1 @@
 pub mod FrameLaws
-pub mod PredictionLaws
-pub mod ResidualLaws
-pub mod RowsLaws

@@ -8,11 +8,11 @@ ghost use Rattle.rules.specs.V0.{sample-kind};
 ghost use Rattle.rules.specs.Answer.{scratch-bytes};
 ghost use Rattle.rules.specs.Phases as Phases;
 ghost use Rattle.v0_two_phase.specs.Lent.{Lends};
-use super::predictions::add_rows;
-use super::residuals::parse_rows;
 use rules::Size;
 use v0_cells::exchange::exchange;
 use v0_direct::frame::decode_rows;
+use v0_predictions::add_rows;
+use v0_residuals::parse_rows;
 
 // How many rows go by the direct decoder's rules.
 fn head_rows(height: usize) -> usize

@@ -15,7 +15,7 @@ use v2_cells::Place;
 use v2_cells::base::bases;
 use v2_cells::base::refusal_of;
 use v2_cells::samples::build;
-use v2_stream::differences::block_differences;
+use v2_differences::block_differences;
 use v2_stream::header::top_of;
 use v2_stream::lengths::block_lengths;
 use v2_stream::motion::next_motion;

@@ -1,21 +1,19 @@
--- A block's lengths and differences, one after another: what the stages before gave is a variable with its equation.
+-- A block's lengths, one after another: what the stages before gave is a variable with its equation.
 use mathlib.Core.Bool.{true, false}
 use mathlib.Core.List.{List, [], _∷_}
-use mathlib.Core.Path.{_≡_, ap, _∙_}
+use mathlib.Core.Path.{_≡_}
 use Prim.Native.Nat.{ℕ, zero, suc, _+_, _-_, _/_, _%_, _^_, _≤_, _<_}
 use native.Mathlib.Numerals.{add-one}
 use native.Mathlib.Omega.{arith}
 use lib.Dec.{eqb}
-use lib.IntN.{ℤ}
 use lib.ListN.{getD, set}
 use borrow.Author.Tests.{lt-ltb, le-ltb, ne-eqb}
 use Rattle.rules.specs.declared.reader.Bits.{Bits}
 use Rattle.rules.specs.declared.reader.Four.{Four}
 use Rattle.rules.specs.declared.reader.Got.{Got}
-use Rattle.rules.specs.declared.reader.Signed.{Signed}
 use Rattle.rules.specs.declared.v2.V2Hdr.{V2Hdr}
-use Rattle.rules.specs.Reader.{read, four, read-signed}
-use Rattle.rules.specs.V2.{option-1, lengths-bit, colour, read-length, Moded, length-step, lengths-from, no-lengths, flagged-lengths, read-lengths, position, Differences, difference-step, differences-from}
+use Rattle.rules.specs.Reader.{read, four}
+use Rattle.rules.specs.V2.{option-1, lengths-bit, colour, read-length, Moded, length-step, lengths-from, no-lengths, flagged-lengths, read-lengths}
 use Rattle.rules.proofs.ReaderLaws.{four-below}
 
 -- How many are left of n after x.
@@ -95,28 +93,6 @@ module _ (s : List ℕ) (h : V2Hdr) (row : ℕ) (mode : List (List ℕ)) (b : Bi
   pub lengths-zero : eqb (g .value) 0 ≡ false → read-lengths s h row mode b ≡ no-lengths mode (g .bits)
   unfolding read-lengths
   lengths-zero t = rw (← e, t)
-
--- One difference, after those before it.
-module _ (s : List ℕ) (row : ℕ) (ls : List ℕ) (k : ℕ) where
-  step-is : (ds : List ℤ) (b : Bits) (g : Signed) (p : ℕ) → g ≡ read-signed s b (getD ls (k / 4) 0) → p ≡ position row k
-      → difference-step s row ls k (record { values = ds; bits = b }) ≡ record { values = set ds p (g .value); bits = g .bits }
-  unfolding difference-step
-  step-is ds b g p eg ep = rw (← eg, ← ep)
-
-  first-of : (x : Differences) → k < 16
-      → differences-from s row ls (16 - k) k x ≡ differences-from s row ls (16 - (k + 1)) (k + 1) (difference-step s row ls k x)
-  unfolding differences-from
-  first-of x h = rw (left-suc 16 k h, add-one)
-
-  pub difference-more : (ds : List ℤ) (b : Bits) (g : Signed) (p : ℕ) → k < 16 → g ≡ read-signed s b (getD ls (k / 4) 0) → p ≡ position row k
-      → differences-from s row ls (16 - k) k (record { values = ds; bits = b })
-      ≡ differences-from s row ls (16 - (k + 1)) (k + 1) (record { values = set ds p (g .value); bits = g .bits })
-  difference-more ds b g p h eg ep =
-      first-of _ h ∙ ap (λ (x : Differences). differences-from s row ls (16 - (k + 1)) (k + 1) x) (step-is ds b g p eg ep)
-
-  pub difference-end : (x : Differences) → 16 ≤ k → differences-from s row ls (16 - k) k x ≡ x
-  unfolding differences-from
-  difference-end x h = rw (left-none 16 k h)
 
 -- A flag is below 4.
 pub flag-below : (s : List ℕ) (b : Bits) (f : Four) (j : ℕ) → f ≡ four s 2 b → getD (f .values) j 0 < 4

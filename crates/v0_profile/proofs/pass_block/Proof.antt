@@ -5,8 +5,8 @@ use native.Mathlib.Omega.{arith}
 use denote.Ref.{now}
 use borrow.Author.Needs.{needs}
 use Rattle.window.specs.Window.{Standing}
-use Rattle.v0_stream.proofs.GroupLaws.{Planned, plan-made, near, end-room}
-use Rattle.v0_stream.proofs.WindowHeadLaws.{head-room}
+use Rattle.v0_windows.proofs.GroupLaws.{Planned, plan-made, near, end-room}
+use Rattle.v0_windows.proofs.WindowHeadLaws.{head-room}
 use Rattle.v0_profile.proofs.PassLaws.{passed}
 use Rattle.v0_profile.proofs.pass_block.Statement.{statement}
 use Rattle.v0_profile.proofs.pass_block.Tie as tie
@@ -100,11 +100,11 @@ state-at-requires c κs = let x = planned (c .before) in let n = near x in (omeg
 returns : tie.Need-returns
 returns c = let n = c .before .before in let a = start (standing (headed n)) .args in passed (now (a .src)) (a .state) _ _ _ _ _ _ (planned n) (c .state-at .ensures)
 
-read-by-record-requires : tie.Need-read-by-record-requires
-read-by-record-requires c κs = search needs
+read-block-requires : tie.Need-read-block-requires
+read-block-requires c κs = search needs
 
 returns-2 : tie.Need-returns-2
-returns-2 c = ap (λ x. record { up = x .up; row = x .row }) (c .before .read-by-record .ensures)
+returns-2 c = ap (λ x. record { up = x .up; row = x .row }) (c .before .read-block .ensures)
 
 pub pass-block-spec : {M : Type 1} → statement M
 pass-block-spec =
@@ -131,5 +131,5 @@ pass-block-spec =
     add-end-4
     state-at-requires
     returns
-    read-by-record-requires
+    read-block-requires
     returns-2)

@@ -3,9 +3,9 @@ use native.Mathlib.Omega.{arith}
 use denote.Ref.{now}
 use borrow.Author.Needs.{needs}
 use Rattle.window.specs.Window.{Standing}
-use Rattle.v0_stream.specs.ByWindow.{Opened}
-use Rattle.v0_stream.proofs.GroupLaws.{opened-block}
-use Rattle.v0_stream.proofs.WindowHeadLaws.{head-room}
+use Rattle.v0_windows.specs.ByWindow.{Opened}
+use Rattle.v0_windows.proofs.GroupLaws.{opened-block}
+use Rattle.v0_windows.proofs.WindowHeadLaws.{head-room}
 use Rattle.v0_direct.proofs.InnerLaws.{inner-decoded}
 use Rattle.v0_direct.proofs.row.decode_inner.Statement.{statement}
 use Rattle.v0_direct.proofs.row.decode_inner.Tie as tie

@@ -5,7 +5,7 @@ use native.Mathlib.Omega.{arith}
 use denote.Ref.{now}
 use borrow.Author.Needs.{needs}
 use Rattle.rules.specs.V0.{sample-kind, apply, order}
-use Rattle.v0_stream.proofs.GroupLaws.{Planned, plan-made, first-in, second-in, third-in, fourth-in, near, end-room, either-way, groups-made}
+use Rattle.v0_windows.proofs.GroupLaws.{Planned, plan-made, first-in, second-in, third-in, fourth-in, near, end-room, either-way, groups-made}
 use Rattle.v0_cells.specs.Inner.{inner-ops}
 use Rattle.v0_cells.proofs.InnerLaws.{inner-fits, inner-inside}
 use Rattle.v0_cells.proofs.FourLaws.{fours-put}

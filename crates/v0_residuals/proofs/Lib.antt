@@ -1,0 +1,2 @@
+pub mod ResidualLaws
+pub mod RowsLaws

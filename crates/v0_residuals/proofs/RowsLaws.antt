@@ -1,0 +1,176 @@
+-- Phase one row by row: a row that is lent as a part of the frame is stored where it lies, and what is left from here comes to the
+-- whole from the start.
+use mathlib.Core.Path.{_≡_, refl, sym, ap, _∙_}
+use mathlib.Core.Bool.{Bool, true, false, cond}
+use mathlib.Core.List.{List, [], _∷_, _++_, map, append-assoc, append-nil}
+use Prim.Native.Nat.{ℕ, suc, _+_, _-_, _*_, _≤_, _<_}
+use native.Mathlib.Omega.{arith}
+use native.Mathlib.Nat.{mul-comm, mul-le-mul-right}
+use lib.Dec.{ltb}
+use lib.ListN.{length, getD, set, take, drop, length-drop, length-append, drop-of-length-le, take-append-drop}
+use lib.Seq.{take-all, take-set-le, drop-set-add, length-take-le, take-at, drop-append-add, drop-drop}
+use borrow.Author.Tests.{le-ltb}
+use borrow.Rule.Slice.PartMut.{midOf, putMid}
+use Rattle.rules.specs.V0.{order, blocks-in, fresh-row}
+use Rattle.rules.specs.Phases.{BlockRecord, row-records, store-samples, store-blocks, phase-one, direction, directions, scratch}
+use Rattle.rules.proofs.TwoPhase.{row-directions-length}
+
+-- ── A row where it lies ──
+
+module _ (a w : ℕ) where
+  samples-before : (col : ℕ) (cs vs f : List ℕ) → take a (store-samples a w col cs vs f) ≡ take a f
+  unfolding store-samples
+  samples-before col [] vs f = refl
+  samples-before col (c ∷ cs) [] f = refl
+  samples-before col (c ∷ cs) (v ∷ vs) f = samples-before col cs vs _ ∙ go (ltb (col + c) w)
+    where
+      go : (t : Bool) → take a (cond t (set f (a + col + c) v) f) ≡ take a f
+      go true = take-set-le a f (a + col + c) v (omega arith)
+      go false = refl
+
+  samples-after : (col : ℕ) (cs vs f : List ℕ) → drop a (store-samples a w col cs vs f) ≡ store-samples 0 w col cs vs (drop a f)
+  unfolding store-samples
+  samples-after col [] vs f = refl
+  samples-after col (c ∷ cs) [] f = refl
+  samples-after col (c ∷ cs) (v ∷ vs) f = samples-after col cs vs _ ∙ ap (store-samples 0 w col cs vs) (go (ltb (col + c) w))
+    where
+      go : (t : Bool) → drop a (cond t (set f (a + col + c) v) f) ≡ cond t (set (drop a f) (0 + col + c) v) (drop a f)
+      go true =
+          let e : a + col + c ≡ a + (0 + col + c) = omega arith in
+          rw e (drop-set-add a f (0 + col + c) v)
+      go false = refl
+
+  blocks-before : (col : ℕ) (rs : List BlockRecord) (f : List ℕ) → take a (store-blocks a w col rs f) ≡ take a f
+  unfolding store-blocks
+  blocks-before col [] f = refl
+  blocks-before col (r ∷ rs) f = blocks-before (col + 16) rs _ ∙ samples-before col order (r .residuals) f
+
+  blocks-after : (col : ℕ) (rs : List BlockRecord) (f : List ℕ) → drop a (store-blocks a w col rs f) ≡ store-blocks 0 w col rs (drop a f)
+  unfolding store-blocks
+  blocks-after col [] f = refl
+  blocks-after col (r ∷ rs) f = blocks-after (col + 16) rs _ ∙ ap (store-blocks 0 w (col + 16) rs) (samples-after col order (r .residuals) f)
+
+  -- Storing a row to the part of the frame that starts at its first sample is storing it to the frame.
+  pub row-in-frame : (rs : List BlockRecord) (f : List ℕ) → take a f ++ store-blocks 0 w 0 rs (drop a f) ≡ store-blocks a w 0 rs f
+  row-in-frame rs f =
+      rw (← blocks-before 0 rs f, ← blocks-after 0 rs f) (take-append-drop a (store-blocks a w 0 rs f))
+
+-- ── Parts ──
+
+-- A part that reaches to the end is what stands from its start on, and nothing lies after it.
+pub tail-lent : (a : ℕ) (xs : List ℕ) → midOf a (length xs - a) xs ≡ drop a xs
+tail-lent a xs = take-all (length xs - a) (drop a xs) (omega (arith, length-drop a xs))
+
+pub tail-back : (a : ℕ) (xs ys : List ℕ) → putMid a (length xs - a) xs ys ≡ take a xs ++ ys
+tail-back a xs ys = rw (drop-of-length-le (drop a xs) {i = length xs - a} (omega (arith, length-drop a xs)), append-nil)
+
+-- ── Rows ──
+
+-- From row 2 on every row starts alike.
+late-records : (s : List ℕ) (w row offset : ℕ) → 2 ≤ row → row-records s w 2 offset ≡ row-records s w row offset
+unfolding row-records fresh-row
+late-records s w row offset h = rw (le-ltb row 2 h)
+
+module _ (s offsets : List ℕ) (w h : ℕ) where
+  abbrev n : ℕ
+  n = blocks-in w
+
+  pub record Rows (f₀ f ds₀ ds : List ℕ) (r : ℕ) : Type 0 where
+    pub below : r ≤ h - 2
+    pub same-samples : length f ≡ length f₀
+    pub same-dirs : length ds ≡ length ds₀
+    pub cells-are : phase-one s offsets w (h - 2 - r) (r + 2) f ≡ phase-one s offsets w (h - 2) 2 f₀
+    pub dirs-are : take (r * n) ds ++ directions s offsets w (h - 2 - r) (r + 2) ≡ directions s offsets w (h - 2) 2
+    pub rest-is : drop (n * (h - 2)) ds ≡ drop (n * (h - 2)) ds₀
+
+  pub rows-begun : (f ds : List ℕ) → Rows f f ds ds 0
+  rows-begun f ds =
+      let z : h - 2 - 0 ≡ h - 2 = omega arith in
+      let first : 0 + 2 ≡ 2 = omega arith in
+      let none : 0 * n ≡ 0 = omega arith in
+      record { below = omega arith; same-samples = refl; same-dirs = refl; cells-are = rw (z, first); dirs-are = rw (z, first, none); rest-is = refl }
+
+  module _ (f ds : List ℕ) (r : ℕ) (l : r + 2 < h) (room : r * n + n ≤ n * (h - 2)) (enough : n * (h - 2) ≤ length ds) where
+    abbrev records : List BlockRecord
+    records = row-records s w (r + 2) (getD offsets (r + 2) 0)
+
+    more : h - 2 - r ≡ suc (h - 2 - (r + 1))
+    more = omega arith
+
+    next-row : r + 1 + 2 ≡ suc (r + 2)
+    next-row = omega arith
+
+    samples-left : (ys : List ℕ) → ys ≡ store-blocks 0 w 0 (row-records s w 2 (getD offsets (r + 2) 0)) (midOf ((r + 2) * w) (length f - (r + 2) * w) f)
+        → phase-one s offsets w (h - 2 - r) (r + 2) f
+        ≡ phase-one s offsets w (h - 2 - (r + 1)) (r + 1 + 2) (putMid ((r + 2) * w) (length f - (r + 2) * w) f ys)
+    unfolding phase-one
+    samples-left ys q =
+        let late = late-records s w (r + 2) (getD offsets (r + 2) 0) (omega arith) in
+        let q′ : ys ≡ store-blocks 0 w 0 records (drop ((r + 2) * w) f) = rw (tail-lent ((r + 2) * w) f, late) at q in
+        rw (more, next-row, tail-back ((r + 2) * w) f ys, q′, row-in-frame ((r + 2) * w) w records f)
+
+    -- The scratch after a row: what stood before its directions, the directions, and what stood after them.
+    new-dirs : (zs : List ℕ)
+        → zs ≡ map direction (row-records s w 2 (getD offsets (r + 2) 0)) ++ drop n (midOf (r * n) (length ds - r * n) ds)
+        → putMid (r * n) (length ds - r * n) ds zs ≡ (take (r * n) ds ++ map direction records) ++ drop (r * n + n) ds
+    new-dirs zs q =
+        let late = late-records s w (r + 2) (getD offsets (r + 2) 0) (omega arith) in
+        let q′ : zs ≡ map direction records ++ drop n (drop (r * n) ds) = rw (tail-lent (r * n) ds, late) at q in
+        tail-back (r * n) ds zs
+        ∙ ap (λ xs. take (r * n) ds ++ xs) (q′ ∙ ap (λ xs. map direction records ++ xs) (drop-drop n (r * n) ds))
+        ∙ sym (append-assoc (take (r * n) ds) (map direction records) (drop (r * n + n) ds))
+
+    abbrev front : List ℕ
+    front = take (r * n) ds ++ map direction records
+
+    front-length : length front ≡ r * n + n
+    front-length =
+        rw (length-append, length-take-le (r * n) ds (omega arith), row-directions-length s w (r + 2) (getD offsets (r + 2) 0))
+
+    front-left : take (r * n) ds ++ directions s offsets w (h - 2 - r) (r + 2) ≡ front ++ directions s offsets w (h - 2 - (r + 1)) (r + 1 + 2)
+    unfolding directions
+    front-left = rw (more, next-row, append-assoc)
+
+    rest-kept : drop (n * (h - 2)) (front ++ drop (r * n + n) ds) ≡ drop (n * (h - 2)) ds
+    rest-kept =
+        let e : n * (h - 2) ≡ length front + (n * (h - 2) - (r * n + n)) = omega (arith, front-length) in
+        let e′ : r * n + n + (n * (h - 2) - (r * n + n)) ≡ n * (h - 2) = omega arith in
+        ap (λ k. drop k (front ++ drop (r * n + n) ds)) e
+        ∙ drop-append-add front (drop (r * n + n) ds) (n * (h - 2) - (r * n + n))
+        ∙ drop-drop (n * (h - 2) - (r * n + n)) (r * n + n) ds
+        ∙ ap (λ k. drop k ds) e′
+
+    pub rows-on : (f₀ ds₀ ys zs : List ℕ)
+        → length (putMid ((r + 2) * w) (length f - (r + 2) * w) f ys) ≡ length f
+        → length (putMid (r * n) (length ds - r * n) ds zs) ≡ length ds
+        → ys ≡ store-blocks 0 w 0 (row-records s w 2 (getD offsets (r + 2) 0)) (midOf ((r + 2) * w) (length f - (r + 2) * w) f)
+        → zs ≡ map direction (row-records s w 2 (getD offsets (r + 2) 0)) ++ drop n (midOf (r * n) (length ds - r * n) ds)
+        → Rows f₀ f ds₀ ds r
+        → Rows f₀ (putMid ((r + 2) * w) (length f - (r + 2) * w) f ys) ds₀ (putMid (r * n) (length ds - r * n) ds zs) (r + 1)
+    rows-on f₀ ds₀ ys zs sf sd qy qz p =
+        let new = new-dirs zs qz in
+        let start : (r + 1) * n ≡ r * n + n = omega arith in
+        record {
+          below = omega arith;
+          same-samples = sf ∙ p .same-samples;
+          same-dirs = sd ∙ p .same-dirs;
+          cells-are = sym (samples-left ys qy) ∙ p .cells-are;
+          dirs-are =
+              ap (λ xs. xs ++ directions s offsets w (h - 2 - (r + 1)) (r + 1 + 2))
+              (ap (λ k. take k (putMid (r * n) (length ds - r * n) ds zs)) start
+              ∙ ap (take (r * n + n)) new ∙ take-at front (drop (r * n + n) ds) (r * n + n) front-length)
+              ∙ sym front-left ∙ p .dirs-are;
+          rest-is = ap (drop (n * (h - 2))) new ∙ rest-kept ∙ p .rest-is;
+        }
+
+  pub rows-done : (f₀ f ds₀ ds : List ℕ) (r : ℕ) → h ≤ r + 2 → n * (h - 2) ≤ length ds → Rows f₀ f ds₀ ds r
+      → (f ≡ phase-one s offsets w (h - 2) 2 f₀) × (ds ≡ directions s offsets w (h - 2) 2 ++ drop (n * (h - 2)) ds₀)
+  unfolding phase-one directions
+  rows-done f₀ f ds₀ ds r l enough p =
+      let none : h - 2 - r ≡ 0 = omega arith in
+      let all : r * n ≡ n * (h - 2) = let e : r ≡ h - 2 = omega (arith, p .below) in rw e (mul-comm (h - 2) n) in
+      let d : take (n * (h - 2)) ds ≡ directions s offsets w (h - 2) 2 = rw (none, append-nil, all) at (p .dirs-are) in (
+        rw none at (p .cells-are),
+        sym (take-append-drop (n * (h - 2)) ds) ∙ ap (λ xs. xs ++ drop (n * (h - 2)) ds) d
+            ∙ ap (λ xs. directions s offsets w (h - 2) 2 ++ xs) (p .rest-is),
+      )

@@ -1,0 +1,275 @@
+-- Residuals by position are those that the record reads: first the sign, then four of one length out of windows, then the block.
+use mathlib.Core.Logic.{_⊎_, ⊎-elim}
+use mathlib.Core.Path.{_≡_, refl, sym, ap, subst, _∙_}
+use mathlib.Core.Bool.{Bool, true, false}
+use mathlib.Core.List.{List, [], _∷_}
+use Prim.Native.Nat.{ℕ, zero, suc, _+_, _*_, _-_, _/_, _%_, _^_, _≤_, _<_}
+use native.Mathlib.Nat.{mod-lt, mod-eq-of-lt, mod-add-mod, mul-add-mod-self-right}
+use native.Mathlib.Omega.{arith}
+use native.Mathlib.Numerals.{add-one}
+use lib.Dec.{ltb, leb}
+use lib.IntN.{ℤ, pos}
+use lib.ListN.{length, getD, set, replicate}
+use lib.Signed.{mag}
+use lib.Pow.{pow-pos, pow-mono, pow-add, mod-mod-pow}
+use mir.Syntax.{w32}
+use mir.Val.{toZ, ofZ}
+use mir.ValLaws.{toZ-ofZ}
+use borrow.Author.Tests.{ltb-true, ltb-false, leb-true, leb-false}
+use Rattle.rules.specs.Reader.{word-at, four}
+use Rattle.rules.specs.V0.{length-bits, head}
+use Rattle.rules.specs.declared.reader.Bits.{Bits}
+use Rattle.rules.specs.declared.v0.V0Row.{V0Row}
+use Rattle.rules.specs.declared.v0.V0Head.{V0Head}
+use Rattle.rules.proofs.ReaderLaws.{four-fields, sign-low, sign-high, residual-is}
+use Rattle.window.specs.Window.{bits-from, state-at, values-at, span, none, also, Window}
+use Rattle.window.proofs.WindowLaws.{fields-at, fields-end, pair-top, three-at}
+use Rattle.v0_stream.specs.Block.{with-residuals, whole-block}
+use Rattle.v0_windows.specs.ByWindow.{residual, Opened, Group, joined}
+use Rattle.v0_windows.specs.declared.WindowHead.{WindowHead}
+use Rattle.v0_stream.proofs.BlockLaws.{bits-few-enough, Reading, reading-begun, reading-four, read-all, whole-read}
+
+-- ── The sign ──
+
+-- Adding half a turn and taking it off again, in a turn of 2^n.
+turned : (n v h : ℕ) → h ≡ 2 ^ n / 2 → n ≤ 32 → v < 2 ^ n → ((v + h) % 2 ^ n + 4_294_967_296 - h) % 65_536 ≡ residual n v
+turned zero v h eh few l =
+    let z : v ≡ 0 = omega arith in
+    let y : h ≡ 0 = eh in
+    rw (z, y, ← residual-is 0 0 (omega arith) (omega arith))
+turned (suc m) v h eh few l = go (ltb (v * 2) (2 ^ suc m)) refl
+  where
+    double : 2 ^ suc m ≡ 2 ^ m * 2
+    double = ap (λ (x : ℕ). 2 ^ x) (sym (add-one m)) ∙ pow-add 2 m 1
+
+    half : h * 2 ≡ 2 ^ suc m
+    half = omega (arith, double, eh)
+
+    most : 2 ^ suc m ≤ 4_294_967_296
+    most = pow-mono few
+
+    go : (t : Bool) → ltb (v * 2) (2 ^ suc m) ≡ t → ((v + h) % 2 ^ suc m + 4_294_967_296 - h) % 65_536 ≡ residual (suc m) v
+    go true e =
+        let q : v * 2 < 2 ^ suc m = ltb-true (v * 2) (2 ^ suc m) e in
+        let u : v + h < 2 ^ suc m = omega (arith, half) in
+        rw (mod-eq-of-lt u, ← residual-is (suc m) v l few, sign-low (suc m) v l q) (omega (arith, half, most))
+    go false e =
+        let q : 2 ^ suc m ≤ v * 2 = ltb-false (v * 2) (2 ^ suc m) e in
+        let s : v + h ≡ 1 * 2 ^ suc m + (v + h - 2 ^ suc m) = omega (arith, half) in
+        let u : v + h - 2 ^ suc m < 2 ^ suc m = omega (arith, half) in
+        let w : (v + h) % 2 ^ suc m ≡ v + h - 2 ^ suc m
+        = ap (λ (x : ℕ). x % 2 ^ suc m) s ∙ mul-add-mod-self-right 1 (2 ^ suc m) (v + h - 2 ^ suc m) ∙ mod-eq-of-lt u in
+        rw (w, ← residual-is (suc m) v l few, sign-high (suc m) v l q) (omega (arith, half, most))
+
+low-is : (x n h : ℕ) → n ≤ 32 → h ≡ 2 ^ n / 2 → ((x + h) % 2 ^ 64 % 2 ^ n + 4_294_967_296 - h) % 65_536 ≡ residual n (x % 2 ^ n)
+low-is x n h few eh =
+    let m : 64 ≡ 64 - n + n = omega arith in
+    let a : (x + h) % 2 ^ 64 % 2 ^ n ≡ (x + h) % 2 ^ n = ap (λ (y : ℕ). (x + h) % 2 ^ y % 2 ^ n) m ∙ mod-mod-pow (x + h) (64 - n) n in
+    let b : (x + h) % 2 ^ n ≡ (x % 2 ^ n + h) % 2 ^ n = sym (mod-add-mod x (2 ^ n) h) in
+    rw (a, b) (turned n (x % 2 ^ n) h eh few (mod-lt x (pow-pos n)))
+
+-- What `low` makes of p = 2^n and the sum w: it stays within 64 bits, and is the residual.
+pub record Low (x n p w : ℕ) : Type 0 where
+  pub some : 0 < p
+  pub fits : w % p + 4_294_967_296 < 2 ^ 64
+  pub enough : p / 2 ≤ w % p + 4_294_967_296
+  pub is : (w % p + 4_294_967_296 - p / 2) % 65_536 ≡ residual n (x % 2 ^ n)
+
+pub low-made : (x n p w : ℕ) → n ≤ 32 → p ≡ 2 ^ n → w ≡ (x + p / 2) % 2 ^ 64 → Low x n p w
+low-made x n p w few ep ew =
+    let some : 0 < 2 ^ n = pow-pos n in
+    let most : 2 ^ n ≤ 4_294_967_296 = pow-mono few in
+    let below : (x + 2 ^ n / 2) % 2 ^ 64 % 2 ^ n < 2 ^ n = mod-lt ((x + 2 ^ n / 2) % 2 ^ 64) some in
+    rw (ew, ep) (record { some = some; fits = omega arith; enough = omega arith; is = low-is x n (2 ^ n / 2) few refl })
+
+-- ── Four of one length ──
+
+-- The words that at most 64 bits of a window lie in.
+pub window-words : (s : List ℕ) (base q v : ℕ) → Window s base q v → (m : ℕ) → m ≤ 64 → (j : ℕ) → q ≤ j * 32 → j * 32 < q + m → word-at s (base + j * 4) < 2 ^ 32
+window-words s base q v w m few j l h = three-at s base (q / 32) j (w .words) (omega arith) (omega arith)
+
+-- What `four_at` makes of the window that ends with them.
+pub four-made : (s : List ℕ) (base q n v p₁ p₂ p₃ r₀ r₁ r₂ r₃ : ℕ) → n ≤ 16 → 64 ≤ q → Window s base (q + 4 * n - 64) v → p₁ ≡ 2 ^ n → p₂ ≡ 2 ^ n → p₃ ≡ 2 ^ n
+    → r₀ ≡ residual n (v / p₁ / p₂ / p₃ % 2 ^ n) → r₁ ≡ residual n (v / p₁ / p₂ % 2 ^ n)
+    → r₂ ≡ residual n (v / p₁ % 2 ^ n) → r₃ ≡ residual n (v % 2 ^ n) → Group s base q n (r₀ ∷ r₁ ∷ r₂ ∷ r₃ ∷ [])
+four-made s base q n v p₁ p₂ p₃ r₀ r₁ r₂ r₃ few late w e₁ e₂ e₃ f₀ f₁ f₂ f₃ =
+    let start : q + 4 * n - 64 + (64 - 4 * n) ≡ q = omega arith in
+    let t = rw start at (fields-end s base (q + 4 * n - 64) v w n (64 - 4 * n) (omega arith)) in
+    record {
+      whole = λ j l h. window-words s base (q + 4 * n - 64) v w 64 (omega arith) j (omega arith) (omega arith);
+      are = rw (f₀, f₁, f₂, f₃, e₁, e₂, e₃, t .0, t .1 .0, t .1 .1 .0, t .1 .1 .1);
+    }
+
+-- What `four_long_at` makes of two.
+pub long-made : (s : List ℕ) (base q n v u p₀ p₁ p₂ p₃ r₀ r₁ r₂ r₃ : ℕ) → 16 < n → n ≤ 32 → Window s base q v → Window s base (q + 2 * n) u
+    → p₀ ≡ 2 ^ (64 - 2 * n) → p₁ ≡ 2 ^ (64 - 2 * n) → p₂ ≡ 2 ^ n → p₃ ≡ 2 ^ n
+    → r₀ ≡ residual n (v / p₀ / p₂ % 2 ^ n) → r₁ ≡ residual n (v / p₀ % 2 ^ n)
+    → r₂ ≡ residual n (u / p₁ / p₃ % 2 ^ n) → r₃ ≡ residual n (u / p₁ % 2 ^ n) → Group s base q n (r₀ ∷ r₁ ∷ r₂ ∷ r₃ ∷ [])
+long-made s base q n v u p₀ p₁ p₂ p₃ r₀ r₁ r₂ r₃ long few w x e₀ e₁ e₂ e₃ f₀ f₁ f₂ f₃ =
+    let t = pair-top s base q v w n (64 - 2 * n) (omega arith) in
+    let y = pair-top s base (q + 2 * n) u x n (64 - 2 * n) (omega arith) in
+    let three : q + 2 * n + n ≡ q + 3 * n = omega arith in
+    record { whole = both; are = rw (f₀, f₁, f₂, f₃, e₀, e₁, e₂, e₃, t .0, t .1, y .0, y .1, three) }
+  where
+    both : (j : ℕ) → q ≤ j * 32 → j * 32 < q + 4 * n → word-at s (base + j * 4) < 2 ^ 32
+    both j l h = go (leb (q + 2 * n) (j * 32)) refl
+      where
+        go : (t : Bool) → leb (q + 2 * n) (j * 32) ≡ t → word-at s (base + j * 4) < 2 ^ 32
+        go true t =
+            let k : q + 2 * n ≤ j * 32 = leb-true (q + 2 * n) (j * 32) t in
+            window-words s base (q + 2 * n) u x (2 * n) (omega arith) j k (omega arith)
+        go false t =
+            let k : j * 32 < q + 2 * n = leb-false (q + 2 * n) (j * 32) t in
+            window-words s base q v w (2 * n) (omega arith) j l k
+
+-- ── As the record reads them ──
+
+-- Four fields of n bits, their words being there and of 32 bits each.
+pub four-is : (s : List ℕ) (base q n f : ℕ) → n ≤ 32 → 0 < q → base + (q + 4 * n + 31) / 32 * 4 ≤ length s → base + (q + 4 * n + 31) / 32 * 4 + 4 < 2 ^ 64
+    → ((j : ℕ) → q ≤ j * 32 → j * 32 < q + 4 * n → word-at s (base + j * 4) < 2 ^ 32)
+    → four s n (state-at s base q f)
+    ≡ record { values = bits-from s base q n ∷ bits-from s base (q + n) n ∷ bits-from s base (q + 2 * n) n ∷ bits-from s base (q + 3 * n) n ∷ []; bits = state-at s base (q + 4 * n) f }
+unfolding values-at span
+four-is s base q n f few some there far whole =
+    let ns : List ℕ = n ∷ n ∷ n ∷ n ∷ [] in
+    let e : n + (n + (n + (n + 0))) ≡ 4 * n = omega arith in
+    let two : q + n + n ≡ q + 2 * n = omega arith in
+    let three : q + 2 * n + n ≡ q + 3 * n = omega arith in
+    let x = fields-at s base q f ns some (also few (also few (also few (also few none)))) (rw e there) (rw e far) (λ j l m. whole j l (rw e at m)) in
+    rw (four-fields s n (state-at s base q f), x, e, two, three)
+
+-- The four residuals of length number j complete what was read before to the whole.
+group-at : (s : List ℕ) (ls : List ℤ) (b₀ : Bits) (base q f : ℕ) (vs : List ℕ) (j n : ℕ) (a : List ℕ) → j < 4 → n ≡ length-bits (getD ls j (pos 0)) → 0 < q
+    → base + (q + 4 * n + 31) / 32 * 4 ≤ length s → base + (q + 4 * n + 31) / 32 * 4 + 4 < 2 ^ 64 → Group s base q n a → Reading s ls b₀ (state-at s base q f) vs (4 * j)
+    → Reading s ls b₀ (state-at s base (q + 4 * n) f)
+    (set (set (set (set vs (4 * j) (getD a 0 0)) (4 * j + 1) (getD a 1 0)) (4 * j + 2) (getD a 2 0)) (4 * j + 3) (getD a 3 0)) (4 * (j + 1))
+group-at s ls b₀ base q f vs j n a h en some there far x r =
+    let few : n ≤ 32 = rw en (bits-few-enough (getD ls j (pos 0))) in
+    reading-four s ls b₀ (state-at s base q f) vs j n
+    (record { values = bits-from s base q n ∷ bits-from s base (q + n) n ∷ bits-from s base (q + 2 * n) n ∷ bits-from s base (q + 3 * n) n ∷ []; bits = state-at s base (q + 4 * n) f })
+    (getD a 0 0) (getD a 1 0) (getD a 2 0) (getD a 3 0) h en (sym (four-is s base q n f few some there far (x .whole)))
+    (ap (λ (l : List ℕ). getD l 0 0) (x .are)) (ap (λ (l : List ℕ). getD l 1 0) (x .are)) (ap (λ (l : List ℕ). getD l 2 0) (x .are)) (ap (λ (l : List ℕ). getD l 3 0) (x .are)) r
+
+-- ── The block ──
+
+-- A state that stands in the stream, the head there, and the bits of each residual.
+pub record Planned (s : List ℕ) (st : V0Row) (h : WindowHead) (n₀ n₁ n₂ n₃ : ℕ) : Type 0 where
+  pub opened : Opened s st h
+  pub is₀ : n₀ ≡ length-bits (getD (h .lengths) 0 (pos 0))
+  pub is₁ : n₁ ≡ length-bits (getD (h .lengths) 1 (pos 0))
+  pub is₂ : n₂ ≡ length-bits (getD (h .lengths) 2 (pos 0))
+  pub is₃ : n₃ ≡ length-bits (getD (h .lengths) 3 (pos 0))
+
+-- Each length is counted as a machine's number.
+pub plan-made : {s : List ℕ} {st : V0Row} {h : WindowHead} {n₀ n₁ n₂ n₃ : ℕ} → Opened s st h
+    → mag (getD (h .lengths) 0 (pos 0)) < 2 ^ 31 → n₀ ≡ length-bits (toZ w32 (ofZ w32 (getD (h .lengths) 0 (pos 0))))
+    → mag (getD (h .lengths) 1 (pos 0)) < 2 ^ 31 → n₁ ≡ length-bits (toZ w32 (ofZ w32 (getD (h .lengths) 1 (pos 0))))
+    → mag (getD (h .lengths) 2 (pos 0)) < 2 ^ 31 → n₂ ≡ length-bits (toZ w32 (ofZ w32 (getD (h .lengths) 2 (pos 0))))
+    → mag (getD (h .lengths) 3 (pos 0)) < 2 ^ 31 → n₃ ≡ length-bits (toZ w32 (ofZ w32 (getD (h .lengths) 3 (pos 0))))
+    → Planned s st h n₀ n₁ n₂ n₃
+plan-made o f₀ e₀ f₁ e₁ f₂ e₂ f₃ e₃ = record { opened = o; is₀ = counted _ _ f₀ e₀; is₁ = counted _ _ f₁ e₁; is₂ = counted _ _ f₂ e₂; is₃ = counted _ _ f₃ e₃ }
+  where
+    counted : (l : ℤ) (n : ℕ) → mag l < 2 ^ 31 → n ≡ length-bits (toZ w32 (ofZ w32 l)) → n ≡ length-bits l
+    counted l n fits e = rw (toZ-ofZ w32 l (record { sfits = fits })) at e
+
+-- What the readers of four ask, of n bits from bit q on: of short ones, and of long ones.
+pub record FourIn (s : List ℕ) (base q n : ℕ) : Type 0 where
+  pub short : n ≤ 16 → (n ≤ 16) × ((64 ≤ q) × ((q < 2 ^ 32) × (base + (q + 4 * n - 64) / 32 * 4 + 12 ≤ length s)))
+  pub long : 16 < n → (16 < n) × ((n ≤ 32) × ((q < 2 ^ 32) × (base + (q + 2 * n) / 32 * 4 + 12 ≤ length s)))
+
+module _ {s : List ℕ} {st : V0Row} {h : WindowHead} {n₀ n₁ n₂ n₃ : ℕ} (x : Planned s st h n₀ n₁ n₂ n₃) where
+  few₀ : n₀ ≤ 32
+  few₀ = omega (arith, x .is₀, bits-few-enough (getD (h .lengths) 0 (pos 0)))
+
+  few₁ : n₁ ≤ 32
+  few₁ = omega (arith, x .is₁, bits-few-enough (getD (h .lengths) 1 (pos 0)))
+
+  few₂ : n₂ ≤ 32
+  few₂ = omega (arith, x .is₂, bits-few-enough (getD (h .lengths) 2 (pos 0)))
+
+  few₃ : n₃ ≤ 32
+  few₃ = omega (arith, x .is₃, bits-few-enough (getD (h .lengths) 3 (pos 0)))
+
+  -- The head's end, and the bits of each residual.
+  pub near : (64 < h .q) × ((h .q ≤ 121) × ((n₀ ≤ 32) × ((n₁ ≤ 32) × ((n₂ ≤ 32) × (n₃ ≤ 32)))))
+  near = (omega arith, (omega arith, (few₀, (few₁, (few₂, few₃)))))
+
+  -- A group that begins no later than the fourth may.
+  in-room : (q n : ℕ) → 64 < q → q ≤ 505 → n ≤ 32 → FourIn s (st .bits .pos - 12) q n
+  in-room q n late soon few =
+      record { short = λ l. (l, (omega arith, (omega arith, omega arith))); long = λ l. (l, (few, (omega arith, omega arith))) }
+
+  -- Each of the four.
+  pub first-in : FourIn s (st .bits .pos - 12) (h .q) n₀
+  first-in = in-room _ _ (omega (arith, near)) (omega (arith, near)) few₀
+
+  pub second-in : FourIn s (st .bits .pos - 12) (h .q + 4 * n₀) n₁
+  second-in = in-room _ _ (omega (arith, near)) (omega (arith, near)) few₁
+
+  pub third-in : FourIn s (st .bits .pos - 12) (h .q + 4 * n₀ + 4 * n₁) n₂
+  third-in = in-room _ _ (omega (arith, near)) (omega (arith, near)) few₂
+
+  pub fourth-in : FourIn s (st .bits .pos - 12) (h .q + 4 * n₀ + 4 * n₁ + 4 * n₂) n₃
+  fourth-in = in-room _ _ (omega (arith, near)) (omega (arith, near)) few₃
+
+  -- The state after the block.
+  pub end-room : (p : ℕ) → p ≤ 633 → st .bits .pos - 12 + (p + 31) / 32 * 4 ≤ length s
+  end-room p l = omega arith
+
+-- A block read by position: its four groups too.
+pub record ByPosition (s : List ℕ) (st : V0Row) (h : WindowHead) (n₀ n₁ n₂ n₃ : ℕ) (a b c d : List ℕ) : Type 0 where
+  pub plan : Planned s st h n₀ n₁ n₂ n₃
+  pub first : Group s (st .bits .pos - 12) (h .q) n₀ a
+  pub second : Group s (st .bits .pos - 12) (h .q + 4 * n₀) n₁ b
+  pub third : Group s (st .bits .pos - 12) (h .q + 4 * n₀ + 4 * n₁) n₂ c
+  pub fourth : Group s (st .bits .pos - 12) (h .q + 4 * n₀ + 4 * n₁ + 4 * n₂) n₃ d
+
+-- A group is one, whichever of the two readers of four made it.
+pub either-way : {s : List ℕ} {base q n : ℕ} {a : List ℕ} {A B : Type 0} {C : A → Type 0} {D : B → Type 0} {u : (x : A) → C x → List ℕ} {v : (x : B) → D x → List ℕ}
+    → ((x : A) × (y : C x) × (a ≡ u x y)) ⊎ ((x : B) × (y : D x) × (a ≡ v x y))
+    → ((x : A) (y : C x) → Group s base q n (u x y)) → ((x : B) (y : D x) → Group s base q n (v x y)) → Group s base q n a
+either-way w f g = ⊎-elim (λ x. subst (Group _ _ _ _) (sym (x .2)) (f (x .0) (x .1))) (λ x. subst (Group _ _ _ _) (sym (x .2)) (g (x .0) (x .1))) w
+
+-- So it is the block that the record reads whole.
+block-made : (s : List ℕ) (st : V0Row) (h : WindowHead) (n₀ n₁ n₂ n₃ : ℕ) (a b c d : List ℕ) (after : Bits) (r : List ℕ) → ByPosition s st h n₀ n₁ n₂ n₃ a b c d
+    → after ≡ state-at s (st .bits .pos - 12) (h .q + 4 * n₀ + 4 * n₁ + 4 * n₂ + 4 * n₃) (st .bits .filler) → r ≡ joined a b c d
+    → record { up = h .up; row = record { lengths = h .lengths; bits = after }; residuals = r } ≡ whole-block s st
+block-made s st h n₀ n₁ n₂ n₃ a b c d after r x ea er =
+    let base : ℕ = st .bits .pos - 12 in
+    let f : ℕ = st .bits .filler in
+    let ls = h .lengths in
+    let q : ℕ = h .q in
+    let p = x .plan in
+    let n = near p in
+    let there : base + 84 ≤ length s = p .opened .stands .there in
+    let far : base + 84 < 2 ^ 64 = p .opened .stands .far in
+    let y : V0Head = record { up = h .up; row = record { lengths = ls; bits = state-at s base q f } } in
+    let r₀ = reading-begun s ls (state-at s base q f) (replicate 16 0) refl in
+    let r₁ = group-at s ls (state-at s base q f) base q f _ 0 n₀ a (omega arith) (p .is₀) (omega arith) (omega arith) (omega arith) (x .first) r₀ in
+    let r₂ = group-at s ls (state-at s base q f) base (q + 4 * n₀) f _ 1 n₁ b (omega arith) (p .is₁) (omega arith) (omega arith) (omega arith) (x .second) r₁ in
+    let r₃ = group-at s ls (state-at s base q f) base (q + 4 * n₀ + 4 * n₁) f _ 2 n₂ c (omega arith) (p .is₂) (omega arith) (omega arith) (omega arith) (x .third) r₂ in
+    let r₄ = group-at s ls (state-at s base q f) base (q + 4 * n₀ + 4 * n₁ + 4 * n₂) f _ 3 n₃ d (omega arith) (p .is₃) (omega arith) (omega arith) (omega arith) (x .fourth) r₃ in
+    let stood : record { lengths = st .lengths; bits = state-at s base (96 - st .bits .count) f } ≡ st
+    = ap (λ (z : Bits). record { lengths = st .lengths; bits = z }) (sym (p .opened .stands .is)) in
+    let read : y ≡ head s st = sym (p .opened .head-at .reads f) ∙ ap (head s) stood in
+    whole-read s st y _ read (rw (ea, er) (read-all s ls (state-at s base q f) _ _ 16 y (omega arith) refl refl r₄))
+
+-- Its state after the block, and its residuals.
+pub groups-made : (s : List ℕ) (st : V0Row) (h : WindowHead) (n₀ n₁ n₂ n₃ : ℕ) (a b c d : List ℕ) (after : Bits) → ByPosition s st h n₀ n₁ n₂ n₃ a b c d
+    → after ≡ state-at s (st .bits .pos - 12) (h .q + 4 * n₀ + 4 * n₁ + 4 * n₂ + 4 * n₃) (st .bits .filler)
+    → (after ≡ whole-block s st .row .bits) × (joined a b c d ≡ whole-block s st .residuals)
+groups-made s st h n₀ n₁ n₂ n₃ a b c d after x ea =
+    let made = block-made s st h n₀ n₁ n₂ n₃ a b c d after (joined a b c d) x ea refl in
+    (ap (λ r. r .row .bits) made, ap (λ r. r .residuals) made)
+
+-- A head that stands in the stream is the block's own.
+pub opened-block : (s : List ℕ) (st : V0Row) (h : WindowHead) (b : Bits) → Opened s st h → b ≡ whole-block s st .row .bits
+    → record { up = h .up; row = record { lengths = h .lengths; bits = b }; residuals = whole-block s st .residuals } ≡ whole-block s st
+unfolding whole-block with-residuals
+opened-block s st h b x e =
+    let f : ℕ = st .bits .filler in
+    let stood : st ≡ record { lengths = st .lengths; bits = state-at s (st .bits .pos - 12) (96 - st .bits .count) f }
+    = ap (λ (z : Bits). record { lengths = st .lengths; bits = z }) (x .stands .is) in
+    let read : head s st ≡ record { up = h .up; row = record { lengths = h .lengths; bits = state-at s (st .bits .pos - 12) (h .q) f } }
+    = ap (head s) stood ∙ x .head-at .reads f in
+    rw (e, read)

@@ -1,0 +1,3 @@
+pub mod ChosenLaws
+pub mod GroupLaws
+pub mod WindowHeadLaws

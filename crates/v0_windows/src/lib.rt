@@ -1,0 +1,163 @@
+// A block by position, where the reader's record stands in the stream: its head out of one window, and four residuals of one length
+// out of one or two. Nothing here is read twice, and no branch asks whether a word is to be fetched.
+ghost use mathlib.Core.Bool.{true, false, cond, _&&_};
+ghost use mathlib.Core.List.{_++_};
+ghost use mathlib.Core.Path.{_≡_};
+ghost use Prim.Native.Nat.{_+_, _-_, _*_, _/_, _%_, _^_, _≤_, _<_};
+ghost use lib.Dec.{eqb};
+ghost use lib.ListN.{length};
+ghost use lib.IntN.{pos};
+ghost use lib.Signed.{mag, leZ};
+ghost use Rattle.v0_windows.specs.ByWindow.{residual, Room, length-in, HeadAt, Group};
+ghost use Rattle.v0_stream.specs.Lengths.{Within, furthest};
+use fields::field;
+use fields::power;
+use v0_stream::head::step;
+use window::window;
+
+// The bytes that have to be there from the word fetched last on: a block ends at most 569 bits after that word's start.
+pub const BLOCK_BYTES: usize = 76;
+
+// A length after its operation, and how many bits of a window are left after what the operation read.
+struct WindowLength {
+    length: i32,
+    left: u32,
+}
+
+// A block's head, and the bit after it, where its residuals begin.
+pub struct WindowHead {
+    pub up: bool,
+    pub lengths: [i32; 4],
+    pub q: usize,
+}
+
+// b if t is 1, a if it is 0: a product, since a test would often be guessed wrong.
+fn chosen(t: u32, a: i32, b: i32) -> i32
+    requires { ⌜ (t < 2) × ((mag a ≤ 1_100) × (mag b ≤ 1_100)) ⌝ }
+    ensures { λ r. ⌜ r ≡ cond (eqb t 1) b a ⌝ }
+{
+    a + t as i32 * (b - a)
+}
+
+// A length after the operation that stands above `at` bits of a window v, where `left` bits of it are left: operation 3 takes the
+// length from the first four of these.
+fn window_length(v: u64, at: u32, left: u32, length: i32) -> WindowLength
+    requires { ⌜ (at < 64) × ((4 ≤ left) × ((left < 64) × (mag length ≤ furthest))) ⌝ }
+    ensures { λ r. ⌜ r ≡ length-in v at left length ⌝ }
+{
+    let op = field(v, at, 2);
+    let reads = (op + 1) / 4;
+    WindowLength {
+        length: chosen(reads, step(op, length), field(v, left - 4, 4) as i32),
+        left: left - 4 * reads,
+    }
+}
+
+// A block's head from bit q on.
+pub fn window_head(src: &[u8], base: usize, q: usize, lengths: [i32; 4]) -> WindowHead
+    requires { ⌜ Room (now src) base q × Within furthest lengths ⌝ }
+    ensures { λ r. ⌜ HeadAt (now (src .entry)) base q lengths r ⌝ }
+{
+    let v = window(src, base, q);
+    let a = window_length(v, 61, 55, lengths[0]);
+    let b = window_length(v, 59, a.left, lengths[1]);
+    let c = window_length(v, 57, b.left, lengths[2]);
+    let d = window_length(v, 55, c.left, lengths[3]);
+    WindowHead {
+        up: field(v, 63, 1) == 1,
+        lengths: [a.length, b.length, c.length, d.length],
+        q: q + (64 - d.left) as usize,
+    }
+}
+
+// Whether a length is the number of its residuals' bits.
+fn is_plain(length: i32) -> bool
+    ensures { λ r. ⌜ r ≡ leZ (pos 0) length && leZ length (pos 32) ⌝ }
+{
+    0 <= length && length <= 32
+}
+
+// A head of plain lengths, or none.
+pub struct PlainHead {
+    pub plain: bool,
+    pub head: WindowHead,
+}
+
+fn no_head() -> PlainHead
+    ensures { λ r. ⌜ r .plain ≡ false ⌝ }
+{
+    let head = WindowHead {
+        up: false,
+        lengths: [0; 4],
+        q: 0,
+    };
+    PlainHead { plain: false, head }
+}
+
+// The same head, where its lengths are plain. The tests between them keep the compiler from making all four in one vector: that takes
+// it longer, and each block waits for the lengths of the one before. Where it gives none, the record reads the block.
+pub fn plain_head(src: &[u8], base: usize, q: usize, lengths: [i32; 4]) -> PlainHead
+    requires { ⌜ Room (now src) base q × Within furthest lengths ⌝ }
+    ensures { λ r. ⌜ (r .plain ≡ true → HeadAt (now (src .entry)) base q lengths (r .head)) ⌝ }
+{
+    let v = window(src, base, q);
+    let a = window_length(v, 61, 55, lengths[0]);
+    if !is_plain(a.length) {
+        return no_head();
+    }
+    let b = window_length(v, 59, a.left, lengths[1]);
+    if !is_plain(b.length) {
+        return no_head();
+    }
+    let c = window_length(v, 57, b.left, lengths[2]);
+    if !is_plain(c.length) {
+        return no_head();
+    }
+    let d = window_length(v, 55, c.left, lengths[3]);
+    if !is_plain(d.length) {
+        return no_head();
+    }
+    let head = WindowHead {
+        up: field(v, 63, 1) == 1,
+        lengths: [a.length, b.length, c.length, d.length],
+        q: q + (64 - d.left) as usize,
+    };
+    PlainHead { plain: true, head }
+}
+
+// The residual that the low n bits of x are. A sum, a remainder and a difference, with no test of the sign.
+fn low(x: u64, n: u32) -> u16
+    requires { ⌜ n ≤ 32 ⌝ }
+    ensures { λ r. ⌜ r ≡ residual n (x % 2 ^ n) ⌝ }
+{
+    let top = power(n);
+    let half = top / 2;
+    ((std::num::wrapping_add_u64(x, half) % top + 4_294_967_296 - half) % 65_536) as u16
+}
+
+// Four residuals of n bits from bit q on, out of the window that ends with them: the last is its lowest n bits.
+pub fn four_at(src: &[u8], base: usize, q: usize, n: u32) -> [u16; 4]
+    requires { ⌜ (n ≤ 16) × ((64 ≤ q) × ((q < 2 ^ 32) × (base + (q + 4 * n - 64) / 32 * 4 + 12 ≤ length (now src)))) ⌝ }
+    ensures { λ r. ⌜ Group (now (src .entry)) base q n r ⌝ }
+{
+    let d = window(src, base, q + 4 * n as usize - 64);
+    let c = d / power(n);
+    let b = c / power(n);
+    let a = b / power(n);
+    [low(a, n), low(b, n), low(c, n), low(d, n)]
+}
+
+// Four longer ones, two out of each of two windows.
+pub fn four_long_at(src: &[u8], base: usize, q: usize, n: u32) -> [u16; 4]
+    requires { ⌜ (16 < n) × ((n ≤ 32) × ((q < 2 ^ 32) × (base + (q + 2 * n) / 32 * 4 + 12 ≤ length (now src)))) ⌝ }
+    ensures { λ r. ⌜ Group (now (src .entry)) base q n r ⌝ }
+{
+    let b = window(src, base, q) / power(64 - 2 * n);
+    let d = window(src, base, q + 2 * n as usize) / power(64 - 2 * n);
+    [
+        low(b / power(n), n),
+        low(b, n),
+        low(d / power(n), n),
+        low(d, n),
+    ]
+}

@@ -1,0 +1,215 @@
+-- Differences by position are those that the reader's state reads: first the sign, then four out of a window, then the sixteen of a
+-- block out of four.
+use mathlib.Core.Path.{_≡_, refl, sym, ap, _∙_}
+use mathlib.Core.Bool.{Bool, true, false, cond, _&&_}
+use mathlib.Core.List.{List, [], _∷_}
+use Prim.Native.Nat.{ℕ, zero, suc, _+_, _*_, _-_, _/_, _%_, _^_, _≤_, _<_, min}
+use native.Mathlib.Nat.{mod-lt, mod-eq-of-lt, mod-add-mod, mul-add-mod-self-right}
+use native.Mathlib.Omega.{arith}
+use native.Mathlib.Numerals.{add-one}
+use lib.Dec.{ltb, leb, eqb}
+use lib.IntN.{ℤ, pos, _-ℤ_, +ℤ-negℤ-cancel}
+use lib.ListN.{length, getD, set}
+use lib.Pow.{pow-pos, pow-mono, pow-add, mod-mod-pow}
+use lib.Signed.{mag}
+use borrow.Author.Tests.{ltb-true, ltb-false, leb-true, le-leb}
+use Rattle.rules.specs.Reader.{word-at, signed, read-signed}
+use Rattle.rules.specs.V2.{position, differences-from}
+use Rattle.rules.specs.declared.reader.Bits.{Bits}
+use Rattle.rules.proofs.ReaderLaws.{signed-low, signed-high, signed-mag, minus-more, read-signed-is}
+use Rattle.rules.proofs.Tests.{both, by-test}
+use Rattle.window.specs.Window.{bits-from, state-at, Window, Standing}
+use Rattle.window.proofs.WindowLaws.{fields-end, read-at, three-at}
+use Rattle.v2_differences.specs.Four.{FourAt, Short, short}
+use Rattle.v2_differences.proofs.DifferenceLaws.{difference-more, difference-end}
+
+-- ── Short lengths ──
+
+pub short-is : (ls : List ℕ) → short ls ≡ true → Short ls
+unfolding short
+short-is ls e =
+    let a = both (leb (getD ls 0 0) 16) (leb (getD ls 1 0) 16 && (leb (getD ls 2 0) 16 && leb (getD ls 3 0) 16)) e in
+    let b = both (leb (getD ls 1 0) 16) (leb (getD ls 2 0) 16 && leb (getD ls 3 0) 16) (a .1) in
+    let c = both (leb (getD ls 2 0) 16) (leb (getD ls 3 0) 16) (b .1) in
+    record { most = go (leb-true _ _ (a .0)) (leb-true _ _ (b .0)) (leb-true _ _ (c .0)) (leb-true _ _ (c .1)) }
+  where
+    go : getD ls 0 0 ≤ 16 → getD ls 1 0 ≤ 16 → getD ls 2 0 ≤ 16 → getD ls 3 0 ≤ 16 → (j : ℕ) → j < 4 → getD ls j 0 ≤ 16
+    go a b c d zero h = a
+    go a b c d (suc zero) h = b
+    go a b c d (suc (suc zero)) h = c
+    go a b c d (suc (suc (suc zero))) h = d
+    go a b c d (suc (suc (suc (suc j)))) h = absurd (omega arith)
+
+pub short-last : (ls : List ℕ) → getD ls 0 0 ≤ 16 → getD ls 1 0 ≤ 16 → getD ls 2 0 ≤ 16 → leb (getD ls 3 0) 16 ≡ short ls
+unfolding short
+short-last ls a b c = simp (le-leb _ _ a, le-leb _ _ b, le-leb _ _ c)
+
+-- ── The sign ──
+
+-- Adding half a turn and taking it off again, in a turn of 2^n.
+turned : (n v h : ℕ) → h ≡ 2 ^ n / 2 → v < 2 ^ n → pos ((v + h) % 2 ^ n) -ℤ pos h ≡ signed n v
+turned zero v h eh l =
+    let z : v ≡ 0 = omega arith in
+    let y : h ≡ 0 = eh in
+    let l : 0 * 2 < 2 ^ 0 = omega arith in
+    rw (z, y, signed-low 0 0 l)
+turned (suc m) v h eh l = by-test (ltb (v * 2) (2 ^ suc m)) below above
+  where
+    double : 2 ^ suc m ≡ 2 ^ m * 2
+    double = ap (λ (x : ℕ). 2 ^ x) (sym (add-one m)) ∙ pow-add 2 m 1
+
+    half : h * 2 ≡ 2 ^ suc m
+    half = omega (arith, double, eh)
+
+    below : ltb (v * 2) (2 ^ suc m) ≡ true → pos ((v + h) % 2 ^ suc m) -ℤ pos h ≡ signed (suc m) v
+    below e =
+        let q : v * 2 < 2 ^ suc m = ltb-true (v * 2) (2 ^ suc m) e in
+        let u : v + h < 2 ^ suc m = omega (arith, half) in
+        rw (mod-eq-of-lt u, signed-low (suc m) v q) (+ℤ-negℤ-cancel (pos v) (pos h))
+
+    above : ltb (v * 2) (2 ^ suc m) ≡ false → pos ((v + h) % 2 ^ suc m) -ℤ pos h ≡ signed (suc m) v
+    above e =
+        let q : 2 ^ suc m ≤ v * 2 = ltb-false (v * 2) (2 ^ suc m) e in
+        let s : v + h ≡ 1 * 2 ^ suc m + (v - h) = omega (arith, half) in
+        let u : v - h < 2 ^ suc m = omega (arith, half) in
+        let w : (v + h) % 2 ^ suc m ≡ v - h
+        = ap (λ (x : ℕ). x % 2 ^ suc m) s ∙ mul-add-mod-self-right 1 (2 ^ suc m) (v - h) ∙ mod-eq-of-lt u in
+        let t : h - suc (v - h) ≡ 2 ^ suc m - suc v = omega (arith, half) in
+        rw (w, signed-high (suc m) v q l, minus-more (v - h) h (omega (arith, half)), t)
+
+low-is : (x n h : ℕ) → n ≤ 16 → h ≡ 2 ^ n / 2 → pos ((x + h) % 2 ^ 64 % 2 ^ n) -ℤ pos h ≡ signed n (x % 2 ^ n)
+low-is x n h few eh =
+    let m : 64 ≡ 64 - n + n = omega arith in
+    let a : (x + h) % 2 ^ 64 % 2 ^ n ≡ (x + h) % 2 ^ n = ap (λ (y : ℕ). (x + h) % 2 ^ y % 2 ^ n) m ∙ mod-mod-pow (x + h) (64 - n) n in
+    let b : (x + h) % 2 ^ n ≡ (x % 2 ^ n + h) % 2 ^ n = sym (mod-add-mod x (2 ^ n) h) in
+    rw (a, b) (turned n (x % 2 ^ n) h eh (mod-lt x (pow-pos n)))
+
+-- What `low` makes of p = 2^n and the sum w: it stays within 32 signed bits, and is the number.
+pub record Low (x n p w : ℕ) : Type 0 where
+  pub some : 0 < p
+  pub turn : w % p < 2 ^ 31
+  pub half : p / 2 < 2 ^ 31
+  pub is : pos (w % p) -ℤ pos (p / 2) ≡ signed n (x % 2 ^ n)
+  pub bound : mag (signed n (x % 2 ^ n)) < 2 ^ 31
+
+pub low-made : (x n p w : ℕ) → n ≤ 16 → p ≡ 2 ^ n → w ≡ (x + p / 2) % 2 ^ 64 → Low x n p w
+low-made x n p w few ep ew =
+    let some : 0 < 2 ^ n = pow-pos n in
+    let most : 2 ^ n ≤ 65_536 = pow-mono few in
+    let turn : (x + 2 ^ n / 2) % 2 ^ 64 % 2 ^ n < 2 ^ n = mod-lt ((x + 2 ^ n / 2) % 2 ^ 64) some in
+    let bound : mag (signed n (x % 2 ^ n)) < 2 ^ 31 = signed-mag 31 n (x % 2 ^ n) (omega arith) (mod-lt x some) in
+    rw (ew, ep) (record { some = some; turn = omega arith; half = omega arith; is = low-is x n (2 ^ n / 2) few refl; bound = bound })
+
+-- ── Four out of a window ──
+
+-- What `four_at` makes of the window that ends with them.
+pub four-made : (s : List ℕ) (base q n v p₁ p₂ p₃ : ℕ) (r₀ r₁ r₂ r₃ : ℤ) → n ≤ 16 → 64 ≤ q → Window s base (q + 4 * n - 64) v → p₁ ≡ 2 ^ n → p₂ ≡ 2 ^ n → p₃ ≡ 2 ^ n
+    → r₀ ≡ signed n (v / p₁ / p₂ / p₃ % 2 ^ n) → r₁ ≡ signed n (v / p₁ / p₂ % 2 ^ n)
+    → r₂ ≡ signed n (v / p₁ % 2 ^ n) → r₃ ≡ signed n (v % 2 ^ n) → FourAt s base q n (r₀ ∷ r₁ ∷ r₂ ∷ r₃ ∷ [])
+four-made s base q n v p₁ p₂ p₃ r₀ r₁ r₂ r₃ few late w e₁ e₂ e₃ f₀ f₁ f₂ f₃ =
+    let start : q + 4 * n - 64 + (64 - 4 * n) ≡ q = omega arith in
+    let t = rw start at (fields-end s base (q + 4 * n - 64) v w n (64 - 4 * n) (omega arith)) in
+    record {
+      whole = λ j l h. three-at s base ((q + 4 * n - 64) / 32) j (w .words) (omega arith) (omega arith);
+      are = rw (f₀, f₁, f₂, f₃, e₁, e₂, e₃, t .0, t .1 .0, t .1 .1 .0, t .1 .1 .1);
+    }
+
+-- ── As the state reads them ──
+
+-- A difference of n bits, its words being there.
+signed-at : (s : List ℕ) (base q f n : ℕ) → n ≤ 16 → 0 < q → base + (q + n + 31) / 32 * 4 ≤ length s → base + (q + n + 31) / 32 * 4 + 4 < 2 ^ 64
+    → ((q + 31) / 32 * 32 < q + n → word-at s (base + (q + 31) / 32 * 4) < 2 ^ 32)
+    → read-signed s (state-at s base q f) n ≡ record { value = signed n (bits-from s base q n); bits = state-at s base (q + n) f }
+signed-at s base q f n few some there far whole =
+    let m : min n 32 ≡ n = omega arith in
+    rw (read-signed-is s (state-at s base q f) n, m, read-at s base q n f some (omega arith) there far whole)
+
+-- The differences from number 4 j on: the four of length number j, out of a window, and those after them.
+module _ (s : List ℕ) (row : ℕ) (ls : List ℕ) (base f : ℕ) (j : ℕ) (h : j < 4) where
+  group-more : (ds : List ℤ) (q n p₀ p₁ p₂ p₃ : ℕ) → n ≡ getD ls j 0 → n ≤ 16 → 0 < q
+      → base + (q + 4 * n + 31) / 32 * 4 ≤ length s → base + (q + 4 * n + 31) / 32 * 4 + 4 < 2 ^ 64
+      → ((i : ℕ) → q ≤ i * 32 → i * 32 < q + 4 * n → word-at s (base + i * 4) < 2 ^ 32)
+      → p₀ ≡ position row (4 * j) → p₁ ≡ position row (4 * j + 1) → p₂ ≡ position row (4 * j + 1 + 1) → p₃ ≡ position row (4 * j + 1 + 1 + 1)
+      → differences-from s row ls (16 - 4 * j) (4 * j) (record { values = ds; bits = state-at s base q f })
+      ≡ differences-from s row ls (16 - (4 * j + 1 + 1 + 1 + 1)) (4 * j + 1 + 1 + 1 + 1)
+      (record {
+        values = set (set (set (set ds p₀ (signed n (bits-from s base q n))) p₁ (signed n (bits-from s base (q + n) n))) p₂ (signed n (bits-from s base (q + n + n) n))) p₃ (signed n (bits-from s base (q + n + n + n) n));
+        bits = state-at s base (q + n + n + n + n) f;
+      })
+  group-more ds q n p₀ p₁ p₂ p₃ en few some there far whole e₀ e₁ e₂ e₃ =
+      let k₀ : 4 * j / 4 ≡ j = omega arith in
+      let k₁ : (4 * j + 1) / 4 ≡ j = omega arith in
+      let k₂ : (4 * j + 1 + 1) / 4 ≡ j = omega arith in
+      let k₃ : (4 * j + 1 + 1 + 1) / 4 ≡ j = omega arith in
+      let g₀ = signed-at s base q f n few some (omega arith) (omega arith) (λ l. whole _ (omega arith) (omega arith)) in
+      let g₁ = signed-at s base (q + n) f n few (omega arith) (omega arith) (omega arith) (λ l. whole _ (omega arith) (omega arith)) in
+      let g₂ = signed-at s base (q + n + n) f n few (omega arith) (omega arith) (omega arith) (λ l. whole _ (omega arith) (omega arith)) in
+      let g₃ = signed-at s base (q + n + n + n) f n few (omega arith) (omega arith) (omega arith) (λ l. whole _ (omega arith) (omega arith)) in
+      difference-more s row ls (4 * j) ds (state-at s base q f) _ p₀ (omega arith) (rw (k₀, ← en) (sym g₀)) e₀
+      ∙ difference-more s row ls (4 * j + 1) _ (state-at s base (q + n) f) _ p₁ (omega arith) (rw (k₁, ← en) (sym g₁)) e₁
+      ∙ difference-more s row ls (4 * j + 1 + 1) _ (state-at s base (q + n + n) f) _ p₂ (omega arith) (rw (k₂, ← en) (sym g₂)) e₂
+      ∙ difference-more s row ls (4 * j + 1 + 1 + 1) _ (state-at s base (q + n + n + n) f) _ p₃ (omega arith) (rw (k₃, ← en) (sym g₃)) e₃
+
+-- The positions of four differences of one length: every other one from the first on.
+every-other : (row j i : ℕ) → j < 4 → i < 4 → position row (4 * j) + 2 * i ≡ position row (4 * j + i)
+unfolding position
+every-other row j i k l = go (eqb (row % 2) 0) (j / 2) (j % 2) (omega arith) (omega arith) (omega arith)
+  where
+    last : (t : Bool) (a b : ℕ) → a < 2 → cond t (2 * (4 * b) + a) (2 * (4 * b) + 1 - a) + 2 * i ≡ cond t (2 * (4 * b + i) + a) (2 * (4 * b + i) + 1 - a)
+    last true a b g = omega arith
+    last false a b g = omega arith
+
+    go : (t : Bool) (a b : ℕ) → j ≡ 2 * a + b → b < 2 → a < 2
+        → cond t (2 * (4 * j % 8) + 4 * j / 8) (2 * (4 * j % 8) + 1 - 4 * j / 8) + 2 * i ≡ cond t (2 * ((4 * j + i) % 8) + (4 * j + i) / 8) (2 * ((4 * j + i) % 8) + 1 - (4 * j + i) / 8)
+    go t a b e h g =
+        let x : 4 * j ≡ a * 8 + 4 * b = omega arith in
+        let y : 4 * j + i ≡ a * 8 + (4 * b + i) = omega arith in
+        let m : (a * 8 + 4 * b) % 8 ≡ 4 * b = omega arith in
+        let d : (a * 8 + 4 * b) / 8 ≡ a = omega arith in
+        let m′ : (a * 8 + (4 * b + i)) % 8 ≡ 4 * b + i = omega arith in
+        let d′ : (a * 8 + (4 * b + i)) / 8 ≡ a = omega arith in
+        rw (y, m′, d′, x, m, d) (last t a b g)
+
+pub first-below : (row j : ℕ) → j < 4 → position row (4 * j) + 6 < 16
+unfolding position
+first-below row j h = by-test (eqb (row % 2) 0) (λ e. rw e (omega arith)) (λ e. rw e (omega arith))
+
+-- The loop over four windows, before length number j: the differences from number 4 j on, by the state that stands before bit q,
+-- come to what all sixteen come to.
+pub record Reached (s : List ℕ) (row : ℕ) (ls : List ℕ) (base f q₀ : ℕ) (ds₀ : List ℤ) (j q : ℕ) (ds : List ℤ) : Type 0 where
+  pub within : j ≤ 4
+  pub late : 64 < q
+  pub soon : q ≤ 96 + 64 * j
+  pub is : differences-from s row ls 16 0 (record { values = ds₀; bits = state-at s base q₀ f })
+      ≡ differences-from s row ls (16 - 4 * j) (4 * j) (record { values = ds; bits = state-at s base q f })
+
+pub reached-start : (s : List ℕ) (row : ℕ) (ls : List ℕ) (base f count : ℕ) (ds : List ℤ) → count < 32
+    → Reached s row ls base f (96 - count) ds 0 (96 - count) ds
+reached-start s row ls base f count ds few = record { within = omega arith; late = omega arith; soon = omega arith; is = refl }
+
+module _ (s : List ℕ) (row : ℕ) (ls : List ℕ) (base f q₀ : ℕ) (ds₀ : List ℤ) where
+  pub reached-more : (j q n p : ℕ) (ds ds′ r : List ℤ) → j < 4 → n ≡ getD ls j 0 → n ≤ 16 → base + 48 ≤ length s → base + 48 < 2 ^ 64 → p ≡ position row (4 * j) → FourAt s base q n r
+      → ds′ ≡ set (set (set (set ds p (getD r 0 (pos 0))) (p + 2) (getD r 1 (pos 0))) (p + 4) (getD r 2 (pos 0))) (p + 6) (getD r 3 (pos 0))
+      → Reached s row ls base f q₀ ds₀ j q ds → Reached s row ls base f q₀ ds₀ (j + 1) (q + 4 * n) ds′
+  reached-more j q n p ds ds′ r h en few there far ep x ed l =
+      let late : 64 < q = l .late in
+      let soon : q ≤ 96 + 64 * j = l .soon in
+      let k : 4 * j + 1 + 1 + 1 + 1 ≡ 4 * (j + 1) = omega arith in
+      let k₂ : 4 * j + 1 + 1 ≡ 4 * j + 2 = omega arith in
+      let k₃ : 4 * j + 1 + 1 + 1 ≡ 4 * j + 3 = omega arith in
+      let q₂ : q + n + n ≡ q + 2 * n = omega arith in
+      let q₃ : q + 2 * n + n ≡ q + 3 * n = omega arith in
+      let q₄ : q + 3 * n + n ≡ q + 4 * n = omega arith in
+      let e₁ : p + 2 ≡ position row (4 * j + 1) = rw ep (every-other row j 1 h (omega arith)) in
+      let e₂ : p + 4 ≡ position row (4 * j + 1 + 1) = rw (k₂, ep) (every-other row j 2 h (omega arith)) in
+      let e₃ : p + 6 ≡ position row (4 * j + 1 + 1 + 1) = rw (k₃, ep) (every-other row j 3 h (omega arith)) in
+      let g = group-more s row ls base f j h ds q n p (p + 2) (p + 4) (p + 6) en few (omega arith) (omega arith) (omega arith) (x .whole) ep e₁ e₂ e₃ in
+      record { within = omega arith; late = omega arith; soon = omega arith; is = l .is ∙ rw (ed, x .are) (rw (k, q₂, q₃, q₄) at g) }
+
+-- After the four the state is made again.
+pub reached-end : (s : List ℕ) (row : ℕ) (ls : List ℕ) (b b′ : Bits) (j q : ℕ) (ds₀ ds : List ℤ) → Standing s b 40 → b′ ≡ state-at s (b .pos - 12) q (b .filler)
+    → Reached s row ls (b .pos - 12) (b .filler) (96 - b .count) ds₀ j q ds → 4 ≤ j
+    → record { values = ds; bits = b′ } ≡ differences-from s row ls 16 0 (record { values = ds₀; bits = b })
+reached-end s row ls b b′ j q ds₀ ds at e l h =
+    let d = difference-end s row ls (4 * j) (record { values = ds; bits = state-at s (b .pos - 12) q (b .filler) }) (omega arith) in
+    rw e (sym (rw (← at .is) at (l .is) ∙ d))

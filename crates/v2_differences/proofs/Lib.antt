@@ -1,0 +1,4 @@
+pub mod DifferenceLaws
+pub mod FourLaws
+pub mod PairLaws
+pub mod PositionLaws

@@ -1,0 +1,164 @@
+// What V2 reads of a block last: its differences, out of windows where the reader's record stands in the stream, else two by two.
+ghost use mathlib.Core.Bool.{true};
+ghost use mathlib.Core.Path.{_≡_};
+ghost use Prim.Native.Nat.{_+_, _<_};
+ghost use lib.IntN.{pos};
+ghost use lib.ListN.{getD, set};
+ghost use Rattle.rules.specs.V2.{differences-from};
+ghost use Rattle.window.specs.Window.{Standing};
+ghost use Rattle.v2_differences.specs.Four.{Short, short};
+ghost use Rattle.v2_differences.specs.Pairs.{signed-pair};
+ghost use Rattle.v2_differences.specs.Positions.{row-positions, positions};
+
+mod four;
+
+use bits::get_whole;
+use bits::read_signed;
+use fields::field;
+use fields::signed_of;
+use four::four_at;
+use rules::Bits;
+use rules::V2Row;
+use window::stands_within;
+use window::state_at;
+
+// Where the sixteen differences go in even rows, and in odd ones.
+const POSITIONS: [[u8; 16]; 2] = [
+    [0, 2, 4, 6, 8, 10, 12, 14, 1, 3, 5, 7, 9, 11, 13, 15],
+    [1, 3, 5, 7, 9, 11, 13, 15, 0, 2, 4, 6, 8, 10, 12, 14],
+];
+
+// The table, held to the rule at all 32 entries.
+fn table() -> [[u8; 16]; 2]
+    ensures { λ r. ⌜ r ≡ positions ⌝ }
+{
+    POSITIONS
+}
+
+// A row's part of the table.
+fn positions_of(row: usize) -> [u8; 16]
+    ensures { λ r. ⌜ r ≡ row-positions row ⌝ }
+{
+    let both = table();
+    both[row % 2]
+}
+
+// Two differences, and the reader's state after them.
+struct Pair {
+    first: i32,
+    second: i32,
+    bits: Bits,
+}
+
+// Two differences of n bits, by one read where 32 bits hold both: a read costs more than a cut of its value.
+fn read_pair(src: &[u8], bits: Bits, n: u32) -> Pair
+    ensures { λ r. ⌜ r ≡ signed-pair (now (src .entry)) n bits ⌝ }
+{
+    if n <= 16 {
+        let g = get_whole(src, bits, 2 * n);
+        let v = g.value as u64;
+        let next = g.bits;
+        return Pair {
+            first: signed_of(field(v, n, n), n),
+            second: signed_of(field(v, 0, n), n),
+            bits: next,
+        };
+    }
+    let a = read_signed(src, bits, n);
+    let b = read_signed(src, a.bits, n);
+    let next = b.bits;
+    Pair {
+        first: a.value,
+        second: b.value,
+        bits: next,
+    }
+}
+
+// The sixteen differences two by two, whatever the state and the lengths.
+fn by_pairs(src: &[u8], row: usize, lengths: [u32; 4], bits: Bits, values: &mut [i32; 16]) -> Bits
+    ensures { λ r. ⌜ record { values = now (values .exit); bits = r } ≡ differences-from (now (src .entry)) row lengths 16 0 (record { values = now (values .entry); bits = bits }) ⌝ }
+{
+    // A copy, since a constant that is read in the loop is made anew at each read.
+    let positions = positions_of(row);
+    let mut at = bits;
+    let mut k: usize = 0;
+    while k < V2Row::BLOCK {
+        let pair = read_pair(src, at, lengths[k / 4]);
+        let p = positions[k] as usize;
+        let q = positions[k + 1] as usize;
+        let a = pair.first;
+        let b = pair.second;
+        values[p] = a;
+        values[q] = b;
+        at = pair.bits;
+        k += 2;
+    }
+    at
+}
+
+// The bytes that the differences' windows reach over, from the word fetched last on: the last starts 224 bits on at most, and
+// takes three words.
+const REACH: usize = 40;
+
+// Four differences to position p and every other one after it.
+fn store_four(values: &mut [i32; 16], p: usize, four: [i32; 4])
+    requires { ⌜ p + 6 < 16 ⌝ }
+    ensures { λ _. ⌜ now (values .exit) ≡ set (set (set (set (now (values .entry)) p (getD four 0 (pos 0))) (p + 2) (getD four 1 (pos 0))) (p + 4) (getD four 2 (pos 0))) (p + 6) (getD four 3 (pos 0)) ⌝ }
+{
+    values[p] = four[0];
+    values[p + 2] = four[1];
+    values[p + 4] = four[2];
+    values[p + 6] = four[3];
+}
+
+// The sixteen differences out of four windows, where the state stands in the stream: no read asks whether a word is left, and the
+// state is made again at the end. Bits are counted from two words before the one fetched last.
+fn by_windows(src: &[u8], row: usize, lengths: [u32; 4], bits: Bits, values: &mut [i32; 16]) -> Bits
+    requires { ⌜ Standing (now src) bits 40 × Short lengths ⌝ }
+    ensures { λ r. ⌜ record { values = now (values .exit); bits = r } ≡ differences-from (now (src .entry)) row lengths 16 0 (record { values = now (values .entry); bits = bits }) ⌝ }
+{
+    let positions = positions_of(row);
+    let base = bits.pos as usize - 12;
+    let mut q = 96 - bits.count as usize;
+    let mut j: usize = 0;
+    while j < 4 {
+        let n = lengths[j];
+        let four = four_at(src, base, q, n);
+        store_four(values, positions[4 * j] as usize, four);
+        q += 4 * n as usize;
+        j += 1;
+    }
+    state_at(src, base, q, bits.filler)
+}
+
+// Whether a window holds four differences of each length.
+fn are_short(lengths: [u32; 4]) -> bool
+    ensures { λ r. ⌜ r ≡ short lengths ⌝ }
+{
+    if 16 < lengths[0] {
+        return false;
+    }
+    if 16 < lengths[1] {
+        return false;
+    }
+    if 16 < lengths[2] {
+        return false;
+    }
+    lengths[3] <= 16
+}
+
+// The sixteen differences, each at its position.
+pub fn block_differences(
+    src: &[u8],
+    row: usize,
+    lengths: [u32; 4],
+    bits: Bits,
+    values: &mut [i32; 16],
+) -> Bits
+    ensures { λ r. ⌜ record { values = now (values .exit); bits = r } ≡ differences-from (now (src .entry)) row lengths 16 0 (record { values = now (values .entry); bits = bits }) ⌝ }
+{
+    if are_short(lengths) && stands_within(src, bits, REACH) {
+        return by_windows(src, row, lengths, bits, values);
+    }
+    by_pairs(src, row, lengths, bits, values)
+}
