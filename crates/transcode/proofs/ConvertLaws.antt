@@ -111,12 +111,16 @@ early-is : (c : Call) → c .asked .decoder ≡ direct → {small : Bool} {k : �
 unfolding early short-samples short-offsets short-map short
 early-is c v0 s e = rw (v0, e, s, or-false (ltb (length (c .map)) (cells (c .asked .size))))
 
+-- What is refused early is as it was.
+left-old : {A : Type 0} (c : Call) (new old : A) → eqb (early c) 0 ≡ false → old ≡ if-decoded c new old
+unfolding if-decoded
+left-old c new old t = sym (ap (λ b. cond b new old) t)
+
 module _ {c : Call} where
   refused-yields : (k : ℕ) {r : Written} → early c ≡ k → (k ≡ 0 → ⊥) → r ≡ refused k → Yields c r (c .samples) (c .map) (c .stream)
-  unfolding if-decoded
   refused-yields k e n q =
       let t : eqb (early c) 0 ≡ false = ap (λ j. eqb j 0) e ∙ ne-eqb k 0 n in
-      record { answered = q ∙ sym (rw t (ap refused e)); samples-left = sym (rw t); map-left = sym (rw t); stream-left = sym (rw t) }
+      record { answered = q ∙ sym (ap refused e) ∙ left-old c _ _ t; samples-left = left-old c _ _ t; map-left = left-old c _ _ t; stream-left = left-old c _ _ t }
 
   module _ (v0 : c .asked .decoder ≡ direct) where
     module _ {small : Bool} (s : small ≡ too-small v2 (c .asked .size)) {k : ℕ} (e : k ≡ first c small) where

@@ -5,7 +5,7 @@ use mathlib.Core.List.{List, [], _∷_, _++_}
 use lib.ListN.{length, replicate}
 use Rattle.writers.specs.declared.Written.{Written}
 use Rattle.writers.specs.Calls.{refused, written}
-use Rattle.transcode.specs.Convert.{late-answer, late-stream}
+use Rattle.transcode.specs.Convert.{call, early, late-answer, late-stream}
 
 pub record Example : Type 0 where
   pub samples : List ℕ
@@ -51,3 +51,15 @@ examples =
     ∷ kept (replicate 31 5 ++ (16_384 ∷ [])) clean [] 9
     ∷ kept flat clean (replicate 47 9) 10
     ∷ []
+
+-- ── Before decoding ──
+
+-- The number of a call of a size, with so many offsets, samples and map bytes lent.
+abbrev pub early-of : ℕ → ℕ → ℕ → ℕ → ℕ → ℕ
+early-of w h offsets samples marks = early (call [] (replicate offsets 0) w h (replicate samples 0) (replicate marks 0) [])
+
+-- None; 15 alone; and each of 1 to 4 where all that come after it hold, too: 4, 3 for want of samples and of offsets, 2, 1.
+unfoldable pub early-numbers : List ℕ
+early-numbers =
+    early-of 32 1 1 32 32 ∷ early-of 33 1 1 33 33 ∷ early-of 33 1 1 33 32 ∷ early-of 33 1 1 32 32 ∷ early-of 33 1 0 33 32 ∷ early-of 31 1 0 0 0
+    ∷ early-of 16_385 0 0 0 0 ∷ []
