@@ -8,9 +8,9 @@ use native.Mathlib.Nat.{mod-lt, mod-eq-of-lt, mod-add-mod, mul-add-mod-self-righ
 use native.Mathlib.Omega.{arith}
 use native.Mathlib.Numerals.{add-one}
 use lib.Dec.{ltb, leb}
-use lib.IntN.{ℤ, pos}
+use lib.IntN.{ℤ, pos, negsuc}
 use lib.ListN.{length, getD, set, replicate}
-use lib.Signed.{mag}
+use lib.Signed.{mag, leZ}
 use lib.Pow.{pow-pos, pow-mono, pow-add, mod-mod-pow}
 use mir.Syntax.{w32}
 use mir.Val.{toZ, ofZ}
@@ -20,14 +20,13 @@ use Rattle.rules.specs.Reader.{word-at, four}
 use Rattle.rules.specs.V0.{length-bits, head}
 use Rattle.rules.specs.declared.reader.Bits.{Bits}
 use Rattle.rules.specs.declared.v0.V0Row.{V0Row}
-use Rattle.rules.specs.declared.v0.V0Head.{V0Head}
 use Rattle.rules.proofs.ReaderLaws.{four-fields, sign-low, sign-high, residual-is}
-use Rattle.window.specs.Window.{bits-from, state-at, values-at, span, none, also, Window}
+use Rattle.window.specs.Window.{bits-from, state-at, values-at, span, none, also, Window, Standing}
 use Rattle.window.proofs.WindowLaws.{fields-at, fields-end, pair-top, three-at}
 use Rattle.v0_stream.specs.Block.{with-residuals, whole-block}
-use Rattle.v0_windows.specs.ByWindow.{residual, Opened, Group, joined}
+use Rattle.v0_windows.specs.ByWindow.{residual, Room, HeadAt, head-of, Ahead, Group, joined, residuals-of, Ends}
 use Rattle.v0_windows.specs.declared.WindowHead.{WindowHead}
-use Rattle.v0_stream.proofs.BlockLaws.{bits-few-enough, Reading, reading-begun, reading-four, read-all, whole-read}
+use Rattle.v0_stream.proofs.BlockLaws.{bits-few-enough, Reading, reading-begun, reading-four, read-all}
 
 -- ── The sign ──
 
@@ -152,32 +151,46 @@ group-at s ls b₀ base q f vs j n a h en some there far x r =
 
 -- ── The block ──
 
--- A state that stands in the stream, the head there, and the bits of each residual.
-pub record Planned (s : List ℕ) (st : V0Row) (h : WindowHead) (n₀ n₁ n₂ n₃ : ℕ) : Type 0 where
-  pub opened : Opened s st h
+-- Room for the residuals after a head, and the bits of each.
+pub record Planned (s : List ℕ) (base : ℕ) (h : WindowHead) (n₀ n₁ n₂ n₃ : ℕ) : Type 0 where
+  pub ahead : Ahead s base (h .q) 583
   pub is₀ : n₀ ≡ length-bits (getD (h .lengths) 0 (pos 0))
   pub is₁ : n₁ ≡ length-bits (getD (h .lengths) 1 (pos 0))
   pub is₂ : n₂ ≡ length-bits (getD (h .lengths) 2 (pos 0))
   pub is₃ : n₃ ≡ length-bits (getD (h .lengths) 3 (pos 0))
 
 -- Each length is counted as a machine's number.
-pub plan-made : {s : List ℕ} {st : V0Row} {h : WindowHead} {n₀ n₁ n₂ n₃ : ℕ} → Opened s st h
+pub plan-made : {s : List ℕ} {base : ℕ} {h : WindowHead} {n₀ n₁ n₂ n₃ : ℕ} → Ahead s base (h .q) 583
     → mag (getD (h .lengths) 0 (pos 0)) < 2 ^ 31 → n₀ ≡ length-bits (toZ w32 (ofZ w32 (getD (h .lengths) 0 (pos 0))))
     → mag (getD (h .lengths) 1 (pos 0)) < 2 ^ 31 → n₁ ≡ length-bits (toZ w32 (ofZ w32 (getD (h .lengths) 1 (pos 0))))
     → mag (getD (h .lengths) 2 (pos 0)) < 2 ^ 31 → n₂ ≡ length-bits (toZ w32 (ofZ w32 (getD (h .lengths) 2 (pos 0))))
     → mag (getD (h .lengths) 3 (pos 0)) < 2 ^ 31 → n₃ ≡ length-bits (toZ w32 (ofZ w32 (getD (h .lengths) 3 (pos 0))))
-    → Planned s st h n₀ n₁ n₂ n₃
-plan-made o f₀ e₀ f₁ e₁ f₂ e₂ f₃ e₃ = record { opened = o; is₀ = counted _ _ f₀ e₀; is₁ = counted _ _ f₁ e₁; is₂ = counted _ _ f₂ e₂; is₃ = counted _ _ f₃ e₃ }
+    → Planned s base h n₀ n₁ n₂ n₃
+plan-made o f₀ e₀ f₁ e₁ f₂ e₂ f₃ e₃ = record { ahead = o; is₀ = counted _ _ f₀ e₀; is₁ = counted _ _ f₁ e₁; is₂ = counted _ _ f₂ e₂; is₃ = counted _ _ f₃ e₃ }
   where
     counted : (l : ℤ) (n : ℕ) → mag l < 2 ^ 31 → n ≡ length-bits (toZ w32 (ofZ w32 l)) → n ≡ length-bits l
     counted l n fits e = rw (toZ-ofZ w32 l (record { sfits = fits })) at e
 
+-- ── Short ones ──
+
+pub short-bits : (l : ℤ) → leZ l (pos 16) ≡ true → length-bits l ≤ 16
+unfolding length-bits
+short-bits (pos n) e = let few : n ≤ 16 = leb-true n 16 e in omega arith
+short-bits (negsuc n) e = omega arith
+
+-- What a test of length j says, which goes through 32 bits.
+pub short-at : (ls : List ℤ) (j : ℕ) {r : Bool} → mag (getD ls j (pos 0)) < 2 ^ 31 → (r ≡ true → length-bits (toZ w32 (ofZ w32 (getD ls j (pos 0)))) ≤ 16) → r ≡ true
+    → length-bits (getD ls j (pos 0)) ≤ 16
+short-at ls j fits test t = rw (toZ-ofZ w32 (getD ls j (pos 0)) (record { sfits = fits })) at (test t)
+
+-- ── Room ──
+
 -- What the readers of four ask, of n bits from bit q on: of short ones, and of long ones.
 pub record FourIn (s : List ℕ) (base q n : ℕ) : Type 0 where
   pub short : n ≤ 16 → (n ≤ 16) × ((64 ≤ q) × ((q < 2 ^ 32) × (base + (q + 4 * n - 64) / 32 * 4 + 12 ≤ length s)))
-  pub long : 16 < n → (16 < n) × ((n ≤ 32) × ((q < 2 ^ 32) × (base + (q + 2 * n) / 32 * 4 + 12 ≤ length s)))
+  pub long : 16 < n → (16 < n) × ((n ≤ 32) × ((q < 2 ^ 31) × (base + (q + 2 * n) / 32 * 4 + 12 ≤ length s)))
 
-module _ {s : List ℕ} {st : V0Row} {h : WindowHead} {n₀ n₁ n₂ n₃ : ℕ} (x : Planned s st h n₀ n₁ n₂ n₃) where
+module _ {s : List ℕ} {base : ℕ} {h : WindowHead} {n₀ n₁ n₂ n₃ : ℕ} (x : Planned s base h n₀ n₁ n₂ n₃) where
   few₀ : n₀ ≤ 32
   few₀ = omega (arith, x .is₀, bits-few-enough (getD (h .lengths) 0 (pos 0)))
 
@@ -191,38 +204,36 @@ module _ {s : List ℕ} {st : V0Row} {h : WindowHead} {n₀ n₁ n₂ n₃ : ℕ
   few₃ = omega (arith, x .is₃, bits-few-enough (getD (h .lengths) 3 (pos 0)))
 
   -- The head's end, and the bits of each residual.
-  pub near : (64 < h .q) × ((h .q ≤ 121) × ((n₀ ≤ 32) × ((n₁ ≤ 32) × ((n₂ ≤ 32) × (n₃ ≤ 32)))))
-  near = (omega arith, (omega arith, (few₀, (few₁, (few₂, few₃)))))
+  pub near : (64 < h .q) × ((h .q + 583 < 2 ^ 31) × ((n₀ ≤ 32) × ((n₁ ≤ 32) × ((n₂ ≤ 32) × (n₃ ≤ 32)))))
+  near = (x .ahead .late, (x .ahead .soon, (few₀, (few₁, (few₂, few₃)))))
 
   -- A group that begins no later than the fourth may.
-  in-room : (q n : ℕ) → 64 < q → q ≤ 505 → n ≤ 32 → FourIn s (st .bits .pos - 12) q n
+  in-room : (q n : ℕ) → 64 < q → q ≤ h .q + 384 → n ≤ 32 → FourIn s base q n
   in-room q n late soon few =
+      let there : base * 8 + h .q + 583 ≤ length s * 8 = x .ahead .there in
+      let near : h .q + 583 < 2 ^ 31 = x .ahead .soon in
       record { short = λ l. (l, (omega arith, (omega arith, omega arith))); long = λ l. (l, (few, (omega arith, omega arith))) }
 
   -- Each of the four.
-  pub first-in : FourIn s (st .bits .pos - 12) (h .q) n₀
+  pub first-in : FourIn s base (h .q) n₀
   first-in = in-room _ _ (omega (arith, near)) (omega (arith, near)) few₀
 
-  pub second-in : FourIn s (st .bits .pos - 12) (h .q + 4 * n₀) n₁
+  pub second-in : FourIn s base (h .q + 4 * n₀) n₁
   second-in = in-room _ _ (omega (arith, near)) (omega (arith, near)) few₁
 
-  pub third-in : FourIn s (st .bits .pos - 12) (h .q + 4 * n₀ + 4 * n₁) n₂
+  pub third-in : FourIn s base (h .q + 4 * n₀ + 4 * n₁) n₂
   third-in = in-room _ _ (omega (arith, near)) (omega (arith, near)) few₂
 
-  pub fourth-in : FourIn s (st .bits .pos - 12) (h .q + 4 * n₀ + 4 * n₁ + 4 * n₂) n₃
+  pub fourth-in : FourIn s base (h .q + 4 * n₀ + 4 * n₁ + 4 * n₂) n₃
   fourth-in = in-room _ _ (omega (arith, near)) (omega (arith, near)) few₃
 
-  -- The state after the block.
-  pub end-room : (p : ℕ) → p ≤ 633 → st .bits .pos - 12 + (p + 31) / 32 * 4 ≤ length s
-  end-room p l = omega arith
-
 -- A block read by position: its four groups too.
-pub record ByPosition (s : List ℕ) (st : V0Row) (h : WindowHead) (n₀ n₁ n₂ n₃ : ℕ) (a b c d : List ℕ) : Type 0 where
-  pub plan : Planned s st h n₀ n₁ n₂ n₃
-  pub first : Group s (st .bits .pos - 12) (h .q) n₀ a
-  pub second : Group s (st .bits .pos - 12) (h .q + 4 * n₀) n₁ b
-  pub third : Group s (st .bits .pos - 12) (h .q + 4 * n₀ + 4 * n₁) n₂ c
-  pub fourth : Group s (st .bits .pos - 12) (h .q + 4 * n₀ + 4 * n₁ + 4 * n₂) n₃ d
+pub record ByPosition (s : List ℕ) (base : ℕ) (h : WindowHead) (n₀ n₁ n₂ n₃ : ℕ) (a b c d : List ℕ) : Type 0 where
+  pub plan : Planned s base h n₀ n₁ n₂ n₃
+  pub first : Group s base (h .q) n₀ a
+  pub second : Group s base (h .q + 4 * n₀) n₁ b
+  pub third : Group s base (h .q + 4 * n₀ + 4 * n₁) n₂ c
+  pub fourth : Group s base (h .q + 4 * n₀ + 4 * n₁ + 4 * n₂) n₃ d
 
 -- A group is one, whichever of the two readers of four made it.
 pub either-way : {s : List ℕ} {base q n : ℕ} {a : List ℕ} {A B : Type 0} {C : A → Type 0} {D : B → Type 0} {u : (x : A) → C x → List ℕ} {v : (x : B) → D x → List ℕ}
@@ -230,46 +241,56 @@ pub either-way : {s : List ℕ} {base q n : ℕ} {a : List ℕ} {A B : Type 0} {
     → ((x : A) (y : C x) → Group s base q n (u x y)) → ((x : B) (y : D x) → Group s base q n (v x y)) → Group s base q n a
 either-way w f g = ⊎-elim (λ x. subst (Group _ _ _ _) (sym (x .2)) (f (x .0) (x .1))) (λ x. subst (Group _ _ _ _) (sym (x .2)) (g (x .0) (x .1))) w
 
--- So it is the block that the record reads whole.
-block-made : (s : List ℕ) (st : V0Row) (h : WindowHead) (n₀ n₁ n₂ n₃ : ℕ) (a b c d : List ℕ) (after : Bits) (r : List ℕ) → ByPosition s st h n₀ n₁ n₂ n₃ a b c d
-    → after ≡ state-at s (st .bits .pos - 12) (h .q + 4 * n₀ + 4 * n₁ + 4 * n₂ + 4 * n₃) (st .bits .filler) → r ≡ joined a b c d
-    → record { up = h .up; row = record { lengths = h .lengths; bits = after }; residuals = r } ≡ whole-block s st
-block-made s st h n₀ n₁ n₂ n₃ a b c d after r x ea er =
-    let base : ℕ = st .bits .pos - 12 in
-    let f : ℕ = st .bits .filler in
-    let ls = h .lengths in
-    let q : ℕ = h .q in
-    let p = x .plan in
-    let n = near p in
-    let there : base + 84 ≤ length s = p .opened .stands .there in
-    let far : base + 84 < 2 ^ 64 = p .opened .stands .far in
-    let y : V0Head = record { up = h .up; row = record { lengths = ls; bits = state-at s base q f } } in
-    let r₀ = reading-begun s ls (state-at s base q f) (replicate 16 0) refl in
-    let r₁ = group-at s ls (state-at s base q f) base q f _ 0 n₀ a (omega arith) (p .is₀) (omega arith) (omega arith) (omega arith) (x .first) r₀ in
-    let r₂ = group-at s ls (state-at s base q f) base (q + 4 * n₀) f _ 1 n₁ b (omega arith) (p .is₁) (omega arith) (omega arith) (omega arith) (x .second) r₁ in
-    let r₃ = group-at s ls (state-at s base q f) base (q + 4 * n₀ + 4 * n₁) f _ 2 n₂ c (omega arith) (p .is₂) (omega arith) (omega arith) (omega arith) (x .third) r₂ in
-    let r₄ = group-at s ls (state-at s base q f) base (q + 4 * n₀ + 4 * n₁ + 4 * n₂) f _ 3 n₃ d (omega arith) (p .is₃) (omega arith) (omega arith) (omega arith) (x .fourth) r₃ in
-    let stood : record { lengths = st .lengths; bits = state-at s base (96 - st .bits .count) f } ≡ st
-    = ap (λ (z : Bits). record { lengths = st .lengths; bits = z }) (sym (p .opened .stands .is)) in
-    let read : y ≡ head s st = sym (p .opened .head-at .reads f) ∙ ap (head s) stood in
-    whole-read s st y _ read (rw (ea, er) (read-all s ls (state-at s base q f) _ _ 16 y (omega arith) refl refl r₄))
+-- So it is the block that the record reads after the head.
+module _ (s : List ℕ) (base : ℕ) (h : WindowHead) (n₀ n₁ n₂ n₃ : ℕ) (a b c d : List ℕ) (x : ByPosition s base h n₀ n₁ n₂ n₃ a b c d) where
+  block-made : (f : ℕ) → record {
+    up = h .up;
+    row = record { lengths = h .lengths; bits = state-at s base (h .q + 4 * n₀ + 4 * n₁ + 4 * n₂ + 4 * n₃) f };
+    residuals = joined a b c d;
+  } ≡ with-residuals s (head-of s base f h)
+  block-made f =
+      let ls = h .lengths in
+      let q : ℕ = h .q in
+      let p = x .plan in
+      let n = near p in
+      let there : base * 8 + q + 583 ≤ length s * 8 = p .ahead .there in
+      let far : base * 8 + q + 583 < 2 ^ 67 = p .ahead .far in
+      let r₀ = reading-begun s ls (state-at s base q f) (replicate 16 0) refl in
+      let r₁ = group-at s ls (state-at s base q f) base q f _ 0 n₀ a (omega arith) (p .is₀) (omega arith) (omega arith) (omega arith) (x .first) r₀ in
+      let r₂ = group-at s ls (state-at s base q f) base (q + 4 * n₀) f _ 1 n₁ b (omega arith) (p .is₁) (omega arith) (omega arith) (omega arith) (x .second) r₁ in
+      let r₃ = group-at s ls (state-at s base q f) base (q + 4 * n₀ + 4 * n₁) f _ 2 n₂ c (omega arith) (p .is₂) (omega arith) (omega arith) (omega arith) (x .third) r₂ in
+      let r₄ = group-at s ls (state-at s base q f) base (q + 4 * n₀ + 4 * n₁ + 4 * n₂) f _ 3 n₃ d (omega arith) (p .is₃) (omega arith) (omega arith) (omega arith) (x .fourth) r₃ in
+      read-all s ls (state-at s base q f) _ _ 16 (head-of s base f h) (omega arith) refl refl r₄
 
--- Its state after the block, and its residuals.
-pub groups-made : (s : List ℕ) (st : V0Row) (h : WindowHead) (n₀ n₁ n₂ n₃ : ℕ) (a b c d : List ℕ) (after : Bits) → ByPosition s st h n₀ n₁ n₂ n₃ a b c d
-    → after ≡ state-at s (st .bits .pos - 12) (h .q + 4 * n₀ + 4 * n₁ + 4 * n₂ + 4 * n₃) (st .bits .filler)
-    → (after ≡ whole-block s st .row .bits) × (joined a b c d ≡ whole-block s st .residuals)
-groups-made s st h n₀ n₁ n₂ n₃ a b c d after x ea =
-    let made = block-made s st h n₀ n₁ n₂ n₃ a b c d after (joined a b c d) x ea refl in
-    (ap (λ r. r .row .bits) made, ap (λ r. r .residuals) made)
+  -- Its residuals, and where it ends.
+  pub groups-are : joined a b c d ≡ residuals-of s base h
+  groups-are = ap (λ r. r .residuals) (block-made 0)
 
--- A head that stands in the stream is the block's own.
-pub opened-block : (s : List ℕ) (st : V0Row) (h : WindowHead) (b : Bits) → Opened s st h → b ≡ whole-block s st .row .bits
-    → record { up = h .up; row = record { lengths = h .lengths; bits = b }; residuals = whole-block s st .residuals } ≡ whole-block s st
-unfolding whole-block with-residuals
-opened-block s st h b x e =
-    let f : ℕ = st .bits .filler in
-    let stood : st ≡ record { lengths = st .lengths; bits = state-at s (st .bits .pos - 12) (96 - st .bits .count) f }
-    = ap (λ (z : Bits). record { lengths = st .lengths; bits = z }) (x .stands .is) in
-    let read : head s st ≡ record { up = h .up; row = record { lengths = h .lengths; bits = state-at s (st .bits .pos - 12) (h .q) f } }
-    = ap (head s) stood ∙ x .head-at .reads f in
-    rw (e, read)
+  pub groups-end : (q : ℕ) → q ≡ h .q + 4 * n₀ + 4 * n₁ + 4 * n₂ + 4 * n₃ → Ends s base h q
+  groups-end q e =
+      let n = near (x .plan) in
+      rw e (record { some = omega arith; soon = omega arith; reads = λ f. sym (block-made f) ∙ rw groups-are })
+
+-- ── From a head's start ──
+
+-- A record that stands in the stream stands where a block may begin.
+pub standing-ahead : {s : List ℕ} {b : Bits} → Standing s b 80 → Ahead s (b .pos - 12) (96 - b .count) 608
+standing-ahead x = record { late = omega arith; soon = omega arith; there = omega arith; far = omega arith }
+
+-- Its head begins in a window that is there, and its residuals after the head.
+pub ahead-room : {s : List ℕ} {base q : ℕ} → Ahead s base q 608 → Room s base q
+ahead-room x = record { some = omega arith; soon = omega arith; there = omega arith; far = omega arith }
+
+pub after-head : {s : List ℕ} {base q : ℕ} {ls : List ℤ} {h : WindowHead} → Ahead s base q 608 → HeadAt s base q ls h → Ahead s base (h .q) 583
+after-head x y = record { late = omega arith; soon = omega arith; there = omega arith; far = omega arith }
+
+-- The state after the block.
+pub end-room : {s : List ℕ} {base : ℕ} {h : WindowHead} {q : ℕ} → Ahead s base (h .q) 583 → Ends s base h q → base + (q + 31) / 32 * 4 ≤ length s
+end-room x y = omega arith
+
+-- The head and the residuals are the block that the record reads whole.
+pub block-read : {s : List ℕ} {base q p f : ℕ} {st : V0Row} {h : WindowHead} → st .bits ≡ state-at s base q f → HeadAt s base q (st .lengths) h → Ends s base h p
+    → record { up = h .up; row = record { lengths = h .lengths; bits = state-at s base p f }; residuals = residuals-of s base h } ≡ whole-block s st
+unfolding whole-block
+block-read {s} {base} {q} {p} {f} {st} {h} e x y =
+    sym (y .reads f) ∙ ap (with-residuals s) (sym (x .reads f) ∙ ap (λ (z : Bits). head s (record { lengths = st .lengths; bits = z })) (sym e))

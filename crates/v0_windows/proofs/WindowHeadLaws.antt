@@ -15,22 +15,14 @@ use mir.Facts.{toZ-pos}
 use borrow.Author.Tests.{eqb-true, eqb-false}
 use Rattle.rules.specs.Reader.{read, four}
 use Rattle.rules.specs.V0.{operated, head}
-use Rattle.rules.specs.declared.reader.Bits.{Bits}
 use Rattle.rules.specs.declared.v0.V0Length.{V0Length}
-use Rattle.window.specs.Window.{bits-from, state-at, Standing, Window}
+use Rattle.window.specs.Window.{bits-from, state-at, Window}
 use Rattle.window.proofs.WindowLaws.{Reads, in-window, read-at}
 use Rattle.v0_stream.specs.Lengths.{stepped, Within, furthest}
 use Rattle.v0_windows.specs.ByWindow.{Room, length-in, HeadAt}
 use Rattle.v0_windows.specs.declared.WindowLength.{WindowLength}
-use Rattle.v0_windows.specs.declared.PlainHead.{PlainHead}
 use Rattle.v0_stream.proofs.HeadLaws.{stepped-near, lengths-made}
 use Rattle.v0_windows.proofs.GroupLaws.{four-is, window-words}
-
--- ── Its window ──
-
--- A record that stands in the stream with room for a block has room for the window.
-pub head-room : {s : List ℕ} {b : Bits} → Standing s b 76 → Room s (b .pos - 12) (96 - b .count)
-head-room x = record { some = omega arith; soon = omega arith; there = omega arith; far = omega arith }
 
 -- ── One length ──
 
@@ -182,7 +174,3 @@ module _ (s : List ℕ) (base q v : ℕ) (room : Room s base q) (w : Window s ba
 -- How many bits a length of the code leaves.
 pub left-of : (v at left : ℕ) (l : ℤ) (x : WindowLength) → x ≡ length-in v at left l → (left - 4 ≤ x .left) × (x .left ≤ left)
 left-of v at left l x e = rw e (left-in v at left l)
-
--- Where there is none, nothing is promised.
-pub no-head : (s : List ℕ) (base q : ℕ) (ls : List ℤ) (x : PlainHead) → x .plain ≡ false → x .plain ≡ true → HeadAt s base q ls (x .head)
-no-head s base q ls x e t = let z : _≡_ {A = ℕ} 0 1 = cc in absurd (omega arith)

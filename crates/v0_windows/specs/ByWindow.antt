@@ -9,17 +9,18 @@ use lib.Dec.{eqb}
 use lib.IntN.{ℤ, pos}
 use lib.ListN.{length, getD}
 use Rattle.rules.specs.Reader.{word-at, signed, modulo}
-use Rattle.rules.specs.V0.{head}
-use Rattle.rules.specs.declared.v0.V0Row.{V0Row}
-use Rattle.window.specs.Window.{bits-from, state-at, Standing}
+use Rattle.rules.specs.V0.{head, length-bits}
+use Rattle.rules.specs.declared.v0.V0Head.{V0Head}
+use Rattle.window.specs.Window.{bits-from, state-at}
+use Rattle.v0_stream.specs.Block.{with-residuals}
 use Rattle.v0_stream.specs.Lengths.{stepped}
 use Rattle.v0_windows.specs.declared.WindowLength.{WindowLength}
 use Rattle.v0_windows.specs.declared.WindowHead.{WindowHead}
 
--- Bit q lies in one of the first words from `base` on, and a window that begins there is in the stream.
+-- A window that begins at bit q is in the stream.
 pub record Room (s : List ℕ) (base q : ℕ) : Type 0 where
   pub some : 0 < q
-  pub soon : q ≤ 96
+  pub soon : q < 2 ^ 31
   pub there : base + q / 32 * 4 + 12 ≤ length s
   pub far : base + q / 32 * 4 + 12 < 2 ^ 64
 
@@ -32,23 +33,36 @@ length-in v at left l =
     let op = v / 2 ^ at % 4 in
     cond (eqb op 3) (record { length = pos (v / 2 ^ (left - 4) % 16); left = left - 4 }) (record { length = stepped op l; left = left })
 
+-- A head by position as the record's, f words having been missing.
+abbrev pub head-of : List ℕ → ℕ → ℕ → WindowHead → V0Head
+head-of s base f h = record { up = h .up; row = record { lengths = h .lengths; bits = state-at s base (h .q) f } }
+
 -- A head that begins at bit q: what the record that stands there reads, and where it stands after, whatever was missing before.
 pub record HeadAt (s : List ℕ) (base q : ℕ) (ls : List ℤ) (h : WindowHead) : Type 0 where
-  pub reads : (f : ℕ) → head s (record { lengths = ls; bits = state-at s base q f })
-      ≡ record { up = h .up; row = record { lengths = h .lengths; bits = state-at s base (h .q) f } }
+  pub reads : (f : ℕ) → head s (record { lengths = ls; bits = state-at s base q f }) ≡ head-of s base f h
   pub some : q ≤ h .q
   pub soon : h .q ≤ q + 25
 
--- A row's state that stands in the stream with room for a block, and the head that begins there.
-pub record Opened (s : List ℕ) (st : V0Row) (h : WindowHead) : Type 0 where
-  pub stands : Standing s (st .bits) 76
-  pub head-at : HeadAt s (st .bits .pos - 12) (96 - st .bits .count) (st .lengths) h
+-- Bit q, with two words before it, where a window that ends in what follows may begin, and `more` bits after it that are there: 608 for
+-- a block, 583 for its residuals.
+pub record Ahead (s : List ℕ) (base q more : ℕ) : Type 0 where
+  pub late : 64 < q
+  pub soon : q + more < 2 ^ 31
+  pub there : base * 8 + q + more ≤ length s * 8
+  pub far : base * 8 + q + more < 2 ^ 67
 
 -- ── Residuals ──
 
 -- The residual that n bits v are.
 abbrev pub residual : ℕ → ℕ → ℕ
 residual n v = modulo (signed n v)
+
+-- Lengths whose residuals have at most 16 bits, so that four lie in one window.
+pub record Short (ls : List ℤ) : Type 0 where
+  pub first : length-bits (getD ls 0 (pos 0)) ≤ 16
+  pub second : length-bits (getD ls 1 (pos 0)) ≤ 16
+  pub third : length-bits (getD ls 2 (pos 0)) ≤ 16
+  pub fourth : length-bits (getD ls 3 (pos 0)) ≤ 16
 
 -- Four residuals of n bits from bit q on. The words that they lie in have 32 bits.
 pub record Group (s : List ℕ) (base q n : ℕ) (r : List ℕ) : Type 0 where
@@ -65,3 +79,14 @@ abbrev pub joined : List ℕ → List ℕ → List ℕ → List ℕ → List ℕ
 joined a b c d =
     getD a 0 0 ∷ getD a 1 0 ∷ getD a 2 0 ∷ getD a 3 0 ∷ getD b 0 0 ∷ getD b 1 0 ∷ getD b 2 0 ∷ getD b 3 0
     ∷ getD c 0 0 ∷ getD c 1 0 ∷ getD c 2 0 ∷ getD c 3 0 ∷ getD d 0 0 ∷ getD d 1 0 ∷ getD d 2 0 ∷ getD d 3 0 ∷ []
+
+-- The sixteen after a head, as the record reads them, whatever was missing before.
+abbrev pub residuals-of : List ℕ → ℕ → WindowHead → List ℕ
+residuals-of s base h = with-residuals s (head-of s base 0 h) .residuals
+
+-- A block that ends before bit q, after a head: the record that reads its residuals stands there after them.
+pub record Ends (s : List ℕ) (base : ℕ) (h : WindowHead) (q : ℕ) : Type 0 where
+  pub some : h .q ≤ q
+  pub soon : q ≤ h .q + 512
+  pub reads : (f : ℕ) → with-residuals s (head-of s base f h)
+      ≡ record { up = h .up; row = record { lengths = h .lengths; bits = state-at s base q f }; residuals = residuals-of s base h }

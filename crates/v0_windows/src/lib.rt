@@ -1,22 +1,22 @@
 // A block by position, where the reader's record stands in the stream: its head out of one window, and four residuals of one length
 // out of one or two. Nothing here is read twice, and no branch asks whether a word is to be fetched.
-ghost use mathlib.Core.Bool.{true, false, cond, _&&_};
-ghost use mathlib.Core.List.{_++_};
+ghost use mathlib.Core.Bool.{true, cond};
 ghost use mathlib.Core.Path.{_≡_};
 ghost use Prim.Native.Nat.{_+_, _-_, _*_, _/_, _%_, _^_, _≤_, _<_};
 ghost use lib.Dec.{eqb};
 ghost use lib.ListN.{length};
-ghost use lib.IntN.{pos};
-ghost use lib.Signed.{mag, leZ};
-ghost use Rattle.v0_windows.specs.ByWindow.{residual, Room, length-in, HeadAt, Group};
+ghost use lib.Signed.{mag};
+ghost use Rattle.v0_windows.specs.ByWindow.{residual, Room, length-in, HeadAt, Short, Group};
+ghost use Rattle.rules.specs.V0.{length-bits};
 ghost use Rattle.v0_stream.specs.Lengths.{Within, furthest};
 use fields::field;
 use fields::power;
 use v0_stream::head::step;
 use window::window;
 
-// The bytes that have to be there from the word fetched last on: a block ends at most 569 bits after that word's start.
-pub const BLOCK_BYTES: usize = 76;
+// The bytes that have to be there from the word fetched last on: a block ends at most 569 bits after that word's start, in the
+// eighteenth word, and a window may reach into the next but one.
+pub const BLOCK_BYTES: usize = 80;
 
 // A length after its operation, and how many bits of a window are left after what the operation read.
 struct WindowLength {
@@ -70,59 +70,28 @@ pub fn window_head(src: &[u8], base: usize, q: usize, lengths: [i32; 4]) -> Wind
     }
 }
 
-// Whether a length is the number of its residuals' bits.
-fn is_plain(length: i32) -> bool
-    ensures { λ r. ⌜ r ≡ leZ (pos 0) length && leZ length (pos 32) ⌝ }
+// Whether the residuals of a length are short: four of them lie in one window. With both tests the length is known to be the number of
+// their bits; where it says no, another way reads them.
+fn is_short(length: i32) -> bool
+    ensures { λ r. ⌜ (r ≡ true → length-bits length ≤ 16) ⌝ }
 {
-    0 <= length && length <= 32
+    0 <= length && length <= 16
 }
 
-// A head of plain lengths, or none.
-pub struct PlainHead {
-    pub plain: bool,
-    pub head: WindowHead,
-}
-
-fn no_head() -> PlainHead
-    ensures { λ r. ⌜ r .plain ≡ false ⌝ }
+// Whether all residuals of a block are.
+pub fn are_short(lengths: [i32; 4]) -> bool
+    ensures { λ r. ⌜ (r ≡ true → Short lengths) ⌝ }
 {
-    let head = WindowHead {
-        up: false,
-        lengths: [0; 4],
-        q: 0,
-    };
-    PlainHead { plain: false, head }
-}
-
-// The same head, where its lengths are plain. The tests between them keep the compiler from making all four in one vector: that takes
-// it longer, and each block waits for the lengths of the one before. Where it gives none, the record reads the block.
-pub fn plain_head(src: &[u8], base: usize, q: usize, lengths: [i32; 4]) -> PlainHead
-    requires { ⌜ Room (now src) base q × Within furthest lengths ⌝ }
-    ensures { λ r. ⌜ (r .plain ≡ true → HeadAt (now (src .entry)) base q lengths (r .head)) ⌝ }
-{
-    let v = window(src, base, q);
-    let a = window_length(v, 61, 55, lengths[0]);
-    if !is_plain(a.length) {
-        return no_head();
+    if !is_short(lengths[0]) {
+        return false;
     }
-    let b = window_length(v, 59, a.left, lengths[1]);
-    if !is_plain(b.length) {
-        return no_head();
+    if !is_short(lengths[1]) {
+        return false;
     }
-    let c = window_length(v, 57, b.left, lengths[2]);
-    if !is_plain(c.length) {
-        return no_head();
+    if !is_short(lengths[2]) {
+        return false;
     }
-    let d = window_length(v, 55, c.left, lengths[3]);
-    if !is_plain(d.length) {
-        return no_head();
-    }
-    let head = WindowHead {
-        up: field(v, 63, 1) == 1,
-        lengths: [a.length, b.length, c.length, d.length],
-        q: q + (64 - d.left) as usize,
-    };
-    PlainHead { plain: true, head }
+    is_short(lengths[3])
 }
 
 // The residual that the low n bits of x are. A sum, a remainder and a difference, with no test of the sign.
@@ -149,7 +118,7 @@ pub fn four_at(src: &[u8], base: usize, q: usize, n: u32) -> [u16; 4]
 
 // Four longer ones, two out of each of two windows.
 pub fn four_long_at(src: &[u8], base: usize, q: usize, n: u32) -> [u16; 4]
-    requires { ⌜ (16 < n) × ((n ≤ 32) × ((q < 2 ^ 32) × (base + (q + 2 * n) / 32 * 4 + 12 ≤ length (now src)))) ⌝ }
+    requires { ⌜ (16 < n) × ((n ≤ 32) × ((q < 2 ^ 31) × (base + (q + 2 * n) / 32 * 4 + 12 ≤ length (now src)))) ⌝ }
     ensures { λ r. ⌜ Group (now (src .entry)) base q n r ⌝ }
 {
     let b = window(src, base, q) / power(64 - 2 * n);

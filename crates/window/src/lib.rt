@@ -26,13 +26,14 @@ fn word_there(src: &[u8], at: usize) -> u64
         + wide(src[at + 3]) * 16_777_216
 }
 
-// The 64 bits from bit q on: two words and the first bits of a third, moved up.
+// The 64 bits from bit q on: two words and the first bits of a third, moved up. A short number of the word takes fewer instructions.
 pub fn window(src: &[u8], base: usize, q: usize) -> u64
-    requires { ⌜ base + q / 32 * 4 + 12 ≤ length (now src) ⌝ }
+    requires { ⌜ (q < 2 ^ 32) × (base + q / 32 * 4 + 12 ≤ length (now src)) ⌝ }
     ensures { λ r. ⌜ Window (now (src .entry)) base q r ⌝ }
 {
-    let at = base + q / 32 * 4;
-    let left = (q % 32) as u32;
+    let bit = q as u32;
+    let at = base + (bit / 32) as usize * 4;
+    let left = bit % 32;
     let two = word_there(src, at) * 4_294_967_296 + word_there(src, at + 4);
     let third = word_there(src, at + 8);
     (two << left) + (third << left) / 4_294_967_296

@@ -5,14 +5,17 @@ use Rattle.window.proofs.WindowLaws.{window-of, window-fits}
 use Rattle.window.proofs.window.Statement.{statement}
 use Rattle.window.proofs.window.Tie as tie
 
+cast-bit : tie.Need-cast-bit
+cast-bit c = search needs
+
+cast-at : tie.Need-cast-at
+cast-at c = search needs
+
 mul-at : tie.Need-mul-at
 mul-at c = search needs
 
 add-at : tie.Need-add-at
 add-at c = search needs
-
-cast-left : tie.Need-cast-left
-cast-left c = search needs
 
 word-there-requires : tie.Need-word-there-requires
 word-there-requires c κs = search needs
@@ -65,9 +68,10 @@ pub window-spec : {M : Type 1} → statement M
 window-spec =
     tie.close
     (tie.spec
+    cast-bit
+    cast-at
     mul-at
     add-at
-    cast-left
     word-there-requires
     mul-two
     add-word-there
