@@ -7,8 +7,7 @@ ghost use Rattle.rules.specs.V0 as V0;
 ghost use Rattle.rules.specs.Reader.{has-filler};
 ghost use Rattle.rules.specs.Frame.{cells, ended};
 ghost use Rattle.rules.specs.Map.{with-filler, v0-marks};
-ghost use Rattle.v0_stream.specs.Block.{whole-block};
-ghost use Rattle.v0_windows.specs.ByWindow.{Opened};
+ghost use Rattle.v0_windows.specs.ByWindow.{Ahead, Ends, residuals-of};
 ghost use Rattle.v0_cells.specs.Inner.{inner-ops};
 ghost use Rattle.v0_cells.specs.Places.{InFrame, Inner};
 ghost use Rattle.v0_direct.specs.Lent.{InRow, BlockLent};
@@ -46,23 +45,21 @@ pub fn is_inner(size: Size, row: usize, col: usize) -> bool
     col + V0Row::BLOCK <= size.width
 }
 
-// The residuals after a head that was read by position. Each group is put as it is read, so that few registers hold a block; the four
-// ways stand written out, since the compiler calls a function that would join them.
+// The residuals after a head that was read by position: the bit after them. Each group is put as it is read, so that few registers hold
+// a block; the four ways stand written out, since the compiler calls a function that would join them.
 fn put_groups(
     src: &[u8],
+    base: usize,
+    head: WindowHead,
     size: Size,
     row: usize,
     col: usize,
-    state: V0Row,
-    head: WindowHead,
     out: &mut [u16],
-) -> Bits
-    requires { ⌜ Inner size row col × (Opened (now src) state head × (length (now out) ≡ cells size)) ⌝ }
-    ensures { λ r. ⌜ r ≡ whole-block (now (src .entry)) state .row .bits ⌝ }
-    ensures { λ _. ⌜ now (out .exit) ≡ V0.apply V0.sample-kind (inner-ops (size .width) (row * size .width + col) (head .up) V0.order (whole-block (now (src .entry)) state .residuals)) (now (out .entry)) ⌝ }
+) -> usize
+    requires { ⌜ Ahead (now src) base (head .q) 583 × (Inner size row col × (length (now out) ≡ cells size)) ⌝ }
+    ensures { λ r. ⌜ Ends (now (src .entry)) base head r ⌝ }
+    ensures { λ _. ⌜ now (out .exit) ≡ V0.apply V0.sample-kind (inner-ops (size .width) (row * size .width + col) (head .up) V0.order (residuals-of (now (src .entry)) base head)) (now (out .entry)) ⌝ }
 {
-    let start = state.bits;
-    let base = start.pos as usize - 12;
     let lengths = head.lengths;
     let n0 = residual_length(lengths[0]);
     let n1 = residual_length(lengths[1]);
@@ -98,7 +95,7 @@ fn put_groups(
         four_long_at(src, base, q3, n3)
     };
     put_four(out, w, at, head.up, 9, d);
-    state_at(src, base, q3 + 4 * n3 as usize, start.filler)
+    q3 + 4 * n3 as usize
 }
 
 // An inner block by the record, whatever its state.
@@ -141,12 +138,12 @@ fn decode_inner(
     if stands_within(src, bits, BLOCK_BYTES) {
         let base = bits.pos as usize - 12;
         let head = window_head(src, base, 96 - bits.count as usize, lengths);
-        let end = put_groups(src, size, row, col, state, head, out);
+        let end = put_groups(src, base, head, size, row, col, out);
         mark_block(map, size, row, col, head.up);
         let after = head.lengths;
         return V0Row {
             lengths: after,
-            bits: end,
+            bits: state_at(src, base, end, bits.filler),
         };
     }
     decode_by_record(src, size, row, col, state, out, map)

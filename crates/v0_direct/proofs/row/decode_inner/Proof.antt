@@ -1,11 +1,11 @@
 -- By windows it is the block that the record would read, group by group; where the state does not stand, the record reads it.
+use Prim.Native.Nat.{_-_}
 use native.Mathlib.Omega.{arith}
 use denote.Ref.{now}
 use borrow.Author.Needs.{needs}
 use Rattle.window.specs.Window.{Standing}
-use Rattle.v0_windows.specs.ByWindow.{Opened}
-use Rattle.v0_windows.proofs.GroupLaws.{opened-block}
-use Rattle.v0_windows.proofs.WindowHeadLaws.{head-room}
+use Rattle.v0_windows.specs.ByWindow.{Ahead}
+use Rattle.v0_windows.proofs.GroupLaws.{standing-ahead, ahead-room, after-head, end-room, block-read}
 use Rattle.v0_direct.proofs.InnerLaws.{inner-decoded}
 use Rattle.v0_direct.proofs.row.decode_inner.Statement.{statement}
 use Rattle.v0_direct.proofs.row.decode_inner.Tie as tie
@@ -26,11 +26,11 @@ marked c = c .before .before .before
 abbrev put : tie.After-mark-block → tie.After-put-groups
 put c = c .before .before .before .before
 
-stood : (c : tie.Then1) → Standing (now (start c .args .src)) (start c .args .state .bits) 76
+stood : (c : tie.Then1) → Standing (now (start c .args .src)) (start c .args .state .bits) 80
 stood c = c .before .stands-within .ensures (c .if1 .taken)
 
-opened : (c : tie.After-window-head) → Opened (now (start (standing c) .args .src)) (start (standing c) .args .state) (c .window-head .result)
-opened c = record { stands = stood (standing c); head-at = c .window-head .ensures }
+ahead : (c : tie.After-window-head) → Ahead (now (start (standing c) .args .src)) (start (standing c) .args .state .bits .pos - 12) (c .window-head .result .q) 583
+ahead c = after-head (standing-ahead (stood (standing c))) (c .window-head .ensures)
 
 stands-within-requires : tie.Need-stands-within-requires
 stands-within-requires c κs = search needs
@@ -45,13 +45,18 @@ sub-window-head : tie.Need-sub-window-head
 sub-window-head c = let few = stood (c .before) .few in omega arith
 
 window-head-requires : tie.Need-window-head-requires
-window-head-requires c κs = (head-room (stood (c .before)), start (c .before) .pre .1 .near)
+window-head-requires c κs = (ahead-room (standing-ahead (stood (c .before))), start (c .before) .pre .1 .near)
 
 put-groups-requires : tie.Need-put-groups-requires
-put-groups-requires c κs = let a = start (standing (c .before)) in (a .pre .0, (opened (c .before), a .pre .1 .samples-lent))
+put-groups-requires c κs = let a = start (standing (c .before)) in (ahead (c .before), (a .pre .0, a .pre .1 .samples-lent))
 
 mark-block-requires : tie.Need-mark-block-requires
 mark-block-requires c κs = search needs
+
+state-at-requires : tie.Need-state-at-requires
+state-at-requires c κs =
+    let groups = put (marked c) in let near = ahead (groups .before .before) in let end = groups .put-groups .ensures .0 in
+    (omega (arith, near .late, end .some), (omega (arith, near .soon, end .soon), end-room near end))
 
 same-length : tie.Need-same-length
 same-length c = search needs
@@ -61,12 +66,13 @@ same-length-2 c = search needs
 
 returns : tie.Need-returns
 returns c =
-    let groups = put (marked c) in
+    let groups = put (marked (c .before)) in
     let h = groups .before .before in
     let a = start (standing h) in
-    let x = opened-block (now (a .args .src)) (a .args .state) (h .window-head .result) _ (opened h) (groups .put-groups .ensures .0) in
+    let stands = stood (standing h) in
+    let x = rw (← c .state-at .ensures) at (block-read {st = a .args .state} (stands .is) (h .window-head .ensures) (groups .put-groups .ensures .0)) in
     inner-decoded (now (a .args .src)) (a .args .state) (a .pre .0) _ x _ _ _ _ (groups .put-groups .ensures .1)
-    (marked c .mark-block .ensures)
+    (marked (c .before) .mark-block .ensures)
 
 decode-by-record-requires : tie.Need-decode-by-record-requires
 decode-by-record-requires c κs = search needs
@@ -91,6 +97,7 @@ decode-inner-spec =
     window-head-requires
     put-groups-requires
     mark-block-requires
+    state-at-requires
     same-length
     same-length-2
     returns

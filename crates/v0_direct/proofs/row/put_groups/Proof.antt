@@ -1,11 +1,11 @@
 -- Four groups by position are the residuals that the record reads whole; put one after another, they are the whole block.
-use mathlib.Core.Path.{ap, _∙_}
+use mathlib.Core.Path.{refl, ap, _∙_}
 use Prim.Native.Nat.{_+_, _*_}
 use native.Mathlib.Omega.{arith}
 use denote.Ref.{now}
 use borrow.Author.Needs.{needs}
 use Rattle.rules.specs.V0.{sample-kind, apply, order}
-use Rattle.v0_windows.proofs.GroupLaws.{Planned, plan-made, first-in, second-in, third-in, fourth-in, near, end-room, either-way, groups-made}
+use Rattle.v0_windows.proofs.GroupLaws.{Planned, plan-made, first-in, second-in, third-in, fourth-in, near, ByPosition, either-way, groups-are, groups-end}
 use Rattle.v0_cells.specs.Inner.{inner-ops}
 use Rattle.v0_cells.proofs.InnerLaws.{inner-fits, inner-inside}
 use Rattle.v0_cells.proofs.FourLaws.{fours-put}
@@ -21,7 +21,7 @@ abbrev two-counted : tie.After-residual-length4 → tie.After-residual-length2
 two-counted c = c .before .before .before .before
 
 abbrev start : tie.After-residual-length4 → tie.Start
-start c = after-lengths (two-counted c) .before .before .before .before
+start c = after-lengths (two-counted c) .before .before .before
 
 abbrev counted : tie.After-put-four → tie.After-residual-length4
 counted c = c .before .before .before
@@ -37,14 +37,11 @@ third c = c .before .before .before .before .before
 
 -- The bits of each residual, after a head that stands in the stream.
 planned : (c : tie.After-residual-length4) → (let a = start c .args in
-    Planned (now (a .src)) (a .state) (a .head) (two-counted c .before .before .residual-length .result) (two-counted c .residual-length2 .result) (c .before .before .residual-length3 .result) (c .residual-length4 .result))
+    Planned (now (a .src)) (a .base) (a .head) (two-counted c .before .before .residual-length .result) (two-counted c .residual-length2 .result) (c .before .before .residual-length3 .result) (c .residual-length4 .result))
 planned c =
     let n₂ = c .before .before in let n₁ = two-counted c in let n₀ = n₁ .before .before in
-    plan-made (start c .pre .1 .0) (n₀ .before .residual-length-arg .given) (n₀ .residual-length .ensures) (n₁ .before .residual-length-arg2 .given) (n₁ .residual-length2 .ensures)
+    plan-made (start c .pre .0) (n₀ .before .residual-length-arg .given) (n₀ .residual-length .ensures) (n₁ .before .residual-length-arg2 .given) (n₁ .residual-length2 .ensures)
     (n₂ .before .residual-length-arg3 .given) (n₂ .residual-length3 .ensures) (c .before .residual-length-arg4 .given) (c .residual-length4 .ensures)
-
-sub-base : tie.Need-sub-base
-sub-base c = search needs
 
 array-copy-out-residual-length : tie.Need-array-copy-out-residual-length
 array-copy-out-residual-length c = search needs
@@ -98,10 +95,10 @@ add-q3 : tie.Need-add-q3
 add-q3 c = search needs
 
 mul-at : tie.Need-mul-at
-mul-at c = record { fits = omega (arith, inner-fits (start c .pre .0)) }
+mul-at c = record { fits = omega (arith, inner-fits (start c .pre .1 .0)) }
 
 add-at : tie.Need-add-at
-add-at c = record { fits = omega (arith, inner-fits (start c .pre .0)) }
+add-at c = record { fits = omega (arith, inner-fits (start c .pre .1 .0)) }
 
 four-at-requires : tie.Need-four-at-requires
 four-at-requires c κs = first-in (planned (c .before)) .short (search needs)
@@ -110,7 +107,7 @@ four-long-at-requires : tie.Need-four-long-at-requires
 four-long-at-requires c κs = first-in (planned (c .before)) .long (search needs)
 
 put-four-requires : tie.Need-put-four-requires
-put-four-requires c κs = let i = start (c .before .before) .pre .0 in (inner-inside i _ (search needs), (inner-fits i, omega arith))
+put-four-requires c κs = let i = start (c .before .before) .pre .1 .0 in (inner-inside i _ (search needs), (inner-fits i, omega arith))
 
 four-at-requires-2 : tie.Need-four-at-requires-2
 four-at-requires-2 c κs = second-in (planned (counted (c .before .before .before))) .short (search needs)
@@ -119,7 +116,7 @@ four-long-at-requires-2 : tie.Need-four-long-at-requires-2
 four-long-at-requires-2 c κs = second-in (planned (counted (c .before .before .before))) .long (search needs)
 
 put-four-requires-2 : tie.Need-put-four-requires-2
-put-four-requires-2 c κs = let i = start (counted (c .before .before .before .before)) .pre .0 in (inner-inside i _ (search needs), (inner-fits i, omega arith))
+put-four-requires-2 c κs = let i = start (counted (c .before .before .before .before)) .pre .1 .0 in (inner-inside i _ (search needs), (inner-fits i, omega arith))
 
 four-at-requires-3 : tie.Need-four-at-requires-3
 four-at-requires-3 c κs = third-in (planned (counted (first (c .before .before .before)))) .short (search needs)
@@ -128,7 +125,7 @@ four-long-at-requires-3 : tie.Need-four-long-at-requires-3
 four-long-at-requires-3 c κs = third-in (planned (counted (first (c .before .before .before)))) .long (search needs)
 
 put-four-requires-3 : tie.Need-put-four-requires-3
-put-four-requires-3 c κs = let i = start (counted (first (c .before .before .before .before))) .pre .0 in (inner-inside i _ (search needs), (inner-fits i, omega arith))
+put-four-requires-3 c κs = let i = start (counted (first (c .before .before .before .before))) .pre .1 .0 in (inner-inside i _ (search needs), (inner-fits i, omega arith))
 
 four-at-requires-4 : tie.Need-four-at-requires-4
 four-at-requires-4 c κs = fourth-in (planned (counted (first (second (c .before .before .before))))) .short (search needs)
@@ -137,48 +134,43 @@ four-long-at-requires-4 : tie.Need-four-long-at-requires-4
 four-long-at-requires-4 c κs = fourth-in (planned (counted (first (second (c .before .before .before))))) .long (search needs)
 
 put-four-requires-4 : tie.Need-put-four-requires-4
-put-four-requires-4 c κs = let i = start (counted (first (second (c .before .before .before .before)))) .pre .0 in (inner-inside i _ (search needs), (inner-fits i, omega arith))
+put-four-requires-4 c κs = let i = start (counted (first (second (c .before .before .before .before)))) .pre .1 .0 in (inner-inside i _ (search needs), (inner-fits i, omega arith))
 
-cast-state-at : tie.Need-cast-state-at
-cast-state-at c = search needs
+cast-result : tie.Need-cast-result
+cast-result c = search needs
 
-mul-state-at : tie.Need-mul-state-at
-mul-state-at c = search needs
+mul-result : tie.Need-mul-result
+mul-result c = search needs
 
-add-state-at : tie.Need-add-state-at
-add-state-at c = let n = near (planned (counted (first (second (third (c .before .before)))))) in record { fits = omega arith }
-
-state-at-requires : tie.Need-state-at-requires
-state-at-requires c κs = let x = planned (counted (first (second (third (c .before .before))))) in let n = near x in (omega arith, (omega arith, end-room x _ (omega arith)))
+add-result : tie.Need-add-result
+add-result c = let n = near (planned (counted (first (second (third (c .before .before)))))) in record { fits = omega arith }
 
 same-length : tie.Need-same-length
 same-length c = search needs
 
 returns : tie.Need-returns
 returns c =
-    let p₄ = c .before .before .before in let p₃ = third p₄ in let p₂ = second p₃ in let p₁ = first p₂ in
+    let p₄ = c .before .before in let p₃ = third p₄ in let p₂ = second p₃ in let p₁ = first p₂ in
     let i₁ = p₁ .before .before in let i₂ = p₂ .before .before in let i₃ = p₃ .before .before in let i₄ = p₄ .before .before in
     let a = start (counted p₁) .args in
-    let x = groups-made (now (a .src)) (a .state) (a .head) _ _ _ _ (i₁ .if1 .a) (i₂ .if2 .b) (i₃ .if3 .c) (i₄ .if4 .d) _
-    (record {
+    let x : ByPosition (now (a .src)) (a .base) (a .head) _ _ _ _ (i₁ .if1 .a) (i₂ .if2 .b) (i₃ .if3 .c) (i₄ .if4 .d)
+    = record {
       plan = planned (counted p₁);
       first = either-way (i₁ .if1 .came) (λ _ y. y .ensures) (λ _ y. y .ensures);
       second = either-way (i₂ .if2 .came) (λ _ y. y .ensures) (λ _ y. y .ensures);
       third = either-way (i₃ .if3 .came) (λ _ y. y .ensures) (λ _ y. y .ensures);
       fourth = either-way (i₄ .if4 .came) (λ _ y. y .ensures) (λ _ y. y .ensures);
-    })
-    (c .state-at .ensures) in (
-      x .0,
+    } in (
+      groups-end _ _ _ _ _ _ _ _ _ _ _ x _ refl,
       fours-put sample-kind (a .size .width) (a .row * a .size .width + a .col) (a .head .up) (i₁ .if1 .a) (i₂ .if2 .b) (i₃ .if3 .c) (i₄ .if4 .d)
           (now (a .out)) (p₁ .put-four .last .0) (p₂ .put-four2 .last .0) (p₃ .put-four3 .last .0) (p₄ .put-four4 .last .0) (p₁ .put-four .ensures) (p₂ .put-four2 .ensures) (p₃ .put-four3 .ensures) (p₄ .put-four4 .ensures)
-          ∙ ap (λ r. apply sample-kind (inner-ops (a .size .width) (a .row * a .size .width + a .col) (a .head .up) order r) (now (a .out))) (x .1),
+          ∙ ap (λ r. apply sample-kind (inner-ops (a .size .width) (a .row * a .size .width + a .col) (a .head .up) order r) (now (a .out))) (groups-are _ _ _ _ _ _ _ _ _ _ _ x),
     )
 
 pub put-groups-spec : {M : Type 1} → statement M
 put-groups-spec =
     tie.close
     (tie.spec
-    sub-base
     array-copy-out-residual-length
     residual-length-requires
     array-copy-out-residual-length-2
@@ -210,9 +202,8 @@ put-groups-spec =
     four-at-requires-4
     four-long-at-requires-4
     put-four-requires-4
-    cast-state-at
-    mul-state-at
-    add-state-at
-    state-at-requires
+    cast-result
+    mul-result
+    add-result
     same-length
     returns)
