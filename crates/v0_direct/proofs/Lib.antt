@@ -1,4 +1,5 @@
 pub mod SampleLaws
 pub mod InnerLaws
 pub mod RowLaws
+pub mod RunLaws
 pub mod FrameLaws

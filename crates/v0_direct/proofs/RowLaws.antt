@@ -5,6 +5,7 @@ use mathlib.Core.List.{List, [], _∷_, _++_}
 use Prim.Native.Nat.{ℕ, suc, _+_, _-_, _*_, _/_, _%_, _≤_, _<_}
 use native.Mathlib.Omega.{arith}
 use lib.Dec.{leb}
+use lib.ListN.{length}
 use borrow.Author.Tests.{leb-true}
 use Rattle.rules.specs.Reader.{has-filler}
 use Rattle.rules.specs.Frame.{ended}
@@ -16,8 +17,8 @@ use Rattle.rules.specs.declared.v0.V0Row.{V0Row}
 use Rattle.rules.specs.declared.v0.V0Head.{V0Head}
 use Rattle.v0_stream.specs.Lengths.{Within, furthest}
 use Rattle.v0_cells.specs.Places.{InFrame, Inner}
-use Rattle.v0_direct.specs.Lent.{InRow, BlockLent}
-use Rattle.v0_direct.specs.Block.{samples-of, block-ops, after-block, Decoded}
+use Rattle.v0_direct.specs.Lent.{InRow, BlockLent, RunLent}
+use Rattle.v0_direct.specs.Block.{samples-of, block-ops, after-block, Decoded, BlockRun, none, also, Ran}
 use Rattle.v0_stream.proofs.HeadLaws.{within-more, fresh-within, head-within}
 use Rattle.rules.proofs.V0Cells.{write-plain}
 use Rattle.v0_cells.proofs.CellLaws.{product, blocks-walk, Left, left-begun, left-on, left-none}
@@ -57,6 +58,29 @@ module _ (s : List ℕ) (z : Size) (row col : ℕ) (st : V0Row) where
   unfolding write-all write after-block
   marks-written st′ f g f′ es eg ef = ef ∙ ap₂ (λ b x. ended with-filler 0 (has-filler b) (row * z .width + col) x) (ap (λ x. x .bits) es) eg
 
+-- ── A run, and the block after it ──
+
+-- No run is one.
+pub none-ran : (s : List ℕ) {z : Size} {row col : ℕ} {st : V0Row} {out map : List ℕ} → InFrame z row col → RunLent z col (st .lengths) out map → Ran s z row col st out map col st out map
+none-ran s i l = record { blocks = none; on = omega arith; whole = i .block; near = l .near }
+
+module _ {s : List ℕ} {z : Size} {row col : ℕ} {st : V0Row} {out map : List ℕ} {col′ : ℕ} {st′ : V0Row} {out′ map′ : List ℕ}
+    (i : InFrame z row col) (more : col′ < z .width) (x : Ran s z row col st out map col′ st′ out′ map′) where
+  -- The block after it lies in the frame, its lengths near enough to 0.
+  pub block-after : RunLent z col (st .lengths) out map → length out′ ≡ length out → length map′ ≡ length map → InFrame z row col′ × BlockLent z (st′ .lengths) out′ map′
+  block-after l so sm = (
+    record { width = i .width; height = i .height; row-in = i .row-in; col-in = more; block = x .whole },
+    record {
+      near = within-more (15 + col′ / 16) furthest (st′ .lengths) (omega (arith, i .width)) (x .near);
+      samples-lent = so ∙ l .samples-lent;
+      map-lent = rw sm (l .map-lent);
+    },
+  )
+
+  pub ran-on : {st″ : V0Row} {out″ marked map″ : List ℕ} → Decoded s z row col′ st′ out′ map′ st″ out″ marked
+      → map″ ≡ ended with-filler 0 (has-filler (st″ .bits)) (row * z .width + col′) marked → (col < col′ + 16) × BlockRun s z row col st out map (col′ + 16) st″ out″ map″
+  ran-on d e = (omega (arith, x .on), also (x .blocks) more d e)
+
 -- ── The blocks of a row ──
 
 -- What is left of a row from a column on.
@@ -91,16 +115,12 @@ module _ (s : List ℕ) (z : Size) (row offset : ℕ) (out₀ map₀ : List ℕ)
   pub places-fit : InRow z row out₀ map₀ → row * z .width ≤ 268_550_144
   places-fit i = product row (z .width) (omega (arith, i .row-in, i .height)) (omega (arith, i .width))
 
-  -- A block that the row still has lies in the frame, its lengths near enough to 0.
+  -- A block that the row still has lies in the frame.
   pub row-block : (out map : List ℕ) (st : V0Row) (col : ℕ) → col < z .width → InRow z row out₀ map₀ → Rowing s z row offset out₀ out map₀ map st col
-      → InFrame z row col × BlockLent z (st .lengths) out map
+      → InFrame z row col × RunLent z col (st .lengths) out map
   row-block out map st col l i r = (
     record { width = i .width; height = i .height; row-in = i .row-in; col-in = l; block = r .whole },
-    record {
-      near = within-more (15 + col / 16) furthest (st .lengths) (omega (arith, i .width)) (r .near);
-      samples-lent = r .samples-left .same-length ∙ i .samples-lent;
-      map-lent = rw (r .marks-left .same-length) (i .map-lent);
-    },
+    record { near = r .near; samples-lent = r .samples-left .same-length ∙ i .samples-lent; map-lent = rw (r .marks-left .same-length) (i .map-lent) },
   )
 
   pub rowing-on : (out out′ map marked map′ : List ℕ) (st st′ : V0Row) (col : ℕ) → col < z .width → Decoded s z row col st out map st′ out′ marked
@@ -132,6 +152,11 @@ module _ (s : List ℕ) (z : Size) (row offset : ℕ) (out₀ map₀ : List ℕ)
       on =
           ap (λ n. blocks s (row * z .width) (predictor z row) n col st .bits) more
           ∙ ap (λ x. rest-of s z row (col + 16) x .bits) (sym (d .state))
+
+  pub rowing-blocks : {out map out′ map′ : List ℕ} {st st′ : V0Row} {col col′ : ℕ} → BlockRun s z row col st out map col′ st′ out′ map′
+      → Rowing s z row offset out₀ out map₀ map st col → Rowing s z row offset out₀ out′ map₀ map′ st′ col′
+  rowing-blocks none r = r
+  rowing-blocks (also x l d e) r = rowing-on _ _ _ _ _ _ _ _ l d e (rowing-blocks x r)
 
   -- From the row's end on nothing is left.
   none-left : (st : V0Row) (col : ℕ) → z .width ≤ col → rest-of s z row col st ≡ record { blocks = []; bits = st .bits }

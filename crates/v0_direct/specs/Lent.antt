@@ -1,5 +1,5 @@
 -- What the direct decoder is lent: a whole frame, a row of it, and a block.
-use Prim.Native.Nat.{ℕ, _≤_, _<_}
+use Prim.Native.Nat.{ℕ, _+_, _/_, _≤_, _<_}
 use mathlib.Core.Path.{_≡_}
 use mathlib.Core.List.{List}
 use lib.IntN.{ℤ}
@@ -28,5 +28,11 @@ pub record InRow (z : Size) (row : ℕ) (out map : List ℕ) : Type 0 where
 -- A block of such a frame, by a row's lengths that are near enough to 0 for one more block.
 pub record BlockLent (z : Size) (ls : List ℤ) (out map : List ℕ) : Type 0 where
   pub near : Within furthest ls
+  pub samples-lent : length out ≡ cells z
+  pub map-lent : Whole z map
+
+-- A run of blocks from a column on, by lengths as near to 0 as they are there.
+pub record RunLent (z : Size) (col : ℕ) (ls : List ℤ) (out map : List ℕ) : Type 0 where
+  pub near : Within (15 + col / 16) ls
   pub samples-lent : length out ≡ cells z
   pub map-lent : Whole z map

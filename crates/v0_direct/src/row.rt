@@ -10,8 +10,10 @@ ghost use Rattle.rules.specs.Map.{with-filler, v0-marks};
 ghost use Rattle.v0_windows.specs.ByWindow.{Ahead, Ends, residuals-of};
 ghost use Rattle.v0_cells.specs.Inner.{inner-ops};
 ghost use Rattle.v0_cells.specs.Places.{InFrame, Inner};
-ghost use Rattle.v0_direct.specs.Lent.{InRow, BlockLent};
-ghost use Rattle.v0_direct.specs.Block.{Decoded};
+ghost use Rattle.v0_direct.specs.Lent.{InRow, BlockLent, RunLent};
+ghost use Rattle.v0_direct.specs.Block.{Decoded, BlockRun};
+use super::run::Run;
+use super::run::decode_run;
 use super::sample::decode_samples;
 use maps::fill_block;
 use rules::Bits;
@@ -183,6 +185,35 @@ fn end_block(map: &mut [u8], place: usize, bits: Bits)
     fill_block(map, place);
 }
 
+// A run of blocks from a column on, and the block after it, if the row has one more.
+fn decode_blocks(
+    src: &[u8],
+    size: Size,
+    row: usize,
+    col: usize,
+    state: V0Row,
+    out: &mut [u16],
+    map: &mut [u8],
+) -> Run
+    requires { ⌜ InFrame size row col × RunLent size col (state .lengths) (now out) (now map) ⌝ }
+    ensures { λ r. ⌜ (col < r .col) × BlockRun (now (src .entry)) size row col state (now (out .entry)) (now (map .entry)) (r .col) (r .state) (now (out .exit)) (now (map .exit)) ⌝ }
+{
+    let run = decode_run(src, size, row, col, state, out, map);
+    let next = run.col;
+    let before = run.state;
+    let w = size.width;
+    if w <= next {
+        return run;
+    }
+    let state = decode_block(src, size, row, next, before, out, map);
+    let bits = state.bits;
+    end_block(map, row * w + next, bits);
+    Run {
+        col: next + V0Row::BLOCK,
+        state,
+    }
+}
+
 // A row whose data begins at an offset of the stream: how many words were missing in it.
 pub fn decode_row(
     src: &[u8],
@@ -201,10 +232,9 @@ pub fn decode_row(
     let mut state = V0Row::fresh(row, offset);
     let mut col: usize = 0;
     while col < w {
-        state = decode_block(src, size, row, col, state, out, map);
-        let after = state.bits;
-        end_block(map, row * w + col, after);
-        col += V0Row::BLOCK;
+        let blocks = decode_blocks(src, size, row, col, state, out, map);
+        state = blocks.state;
+        col = blocks.col;
     }
     let bits = state.bits;
     bits.filler

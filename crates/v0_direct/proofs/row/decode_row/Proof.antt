@@ -4,7 +4,7 @@ use native.Mathlib.Omega.{arith}
 use borrow.Author.Needs.{needs}
 use Rattle.rules.specs.V0.{sample-kind}
 use Rattle.rules.specs.Map.{v0-marks}
-use Rattle.v0_direct.proofs.RowLaws.{Rowing, rowing-begun, places-fit, row-block, rowing-on, rowed, row-read}
+use Rattle.v0_direct.proofs.RowLaws.{Rowing, rowing-begun, row-block, rowing-blocks, rowed, row-read}
 use Rattle.v0_direct.proofs.row.decode_row.Statement.{statement}
 use Rattle.v0_direct.proofs.row.decode_row.Tie as tie
 
@@ -18,11 +18,8 @@ abbrev μ-loop : tie.MeasureT-loop
 abbrev at-start : tie.At-loop Inv-loop μ-loop → tie.Start Inv-loop μ-loop
 at-start c = c .before .before .before .before .before
 
-abbrev at-loop : tie.After-decode-block-arg2 Inv-loop μ-loop → tie.At-loop Inv-loop μ-loop
-at-loop c = c .before .before .before
-
-abbrev after-decode-block : tie.After-slice-known4 Inv-loop μ-loop → tie.After-decode-block Inv-loop μ-loop
-after-decode-block c = c .before .before .before .before
+abbrev decoded : tie.After-slice-known4 Inv-loop μ-loop → tie.After-decode-blocks Inv-loop μ-loop
+decoded c = c .before .before .before .before
 
 fresh-requires : tie.Need-fresh-requires Inv-loop μ-loop
 fresh-requires c κs = search needs
@@ -30,32 +27,18 @@ fresh-requires c κs = search needs
 loop-holds : tie.Need-loop-holds Inv-loop μ-loop
 loop-holds c = rowing-begun _ (c .before .before .before .before .args .size) _ _ _ _ _ (c .fresh .ensures)
 
-decode-block-requires : tie.Need-decode-block-requires Inv-loop μ-loop
-decode-block-requires c κs = let a = at-start (at-loop c) in let l = at-loop c .loop in row-block (a .args .src .now) (a .args .size) (a .args .row) (a .args .offset) (a .args .out .now) (a .args .map .now) (l .out) (l .map) (l .state) (l .col) (omega arith) (a .pre) (l .inv)
-
-mul-end-block : tie.Need-mul-end-block Inv-loop μ-loop
-mul-end-block c = let a = at-start (at-loop (after-decode-block (c .before .before) .before)) in omega (arith, a .pre .width, places-fit (a .args .src .now) (a .args .size) (a .args .row) (a .args .offset) (a .args .out .now) (a .args .map .now) (a .pre))
-
-add-end-block : tie.Need-add-end-block Inv-loop μ-loop
-add-end-block c = let a = at-start (at-loop (after-decode-block (c .before .before) .before)) in omega (arith, a .pre .width, places-fit (a .args .src .now) (a .args .size) (a .args .row) (a .args .offset) (a .args .out .now) (a .args .map .now) (a .pre))
-
-end-block-requires : tie.Need-end-block-requires Inv-loop μ-loop
-end-block-requires c κs = let a = at-start (at-loop (after-decode-block (c .before .before) .before)) in omega (arith, a .pre .width, places-fit (a .args .src .now) (a .args .size) (a .args .row) (a .args .offset) (a .args .out .now) (a .args .map .now) (a .pre))
-
-add-col : tie.Need-add-col Inv-loop μ-loop
-add-col c = omega arith
+decode-blocks-requires : tie.Need-decode-blocks-requires Inv-loop μ-loop
+decode-blocks-requires c κs =
+    let p = c .before .before .before in let a = at-start p in let l = p .loop in
+    row-block (a .args .src .now) (a .args .size) (a .args .row) (a .args .offset) (a .args .out .now) (a .args .map .now) (l .out) (l .map) (l .state) (l .col) (omega arith) (a .pre) (l .inv)
 
 loop-less : tie.Need-loop-less Inv-loop μ-loop
-loop-less c = omega arith
+loop-less c = let on = decoded (c .before) .decode-blocks .ensures .0 in omega arith
 
 loop-again : tie.Need-loop-again Inv-loop μ-loop
 loop-again c =
-    let x = after-decode-block (c .before .before .before .before .before) in
-    let p = at-loop (x .before) in
-    let a = at-start p .args in
-    let l = p .loop in
-    rowing-on (a .src .now) (a .size) (a .row) (a .offset) (a .out .now) (a .map .now) (l .out) _ (l .map) _ _ (l .state) _ (l .col) (omega arith)
-    (x .decode-block .ensures) (c .before .before .end-block .ensures) (l .inv)
+    let x = decoded (c .before) in let p = x .before .before .before .before in let a = at-start p .args in
+    rowing-blocks (a .src .now) (a .size) (a .row) (a .offset) (a .out .now) (a .map .now) (x .decode-blocks .ensures .1) (p .loop .inv)
 
 same-length : tie.Need-same-length Inv-loop μ-loop
 same-length c = search needs
@@ -80,11 +63,7 @@ decode-row-spec =
     μ-loop
     fresh-requires
     loop-holds
-    decode-block-requires
-    mul-end-block
-    add-end-block
-    end-block-requires
-    add-col
+    decode-blocks-requires
     loop-less
     loop-again
     same-length

@@ -1,0 +1,132 @@
+// A run: inner blocks of short lengths one after another, by position. The reader's record is made after the last of them, and every
+// other way leaves the loop, so that the compiler keeps what a block needs in registers.
+ghost use mathlib.Core.Path.{_≡_};
+ghost use Prim.Native.Nat.{_+_, _*_};
+ghost use lib.ListN.{length};
+ghost use Rattle.rules.specs.V0 as V0;
+ghost use Rattle.rules.specs.Frame.{cells};
+ghost use Rattle.window.specs.Window.{Standing};
+ghost use Rattle.v0_windows.specs.ByWindow.{Ahead, Short, Ends, residuals-of};
+ghost use Rattle.v0_cells.specs.Inner.{inner-ops};
+ghost use Rattle.v0_cells.specs.Places.{InFrame, Inner};
+ghost use Rattle.v0_direct.specs.Lent.{RunLent};
+ghost use Rattle.v0_direct.specs.Block.{Ran};
+use super::row::is_inner;
+use rules::Size;
+use rules::V0Row;
+use v0_cells::inner::mark_block;
+use v0_cells::inner::put_four;
+use v0_stream::block::residual_length;
+use v0_windows::BLOCK_BYTES;
+use v0_windows::WindowHead;
+use v0_windows::are_short;
+use v0_windows::four_at;
+use v0_windows::window_head;
+use window::stands_within;
+use window::state_at;
+
+// Where a run ends: the column after its last block, and the row's state there.
+pub struct Run {
+    pub col: usize,
+    pub state: V0Row,
+}
+
+// The residuals after a head by position, all of them short: the bit after them.
+fn put_short(
+    src: &[u8],
+    base: usize,
+    head: WindowHead,
+    size: Size,
+    row: usize,
+    col: usize,
+    out: &mut [u16],
+) -> usize
+    requires { ⌜ Short (head .lengths) × (Ahead (now src) base (head .q) 583 × (Inner size row col × (length (now out) ≡ cells size))) ⌝ }
+    ensures { λ r. ⌜ Ends (now (src .entry)) base head r ⌝ }
+    ensures { λ _. ⌜ now (out .exit) ≡ V0.apply V0.sample-kind (inner-ops (size .width) (row * size .width + col) (head .up) V0.order (residuals-of (now (src .entry)) base head)) (now (out .entry)) ⌝ }
+{
+    let lengths = head.lengths;
+    let n0 = residual_length(lengths[0]);
+    let n1 = residual_length(lengths[1]);
+    let n2 = residual_length(lengths[2]);
+    let n3 = residual_length(lengths[3]);
+    let q0 = head.q;
+    let q1 = q0 + 4 * n0 as usize;
+    let q2 = q1 + 4 * n1 as usize;
+    let q3 = q2 + 4 * n2 as usize;
+    let w = size.width;
+    let at = row * w + col;
+    let a = four_at(src, base, q0, n0);
+    put_four(out, w, at, head.up, 0, a);
+    let b = four_at(src, base, q1, n1);
+    put_four(out, w, at, head.up, 8, b);
+    let c = four_at(src, base, q2, n2);
+    put_four(out, w, at, head.up, 1, c);
+    let d = four_at(src, base, q3, n3);
+    put_four(out, w, at, head.up, 9, d);
+    q3 + 4 * n3 as usize
+}
+
+// The run from an inner block on, where the row's state stands in the stream and no word was missing.
+fn short_run(
+    src: &[u8],
+    size: Size,
+    row: usize,
+    from: usize,
+    state: V0Row,
+    out: &mut [u16],
+    map: &mut [u8],
+) -> Run
+    requires { ⌜ Inner size row from × ((state .bits .filler ≡ 0) × (Standing (now src) (state .bits) 80 × RunLent size from (state .lengths) (now out) (now map))) ⌝ }
+    ensures { λ r. ⌜ Ran (now (src .entry)) size row from state (now (out .entry)) (now (map .entry)) (r .col) (r .state) (now (out .exit)) (now (map .exit)) ⌝ }
+{
+    let bits = state.bits;
+    let base = bits.pos as usize - 12;
+    let last = src.len() - base - 77;
+    let w = size.width;
+    let mut q = 96 - bits.count as usize;
+    let mut lengths = state.lengths;
+    let mut col = from;
+    while col + V0Row::BLOCK <= w && q / 8 <= last {
+        let head = window_head(src, base, q, lengths);
+        let after = head.lengths;
+        if !are_short(after) {
+            break;
+        }
+        q = put_short(src, base, head, size, row, col, out);
+        mark_block(map, size, row, col, head.up);
+        lengths = after;
+        col += V0Row::BLOCK;
+    }
+    let state = V0Row {
+        lengths,
+        bits: state_at(src, base, q, 0),
+    };
+    Run { col, state }
+}
+
+// The run from a block on, of which there may be none: it begins at an inner block, after short lengths, where the record stands in the
+// stream and no word was missing.
+pub fn decode_run(
+    src: &[u8],
+    size: Size,
+    row: usize,
+    col: usize,
+    state: V0Row,
+    out: &mut [u16],
+    map: &mut [u8],
+) -> Run
+    requires { ⌜ InFrame size row col × RunLent size col (state .lengths) (now out) (now map) ⌝ }
+    ensures { λ r. ⌜ Ran (now (src .entry)) size row col state (now (out .entry)) (now (map .entry)) (r .col) (r .state) (now (out .exit)) (now (map .exit)) ⌝ }
+{
+    let bits = state.bits;
+    let lengths = state.lengths;
+    if is_inner(size, row, col)
+        && bits.filler == 0
+        && are_short(lengths)
+        && stands_within(src, bits, BLOCK_BYTES)
+    {
+        return short_run(src, size, row, col, state, out, map);
+    }
+    Run { col, state }
+}
