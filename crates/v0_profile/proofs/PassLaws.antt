@@ -15,6 +15,7 @@ use Rattle.rules.proofs.ReaderLaws.{read-residual-is}
 use Rattle.window.specs.Window.{state-at}
 use Rattle.window.proofs.WindowLaws.{leaves}
 use Rattle.v0_stream.specs.Block.{with-residuals, whole-block}
+use Rattle.v0_windows.specs.ByWindow.{HeadAt, head-of}
 use Rattle.v0_windows.specs.declared.WindowHead.{WindowHead}
 use Rattle.v0_stream.proofs.BlockLaws.{bits-few-enough}
 use Rattle.v0_windows.proofs.GroupLaws.{Planned, near}
@@ -47,19 +48,14 @@ four-each ls = omega arith
 -- ── The block ──
 
 -- A head by position, and the record as many bits after it as the residuals have: what the record that reads the block leaves.
-pub passed : (s : List ℕ) (st : V0Row) (h : WindowHead) (n₀ n₁ n₂ n₃ : ℕ) (after : Bits) → Planned s st h n₀ n₁ n₂ n₃
-    → after ≡ state-at s (st .bits .pos - 12) (h .q + 4 * (n₀ + n₁ + n₂ + n₃)) (st .bits .filler)
+pub passed : {s : List ℕ} {base q f : ℕ} {st : V0Row} {h : WindowHead} {n₀ n₁ n₂ n₃ : ℕ} {after : Bits} → st .bits ≡ state-at s base q f → HeadAt s base q (st .lengths) h
+    → Planned s base h n₀ n₁ n₂ n₃ → after ≡ state-at s base (h .q + 4 * (n₀ + n₁ + n₂ + n₃)) f
     → _≡_ {A = V0Head} (record { up = h .up; row = record { lengths = h .lengths; bits = after } }) (record { up = whole-block s st .up; row = whole-block s st .row })
 unfolding whole-block with-residuals
-passed s st h n₀ n₁ n₂ n₃ after x ea =
-    let base : ℕ = st .bits .pos - 12 in
-    let f : ℕ = st .bits .filler in
+passed {s} {base} {q} {f} {st} {h} {n₀} {n₁} {n₂} {n₃} eb at x ea =
     let n = near x in
-    let there : base + 84 ≤ length s = x .opened .stands .there in
-    let far : base + 84 < 2 ^ 64 = x .opened .stands .far in
-    let y : V0Head = record { up = h .up; row = record { lengths = h .lengths; bits = state-at s base (h .q) f } } in
-    let stood : record { lengths = st .lengths; bits = state-at s base (96 - st .bits .count) f } ≡ st
-    = ap (λ (z : Bits). record { lengths = st .lengths; bits = z }) (sym (x .opened .stands .is)) in
-    let read : y ≡ head s st = sym (x .opened .head-at .reads f) ∙ ap (head s) stood in
+    let there : base * 8 + h .q + 583 ≤ length s * 8 = x .ahead .there in
+    let far : base * 8 + h .q + 583 < 2 ^ 67 = x .ahead .far in
+    let read : head-of s base f h ≡ head s st = sym (at .reads f) ∙ ap (λ (z : Bits). head s (record { lengths = st .lengths; bits = z })) (sym eb) in
     let bits : bits-of (h .lengths) order ≡ 4 * (n₀ + n₁ + n₂ + n₃) = four-each (h .lengths) ∙ rw (x .is₀, x .is₁, x .is₂, x .is₃) in
     rw (ea, ← read, residuals-leave s (h .lengths) order base (h .q) f (omega arith) (omega (arith, bits)) (omega (arith, bits)), bits)

@@ -1,12 +1,12 @@
 -- Where the record stands the head tells how many bits the residuals have, and so where the record that reads them would stand after
 -- them; else the record reads them.
 use mathlib.Core.Path.{ap}
+use Prim.Native.Nat.{_-_}
 use native.Mathlib.Omega.{arith}
 use denote.Ref.{now}
 use borrow.Author.Needs.{needs}
 use Rattle.window.specs.Window.{Standing}
-use Rattle.v0_windows.proofs.GroupLaws.{Planned, plan-made, near, end-room}
-use Rattle.v0_windows.proofs.WindowHeadLaws.{head-room}
+use Rattle.v0_windows.proofs.GroupLaws.{Planned, plan-made, near, standing-ahead, ahead-room, after-head}
 use Rattle.v0_profile.proofs.PassLaws.{passed}
 use Rattle.v0_profile.proofs.pass_block.Statement.{statement}
 use Rattle.v0_profile.proofs.pass_block.Tie as tie
@@ -25,15 +25,15 @@ abbrev headed : tie.After-residual-length4 → tie.After-window-head
 headed c = counted (c .before .before) .before .before .before
 
 -- The record stands in the stream.
-stood : (c : tie.Then1) → Standing (now (start c .args .src)) (start c .args .state .bits) 76
+stood : (c : tie.Then1) → Standing (now (start c .args .src)) (start c .args .state .bits) 80
 stood c = c .before .stands-within .ensures (c .if1 .taken)
 
 -- Its head is read, and the bits of each residual are known.
 planned : (c : tie.After-residual-length4) → (let a = start (standing (headed c)) .args in
-    Planned (now (a .src)) (a .state) (headed c .window-head .result) (counted (c .before .before) .residual-length .result) (c .before .before .before .before .residual-length2 .result) (c .before .before .residual-length3 .result) (c .residual-length4 .result))
+    Planned (now (a .src)) (a .state .bits .pos - 12) (headed c .window-head .result) (counted (c .before .before) .residual-length .result) (c .before .before .before .before .residual-length2 .result) (c .before .before .residual-length3 .result) (c .residual-length4 .result))
 planned c =
     let n₂ = c .before .before in let n₁ = n₂ .before .before in let n₀ = n₁ .before .before in
-    plan-made (record { stands = stood (standing (headed c)); head-at = headed c .window-head .ensures }) (n₀ .before .residual-length-arg .given) (n₀ .residual-length .ensures)
+    plan-made (after-head (standing-ahead (stood (standing (headed c)))) (headed c .window-head .ensures)) (n₀ .before .residual-length-arg .given) (n₀ .residual-length .ensures)
     (n₁ .before .residual-length-arg2 .given) (n₁ .residual-length2 .ensures) (n₂ .before .residual-length-arg3 .given) (n₂ .residual-length3 .ensures)
     (c .before .residual-length-arg4 .given) (c .residual-length4 .ensures)
 
@@ -50,7 +50,7 @@ sub-window-head : tie.Need-sub-window-head
 sub-window-head c = let few = stood (c .before) .few in omega arith
 
 window-head-requires : tie.Need-window-head-requires
-window-head-requires c κs = (head-room (stood (c .before)), start (c .before) .pre)
+window-head-requires c κs = (ahead-room (standing-ahead (stood (c .before))), start (c .before) .pre)
 
 array-copy-out-residual-length : tie.Need-array-copy-out-residual-length
 array-copy-out-residual-length c = search needs
@@ -95,10 +95,10 @@ add-end-4 : tie.Need-add-end-4
 add-end-4 c = search needs
 
 state-at-requires : tie.Need-state-at-requires
-state-at-requires c κs = let x = planned (c .before) in let n = near x in (omega arith, (omega arith, end-room x _ (omega arith)))
+state-at-requires c κs = let x = planned (c .before) in let n = near x in let there = x .ahead .there in (omega arith, (omega arith, omega arith))
 
 returns : tie.Need-returns
-returns c = let n = c .before .before in let a = start (standing (headed n)) .args in passed (now (a .src)) (a .state) _ _ _ _ _ _ (planned n) (c .state-at .ensures)
+returns c = let n = c .before .before in let a = start (standing (headed n)) .args in passed {st = a .state} (stood (standing (headed n)) .is) (headed n .window-head .ensures) (planned n) (c .state-at .ensures)
 
 read-block-requires : tie.Need-read-block-requires
 read-block-requires c κs = search needs
