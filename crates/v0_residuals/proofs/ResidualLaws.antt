@@ -12,9 +12,13 @@ use lib.Seq.{drop-cons, take-suc-set, append-snoc, drop-set-lt}
 use borrow.Author.Tests.{lt-ltb, le-ltb}
 use Rattle.rules.specs.V0.{order, fresh-row, blocks-in}
 use Rattle.rules.specs.Phases.{BlockRecord, block-records, row-records, store-samples, store-blocks, direction}
+use Rattle.rules.specs.declared.reader.Bits.{Bits}
 use Rattle.rules.specs.declared.v0.V0Row.{V0Row}
 use Rattle.v0_stream.specs.Block.{with-residuals, whole-block}
-use Rattle.v0_windows.specs.ByWindow.{joined}
+use Rattle.window.specs.Window.{state-at}
+use Rattle.v0_windows.specs.ByWindow.{joined, HeadAt, Ends, residuals-of}
+use Rattle.v0_windows.specs.declared.WindowHead.{WindowHead}
+use Rattle.v0_windows.proofs.GroupLaws.{block-read}
 use Rattle.v0_stream.specs.Lengths.{Within, furthest}
 use Rattle.v0_stream.specs.declared.block.ReadBlock.{ReadBlock}
 use Rattle.v0_stream.proofs.BlockLaws.{block-within}
@@ -106,6 +110,14 @@ block-parsed s st b w k d out out′ dirs e eo ed = record {
   residuals = eo ∙ ap (λ r. store-samples 0 w (k * 16) order (r .residuals) out) e;
   directions = ap (set dirs k) (ed ∙ ap (λ r. cond (r .up) 1 0) e);
 }
+
+-- So is one by position, from a head and the residuals after it, once its state is made again.
+pub position-parsed : {s : List ℕ} {base q p f : ℕ} {st : V0Row} {h : WindowHead} {w k d : ℕ} {out out′ dirs : List ℕ} {b : Bits}
+    → st .bits ≡ state-at s base q f → HeadAt s base q (st .lengths) h → Ends s base h p
+    → out′ ≡ store-samples 0 w (k * 16) order (residuals-of s base h) out → d ≡ cond (h .up) 1 0 → b ≡ state-at s base p f
+    → Parsed s st w k out dirs (record { lengths = h .lengths; bits = b }) out′ (set dirs k d)
+position-parsed {s} {st = st} {w = w} {k = k} {d = d} {out = out} {out′ = out′} {dirs = dirs} es head ends eo ed eb =
+    rw eb (block-parsed s st _ w k d out out′ dirs (block-read es head ends) eo ed)
 
 -- ── A row's blocks ──
 

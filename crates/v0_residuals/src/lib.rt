@@ -8,12 +8,10 @@ ghost use lib.ListN.{length, getD, set, drop};
 ghost use Rattle.rules.specs.V0.{order, blocks-in};
 ghost use Rattle.rules.specs.Answer.{scratch-bytes};
 ghost use Rattle.rules.specs.Phases.{store-samples, store-blocks, row-records, direction, phase-one, scratch};
-ghost use Rattle.v0_stream.specs.Block.{whole-block};
-ghost use Rattle.v0_windows.specs.ByWindow.{Opened};
+ghost use Rattle.v0_windows.specs.ByWindow.{Ahead, Ends, residuals-of};
 ghost use Rattle.v0_cells.specs.Places.{PhaseLent};
 ghost use Rattle.v0_residuals.specs.Lent.{RowLent, BlockLent};
 ghost use Rattle.v0_residuals.specs.Parsed.{Parsed};
-use rules::Bits;
 use rules::Size;
 use rules::V0Row;
 use v0_stream::block::read_block;
@@ -23,7 +21,7 @@ use v0_windows::BLOCK_BYTES;
 use v0_windows::WindowHead;
 use v0_windows::four_at;
 use v0_windows::four_long_at;
-use v0_windows::plain_head;
+use v0_windows::window_head;
 use window::stands_within;
 use window::state_at;
 
@@ -93,22 +91,21 @@ fn store_four(out: &mut [u16], i: usize, four: [u16; 4])
     out[i + 6] = four[3];
 }
 
-// The residuals after a head that was read by position, to the block at a column within its row. Each group is stored as it is read,
-// so that few registers hold a block; the four ways stand written out, since the compiler calls a function that would join them.
+// The residuals after a head that was read by position, to the block at a column within its row; and the bit after them. Each group
+// is stored as it is read, so that few registers hold a block; the four ways stand written out, since the compiler calls a function
+// that would join them.
 fn store_groups(
     src: &[u8],
-    row: V0Row,
+    base: usize,
     head: WindowHead,
     out: &mut [u16],
     width: usize,
     col: usize,
-) -> Bits
-    requires { ⌜ Opened (now src) row head × ((width ≤ length (now out)) × ((col + 16 ≤ width) × (width ≤ 16_384))) ⌝ }
-    ensures { λ r. ⌜ r ≡ whole-block (now (src .entry)) row .row .bits ⌝ }
-    ensures { λ _. ⌜ now (out .exit) ≡ store-samples 0 width col order (whole-block (now (src .entry)) row .residuals) (now (out .entry)) ⌝ }
+) -> usize
+    requires { ⌜ Ahead (now src) base (head .q) 583 × ((width ≤ length (now out)) × ((col + 16 ≤ width) × (width ≤ 16_384))) ⌝ }
+    ensures { λ r. ⌜ Ends (now (src .entry)) base head r ⌝ }
+    ensures { λ _. ⌜ now (out .exit) ≡ store-samples 0 width col order (residuals-of (now (src .entry)) base head) (now (out .entry)) ⌝ }
 {
-    let start = row.bits;
-    let base = start.pos as usize - 12;
     let lengths = head.lengths;
     let n0 = residual_length(lengths[0]);
     let n1 = residual_length(lengths[1]);
@@ -142,7 +139,7 @@ fn store_groups(
         four_long_at(src, base, q3, n3)
     };
     store_four(out, col + 9, d);
-    state_at(src, base, q3 + 4 * n3 as usize, start.filler)
+    q3 + 4 * n3 as usize
 }
 
 // Block k of a row by the record, whatever its state.
@@ -164,8 +161,7 @@ fn parse_by_record(
     block.row
 }
 
-// Block k of a row: its residuals and its direction, by windows where it lies within the row, its lengths are plain, and the record
-// stands in the stream.
+// Block k of a row: its residuals and its direction, by windows where it lies within the row and the record stands in the stream.
 fn parse_block(
     src: &[u8],
     row: V0Row,
@@ -182,14 +178,14 @@ fn parse_block(
     let col = k * V0Row::BLOCK;
     if col + V0Row::BLOCK <= width && stands_within(src, bits, BLOCK_BYTES) {
         let base = bits.pos as usize - 12;
-        let x = plain_head(src, base, 96 - bits.count as usize, before);
-        if x.plain {
-            let head = x.head;
-            let end = store_groups(src, row, head, out, width, col);
-            dirs[k] = direction_byte(head.up);
-            let lengths = head.lengths;
-            return V0Row { lengths, bits: end };
-        }
+        let head = window_head(src, base, 96 - bits.count as usize, before);
+        let end = store_groups(src, base, head, out, width, col);
+        dirs[k] = direction_byte(head.up);
+        let lengths = head.lengths;
+        return V0Row {
+            lengths,
+            bits: state_at(src, base, end, bits.filler),
+        };
     }
     parse_by_record(src, row, width, k, out, dirs)
 }

@@ -1,19 +1,19 @@
 -- The head tells the bits of each residual, so each group is the one that the record would read from there on; stored one after another
 -- they are the block's.
-use mathlib.Core.Path.{ap, _∙_}
+use mathlib.Core.Path.{refl, ap, _∙_}
 use native.Mathlib.Omega.{arith}
 use denote.Ref.{now}
 use borrow.Author.Needs.{needs}
 use Rattle.rules.specs.V0.{order}
 use Rattle.rules.specs.Phases.{store-samples}
-use Rattle.v0_windows.proofs.GroupLaws.{Planned, plan-made, first-in, second-in, third-in, fourth-in, near, end-room, either-way, groups-made}
+use Rattle.v0_windows.proofs.GroupLaws.{Planned, plan-made, first-in, second-in, third-in, fourth-in, near, ByPosition, either-way, groups-are, groups-end}
 use Rattle.v0_residuals.proofs.ResidualLaws.{fours-stored}
 use Rattle.v0_residuals.proofs.store_groups.Statement.{statement}
 use Rattle.v0_residuals.proofs.store_groups.Tie as tie
 
 -- Points on the way: the entry, the bits of the first length, and each group where it was read.
 abbrev start : tie.After-lengths → tie.Start
-start c = c .before .before .before .before
+start c = c .before .before .before
 
 abbrev counted : tie.After-residual-length3 → tie.After-residual-length
 counted c = c .before .before .before .before
@@ -35,14 +35,11 @@ fourth c = c .before .before .before .before
 
 -- The bits of each residual are known.
 planned : (c : tie.After-residual-length4) → (let a = entry c .args in
-    Planned (now (a .src)) (a .row) (a .head) (counted (c .before .before) .residual-length .result) (c .before .before .before .before .residual-length2 .result) (c .before .before .residual-length3 .result) (c .residual-length4 .result))
+    Planned (now (a .src)) (a .base) (a .head) (counted (c .before .before) .residual-length .result) (c .before .before .before .before .residual-length2 .result) (c .before .before .residual-length3 .result) (c .residual-length4 .result))
 planned c =
     let n₂ = c .before .before in let n₁ = n₂ .before .before in let n₀ = n₁ .before .before in
     plan-made (entry c .pre .0) (n₀ .before .residual-length-arg .given) (n₀ .residual-length .ensures) (n₁ .before .residual-length-arg2 .given) (n₁ .residual-length2 .ensures)
     (n₂ .before .residual-length-arg3 .given) (n₂ .residual-length3 .ensures) (c .before .residual-length-arg4 .given) (c .residual-length4 .ensures)
-
-sub-base : tie.Need-sub-base
-sub-base c = search needs
 
 array-copy-out-residual-length : tie.Need-array-copy-out-residual-length
 array-copy-out-residual-length c = search needs
@@ -140,45 +137,40 @@ add-store-four-3 c = search needs
 store-four-requires-4 : tie.Need-store-four-requires-4
 store-four-requires-4 c κs = search needs
 
-cast-state-at : tie.Need-cast-state-at
-cast-state-at c = search needs
+cast-result : tie.Need-cast-result
+cast-result c = search needs
 
-mul-state-at : tie.Need-mul-state-at
-mul-state-at c = search needs
+mul-result : tie.Need-mul-result
+mul-result c = search needs
 
-add-state-at : tie.Need-add-state-at
-add-state-at c = search needs
-
-state-at-requires : tie.Need-state-at-requires
-state-at-requires c κs = let x = planned (first (second (third (fourth c .before) .before) .before) .before) in let n = near x in (omega arith, (omega arith, end-room x _ (omega arith)))
+add-result : tie.Need-add-result
+add-result c = search needs
 
 same-length : tie.Need-same-length
 same-length c = search needs
 
 returns : tie.Need-returns
 returns c =
-    let s₃ = fourth (c .before) in let s₂ = third (s₃ .before) in let s₁ = second (s₂ .before) in let s₀ = first (s₁ .before) in
+    let s₃ = fourth c in let s₂ = third (s₃ .before) in let s₁ = second (s₂ .before) in let s₀ = first (s₁ .before) in
     let a = entry (s₀ .before) .args in
-    let x = groups-made (now (a .src)) (a .row) (a .head) _ _ _ _ (s₀ .if1 .a) (s₁ .if2 .b) (s₂ .if3 .c) (s₃ .if4 .d) _
-    (record {
+    let x : ByPosition (now (a .src)) (a .base) (a .head) _ _ _ _ (s₀ .if1 .a) (s₁ .if2 .b) (s₂ .if3 .c) (s₃ .if4 .d)
+    = record {
       plan = planned (s₀ .before);
       first = either-way (s₀ .if1 .came) (λ _ y. y .ensures) (λ _ y. y .ensures);
       second = either-way (s₁ .if2 .came) (λ _ y. y .ensures) (λ _ y. y .ensures);
       third = either-way (s₂ .if3 .came) (λ _ y. y .ensures) (λ _ y. y .ensures);
       fourth = either-way (s₃ .if4 .came) (λ _ y. y .ensures) (λ _ y. y .ensures);
-    })
-    (c .state-at .ensures) in (
-      x .0,
+    } in (
+      groups-end _ _ _ _ _ _ _ _ _ _ _ x _ refl,
       fours-stored (a .width) (a .col) (s₀ .if1 .a) (s₁ .if2 .b) (s₂ .if3 .c) (s₃ .if4 .d) _ _ _ _ _ (entry (s₀ .before) .pre .1 .1 .0)
-          (s₁ .before .before .before .store-four .ensures) (s₂ .before .before .before .store-four2 .ensures) (s₃ .before .before .before .store-four3 .ensures) (c .before .before .before .store-four4 .ensures)
-          ∙ ap (λ r. store-samples 0 (a .width) (a .col) order r (now (a .out))) (x .1),
+          (s₁ .before .before .before .store-four .ensures) (s₂ .before .before .before .store-four2 .ensures) (s₃ .before .before .before .store-four3 .ensures) (c .before .before .store-four4 .ensures)
+          ∙ ap (λ r. store-samples 0 (a .width) (a .col) order r (now (a .out))) (groups-are _ _ _ _ _ _ _ _ _ _ _ x),
     )
 
 pub store-groups-spec : {M : Type 1} → statement M
 store-groups-spec =
     tie.close
     (tie.spec
-    sub-base
     array-copy-out-residual-length
     residual-length-requires
     array-copy-out-residual-length-2
@@ -211,9 +203,8 @@ store-groups-spec =
     four-long-at-requires-4
     add-store-four-3
     store-four-requires-4
-    cast-state-at
-    mul-state-at
-    add-state-at
-    state-at-requires
+    cast-result
+    mul-result
+    add-result
     same-length
     returns)
