@@ -1,2 +1,3 @@
 pub mod ResidualLaws
+pub mod RunLaws
 pub mod RowsLaws

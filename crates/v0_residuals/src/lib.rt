@@ -1,4 +1,6 @@
 // Phase one: a row's residuals to its samples, and the directions of its blocks to the scratch.
+mod run;
+
 ghost use mathlib.Core.Path.{_≡_};
 ghost use mathlib.Core.Bool.{cond};
 ghost use mathlib.Core.List.{_++_, map};
@@ -10,10 +12,13 @@ ghost use Rattle.rules.specs.Answer.{scratch-bytes};
 ghost use Rattle.rules.specs.Phases.{store-samples, store-blocks, row-records, direction, phase-one, scratch};
 ghost use Rattle.v0_windows.specs.ByWindow.{Ahead, Ends, residuals-of};
 ghost use Rattle.v0_cells.specs.Places.{PhaseLent};
-ghost use Rattle.v0_residuals.specs.Lent.{RowLent, BlockLent};
+ghost use Rattle.v0_residuals.specs.Lent.{RowLent, BlockLent, RunLent};
 ghost use Rattle.v0_residuals.specs.Parsed.{Parsed};
+ghost use Rattle.v0_residuals.specs.Ran.{Ran};
 use rules::Size;
 use rules::V0Row;
+use run::Run;
+use run::parse_run;
 use v0_stream::block::read_block;
 use v0_stream::block::residual_length;
 use v0_stream::order::stream_column;
@@ -190,6 +195,30 @@ fn parse_block(
     parse_by_record(src, row, width, k, out, dirs)
 }
 
+// Some blocks from block k on: a run of short ones, and the one after it.
+fn parse_some(
+    src: &[u8],
+    row: V0Row,
+    width: usize,
+    k: usize,
+    out: &mut [u16],
+    dirs: &mut [u8],
+) -> Run
+    requires { ⌜ RunLent width k (row .lengths) (now out) (now dirs) ⌝ }
+    ensures { λ r. ⌜ Ran (now (src .entry)) width k row (now (out .entry)) (now (dirs .entry)) (r .k) (r .row) (now (out .exit)) (now (dirs .exit)) × (k < r .k) ⌝ }
+{
+    let run = parse_run(src, row, width, k, &mut out[..], &mut dirs[..]);
+    let at = run.k;
+    if at < V0Row::blocks_in(width) {
+        let after = parse_block(src, run.row, width, at, &mut out[..], &mut dirs[..]);
+        return Run {
+            k: at + 1,
+            row: after,
+        };
+    }
+    run
+}
+
 // A row from row 2 on, whose first sample is the first of `out`, and its first block's direction the first of `dirs`.
 pub fn parse_v0_residuals(src: &[u8], offset: u32, width: usize, out: &mut [u16], dirs: &mut [u8])
     requires { ⌜ RowLent width (now out) (now dirs) ⌝ }
@@ -200,8 +229,9 @@ pub fn parse_v0_residuals(src: &[u8], offset: u32, width: usize, out: &mut [u16]
     let mut row = V0Row::fresh(2, offset);
     let mut k: usize = 0;
     while k < blocks {
-        row = parse_block(src, row, width, k, &mut out[..], &mut dirs[..]);
-        k += 1;
+        let run = parse_some(src, row, width, k, &mut out[..], &mut dirs[..]);
+        row = run.row;
+        k = run.k;
     }
 }
 

@@ -1,9 +1,10 @@
--- What is left from block k on comes to the whole row, and the lengths stay near 0.
+-- What is left from block k on comes to the whole row, and the lengths stay near 0. A turn parses at least one block.
 use Prim.Native.Nat.{_-_}
 use native.Mathlib.Omega.{arith}
 use borrow.Author.Needs.{needs}
 use Rattle.v0_residuals.specs.Lent.{RowLent}
-use Rattle.v0_residuals.proofs.ResidualLaws.{Parsing, parsing-begun, near-enough, parsing-on, parsing-done}
+use Rattle.v0_residuals.proofs.ResidualLaws.{Parsing, parsing-begun, parsing-done}
+use Rattle.v0_residuals.proofs.RunLaws.{ran-parsing}
 use Rattle.v0_residuals.proofs.parse_v0_residuals.Statement.{statement}
 use Rattle.v0_residuals.proofs.parse_v0_residuals.Tie as tie
 
@@ -20,8 +21,11 @@ start c = c .before .before .before .before
 abbrev entry : tie.At-loop Inv-loop μ-loop → tie.Start Inv-loop μ-loop
 entry c = start (c .before .before)
 
-abbrev at-loop : tie.After-parse-block Inv-loop μ-loop → tie.At-loop Inv-loop μ-loop
+abbrev at-loop : tie.After-parse-some Inv-loop μ-loop → tie.At-loop Inv-loop μ-loop
 at-loop c = c .before .before .before .before
+
+abbrev parsed : tie.After-row Inv-loop μ-loop → tie.After-parse-some Inv-loop μ-loop
+parsed c = c .before .before .before .before .before
 
 -- What the row was lent it has at each turn.
 lent : (c : tie.At-loop Inv-loop μ-loop) → RowLent (entry c .args .width) (c .loop .out) (c .loop .dirs)
@@ -38,22 +42,16 @@ fresh-requires c κs = search needs
 loop-holds : tie.Need-loop-holds Inv-loop μ-loop
 loop-holds c = parsing-begun _ _ _ _ _ _ _ (c .fresh .ensures)
 
-parse-block-requires : tie.Need-parse-block-requires Inv-loop μ-loop
-parse-block-requires c κs =
-    let x = c .before .before .before in
-    record { near = near-enough _ (x .loop .k) (omega arith) (x .loop .inv .near); row = lent x; block-in = search needs }
-
-add-k : tie.Need-add-k Inv-loop μ-loop
-add-k c = search needs
+parse-some-requires : tie.Need-parse-some-requires Inv-loop μ-loop
+parse-some-requires c κs = let x = c .before .before .before in record { near = x .loop .inv .near; row = lent x; block-in = search needs }
 
 loop-less : tie.Need-loop-less Inv-loop μ-loop
-loop-less c = search needs
+loop-less c = let x = parsed c in let on = x .parse-some .ensures .1 in omega arith
 
 loop-again : tie.Need-loop-again Inv-loop μ-loop
 loop-again c =
-    let x = c .before .before .before .before in let l = at-loop x in
-    parsing-on _ _ _ _ _ _ _ _ _ _ _ _ _ (search needs) (omega (arith, lent l .directions-lent)) (x .parse-block .kept .1 .1 .1 .1 .0)
-    (x .parse-block .ensures) (l .loop .inv)
+    let x = parsed c in let l = at-loop x in
+    ran-parsing (l .before .before .blocks-in .ensures) (omega (arith, lent l .directions-lent)) (x .parse-some .ensures .0) (l .loop .inv)
 
 same-length : tie.Need-same-length Inv-loop μ-loop
 same-length c = search needs
@@ -73,8 +71,7 @@ parse-v0-residuals-spec =
     blocks-in-requires
     fresh-requires
     loop-holds
-    parse-block-requires
-    add-k
+    parse-some-requires
     loop-less
     loop-again
     same-length

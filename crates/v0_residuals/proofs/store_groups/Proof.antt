@@ -1,12 +1,11 @@
 -- The head tells the bits of each residual, so each group is the one that the record would read from there on; stored one after another
 -- they are the block's.
 use mathlib.Core.Path.{refl, ap, _∙_}
-use native.Mathlib.Omega.{arith}
 use denote.Ref.{now}
 use borrow.Author.Needs.{needs}
 use Rattle.rules.specs.V0.{order}
 use Rattle.rules.specs.Phases.{store-samples}
-use Rattle.v0_windows.proofs.GroupLaws.{Planned, plan-made, first-in, second-in, third-in, fourth-in, near, ByPosition, either-way, groups-are, groups-end}
+use Rattle.v0_windows.proofs.GroupLaws.{Planned, plan-made, first-in, second-in, third-in, fourth-in, ByPosition, either-way, groups-are, groups-end}
 use Rattle.v0_residuals.proofs.ResidualLaws.{fours-stored}
 use Rattle.v0_residuals.proofs.store_groups.Statement.{statement}
 use Rattle.v0_residuals.proofs.store_groups.Tie as tie

@@ -1,0 +1,147 @@
+// Runs of short blocks: as long as a block lies within its row, its lengths are short and the stream has room for a block, blocks
+// follow one another by position, and the record is made again only after them. No way of reading long residuals stands in the loop,
+// so that the compiler keeps what it goes on with in registers.
+ghost use mathlib.Core.Path.{_≡_};
+ghost use Prim.Native.Nat.{_+_, _*_, _^_, _≤_, _<_};
+ghost use lib.ListN.{length};
+ghost use Rattle.rules.specs.V0.{order};
+ghost use Rattle.rules.specs.Phases.{store-samples};
+ghost use Rattle.v0_windows.specs.ByWindow.{Ahead, Short, Ends, residuals-of};
+ghost use Rattle.v0_residuals.specs.Lent.{RunLent};
+ghost use Rattle.v0_residuals.specs.Ran.{RanAt, Ran};
+use super::direction_byte;
+use super::store_four;
+use rules::V0Row;
+use v0_stream::block::residual_length;
+use v0_windows::BLOCK_BYTES;
+use v0_windows::WindowHead;
+use v0_windows::are_short;
+use v0_windows::four_at;
+use v0_windows::window_head;
+use window::stands_within;
+use window::state_at;
+
+// A place in a row: a block's number, the bit that it begins at, and the lengths before it.
+pub struct Place {
+    pub k: usize,
+    pub q: usize,
+    pub lengths: [i32; 4],
+}
+
+// The block that comes next in a row, and the row's state before it.
+pub struct Run {
+    pub k: usize,
+    pub row: V0Row,
+}
+
+// The short residuals after a head that was read by position, to the block at a column within its row; and the bit after them.
+fn store_short(
+    src: &[u8],
+    base: usize,
+    head: WindowHead,
+    out: &mut [u16],
+    width: usize,
+    col: usize,
+) -> usize
+    requires { ⌜ Short (head .lengths) ⌝ }
+    requires { ⌜ Ahead (now src) base (head .q) 583 × ((width ≤ length (now out)) × ((col + 16 ≤ width) × (width ≤ 16_384))) ⌝ }
+    ensures { λ r. ⌜ Ends (now (src .entry)) base head r ⌝ }
+    ensures { λ _. ⌜ now (out .exit) ≡ store-samples 0 width col order (residuals-of (now (src .entry)) base head) (now (out .entry)) ⌝ }
+{
+    let lengths = head.lengths;
+    let n0 = residual_length(lengths[0]);
+    let n1 = residual_length(lengths[1]);
+    let n2 = residual_length(lengths[2]);
+    let n3 = residual_length(lengths[3]);
+    let q0 = head.q;
+    let q1 = q0 + 4 * n0 as usize;
+    let q2 = q1 + 4 * n1 as usize;
+    let q3 = q2 + 4 * n2 as usize;
+    let a = four_at(src, base, q0, n0);
+    store_four(out, col, a);
+    let b = four_at(src, base, q1, n1);
+    store_four(out, col + 8, b);
+    let c = four_at(src, base, q2, n2);
+    store_four(out, col + 1, c);
+    let d = four_at(src, base, q3, n3);
+    store_four(out, col + 9, d);
+    q3 + 4 * n3 as usize
+}
+
+// The last bit of some bytes that a block may begin at: 608 are there from it on. A row's blocks have fewer than 2^20 bits, so that no
+// more are counted, which need not fit.
+fn last_start(bytes: usize) -> usize
+    requires { ⌜ 76 ≤ bytes ⌝ }
+    ensures { λ r. ⌜ (r + 608 ≤ bytes * 8) × (r < 2 ^ 20) ⌝ }
+{
+    if bytes < 131_072 {
+        return bytes * 8 - 608;
+    }
+    1_047_968
+}
+
+// Blocks from a place on, and the place after them: the next is not short, does not lie within the row or has too little room.
+fn short_blocks(
+    src: &[u8],
+    base: usize,
+    start: Place,
+    width: usize,
+    out: &mut [u16],
+    dirs: &mut [u8],
+) -> Place
+    requires { ⌜ Ahead (now src) base (start .q) 608 × RunLent width (start .k) (start .lengths) (now out) (now dirs) ⌝ }
+    ensures { λ r. ⌜ RanAt (now (src .entry)) base width start (now (out .entry)) (now (dirs .entry)) r (now (out .exit)) (now (dirs .exit)) ⌝ }
+{
+    let last = last_start(src.len() - base);
+    let mut k = start.k;
+    let mut q = start.q;
+    let mut lengths = start.lengths;
+    while (k + 1) * V0Row::BLOCK <= width && q <= last {
+        let head = window_head(src, base, q, lengths);
+        let after = head.lengths;
+        if !are_short(after) {
+            break;
+        }
+        q = store_short(src, base, head, out, width, k * V0Row::BLOCK);
+        dirs[k] = direction_byte(head.up);
+        lengths = after;
+        k += 1;
+    }
+    Place { k, q, lengths }
+}
+
+// The short blocks from block k on: none where the lengths before it are long, so that a row of long blocks costs no more, or where
+// the record doesn't stand in the stream.
+pub fn parse_run(
+    src: &[u8],
+    row: V0Row,
+    width: usize,
+    k: usize,
+    out: &mut [u16],
+    dirs: &mut [u8],
+) -> Run
+    requires { ⌜ RunLent width k (row .lengths) (now out) (now dirs) ⌝ }
+    ensures { λ r. ⌜ Ran (now (src .entry)) width k row (now (out .entry)) (now (dirs .entry)) (r .k) (r .row) (now (out .exit)) (now (dirs .exit)) ⌝ }
+{
+    let bits = row.bits;
+    let before = row.lengths;
+    if are_short(before) && stands_within(src, bits, BLOCK_BYTES) {
+        let base = bits.pos as usize - 12;
+        let start = Place {
+            k,
+            q: 96 - bits.count as usize,
+            lengths: before,
+        };
+        let end = short_blocks(src, base, start, width, out, dirs);
+        let lengths = end.lengths;
+        let after = V0Row {
+            lengths,
+            bits: state_at(src, base, end.q, bits.filler),
+        };
+        return Run {
+            k: end.k,
+            row: after,
+        };
+    }
+    Run { k, row }
+}
