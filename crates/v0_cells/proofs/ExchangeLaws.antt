@@ -1,5 +1,5 @@
 -- The exchange, for any kind of cell: what is left of it comes to the whole.
-use mathlib.Core.Path.{_≡_, refl, sym, ap, _∙_}
+use mathlib.Core.Path.{_≡_, refl, sym, ap, ap₂, _∙_}
 use mathlib.Core.Logic.{inl, inr}
 use mathlib.Core.List.{List, [], _∷_}
 use Prim.Native.Nat.{ℕ, zero, suc, _+_, _-_, _*_, _/_, _%_, _≤_, _<_}
@@ -7,8 +7,9 @@ use native.Mathlib.Omega.{arith}
 use native.Mathlib.Nat.{mul-le-mul-right, mul-comm}
 use lib.ListN.{length, getD, set, length-set}
 use Rattle.rules.specs.V0.{Kind, swap, exchange-columns, exchange-rows, exchange}
+use Rattle.rules.specs.Frame.{cells}
 use Rattle.rules.specs.declared.answer.Size.{Size}
-use Rattle.v0_cells.specs.Places.{Whole, InPair, Framed, MapFramed}
+use Rattle.v0_cells.specs.Places.{Whole, InPair, MapInPair, PairsLent, Framed}
 use Rattle.v0_cells.proofs.CellLaws.{product}
 
 -- ── Places ──
@@ -61,6 +62,11 @@ module _ (k : Kind ℕ) where
   columns-length w row (suc n) col f =
       columns-length w row n (col + 2) (swap k (row * w + col + 1) ((row + 1) * w + col) f) ∙ swap-length (row * w + col + 1) ((row + 1) * w + col) f
 
+  pub rows-length : (w n row : ℕ) (f : List ℕ) → length (exchange-rows k w n row f) ≡ length f
+  unfolding exchange-rows
+  rows-length w zero row f = refl
+  rows-length w (suc n) row f = rows-length w n (row + 2) (exchange-columns k w row (w / 2) 0 f) ∙ columns-length w row (w / 2) 0 f
+
   pub record Exchanging (w h : ℕ) (f₀ f : List ℕ) (row : ℕ) : Type 0 where
     pub below : row ≤ h + 1
     pub same-length : length f ≡ length f₀
@@ -94,25 +100,60 @@ module _ (k : Kind ℕ) where
         inside = omega (arith, r .same-length, i .lent, mul-comm (z .width) (z .height));
       }
 
+  -- ── Pairs of rows from one number up to another ──
+
+  pub record Pairs (w from to : ℕ) (f₀ f : List ℕ) (pair : ℕ) : Type 0 where
+    pub same-length : length f ≡ length f₀
+    pub cells-are : exchange-rows k w (to - pair) (pair * 2) f ≡ exchange-rows k w (to - from) (from * 2) f₀
+
+  pub pairs-begun : (w from to : ℕ) (f : List ℕ) → Pairs w from to f f from
+  pairs-begun w from to f = record { same-length = refl; cells-are = refl }
+
+  pub pairs-on : (w from to : ℕ) (f₀ f f′ : List ℕ) (pair : ℕ) → pair < to → f′ ≡ exchange-columns k w (pair * 2) (w / 2) 0 f
+      → Pairs w from to f₀ f pair → Pairs w from to f₀ f′ (pair + 1)
+  unfolding exchange-rows
+  pairs-on w from to f₀ f f′ pair l e r =
+      let q : to - pair ≡ suc (to - (pair + 1)) = omega arith in
+      let next : (pair + 1) * 2 ≡ pair * 2 + 2 = omega arith in
+      record {
+        same-length = ap length e ∙ columns-length w (pair * 2) (w / 2) 0 f ∙ r .same-length;
+        cells-are = ap₂ (exchange-rows k w (to - (pair + 1))) next e ∙ (rw q at (r .cells-are));
+      }
+
+  pub pairs-done : (w from to : ℕ) (f₀ f : List ℕ) (pair : ℕ) → to ≤ pair → Pairs w from to f₀ f pair → f ≡ exchange-rows k w (to - from) (from * 2) f₀
+  unfolding exchange-rows
+  pairs-done w from to f₀ f pair l r = let q : to - pair ≡ 0 = omega arith in rw q at (r .cells-are)
+
+  -- ── A map that is not lent ──
+
   -- A frame of no cells stays one.
   columns-empty : (w row n col : ℕ) → exchange-columns k w row n col [] ≡ []
   unfolding exchange-columns swap
   columns-empty w row zero col = refl
   columns-empty w row (suc n) col = columns-empty w row n (col + 2)
 
-  rows-empty : (w n row : ℕ) → exchange-rows k w n row [] ≡ []
-  unfolding exchange-rows
-  rows-empty w zero row = refl
-  rows-empty w (suc n) row = ap (exchange-rows k w n (row + 2)) (columns-empty w row (w / 2) 0) ∙ rows-empty w n (row + 2)
+  pub columns-not-lent : (w row n col : ℕ) (f : List ℕ) → length f ≡ 0 → f ≡ exchange-columns k w row n col f
+  columns-not-lent w row n col [] e = sym (columns-empty w row n col)
+  columns-not-lent w row n col (a ∷ f) e = absurd (omega arith)
 
-  pub exchange-not-lent : (z : Size) (f : List ℕ) → length f ≡ 0 → f ≡ exchange k z f
-  unfolding exchange
-  exchange-not-lent z [] e = sym (rows-empty (z .width) (z .height / 2) 0)
-  exchange-not-lent z (a ∷ f) e = absurd (omega arith)
+pub map-in-pair : (w row : ℕ) (f : List ℕ) → MapInPair w row f → (length f ≡ 0 → ⊥) → InPair w row f
+map-in-pair w row f (inl i) some = i
+map-in-pair w row f (inr e) some = absurd (some e)
 
-pub map-framed : (z : Size) (f : List ℕ) → MapFramed z f → (length f ≡ 0 → ⊥) → Framed z f
-map-framed z f i some = go (i .lent)
-  where
-    go : Whole z f → Framed z f
-    go (inl e) = record { width = i .width; height = i .height; lent = e }
-    go (inr e) = absurd (some e)
+-- A pair of rows up to the last one lies in the frame, and in its map.
+module _ (z : Size) (from to : ℕ) (out₀ map₀ : List ℕ) (i : PairsLent z from to out₀ map₀) (pair : ℕ) (l : pair < to) where
+  pair-inside : (f : List ℕ) → length f ≡ cells z → InPair (z .width) (pair * 2) f
+  pair-inside f e =
+      let m = i .pairs-in in
+      let h : (pair * 2 + 2) * z .width ≤ z .height * z .width = mul-le-mul-right (z .width) (omega arith) in
+      record { width = i .width; row-in = omega (arith, i .height); inside = omega (arith, mul-comm (z .width) (z .height)) }
+
+  pub samples-in-pair : (out : List ℕ) → length out ≡ length out₀ → InPair (z .width) (pair * 2) out
+  samples-in-pair out e = pair-inside out (e ∙ i .samples-lent)
+
+  pub marks-in-pair : (map : List ℕ) → length map ≡ length map₀ → MapInPair (z .width) (pair * 2) map
+  marks-in-pair map e = go (i .map-lent)
+    where
+      go : Whole z map₀ → MapInPair (z .width) (pair * 2) map
+      go (inl q) = inl (pair-inside map (e ∙ q))
+      go (inr q) = inr (e ∙ q)

@@ -1,5 +1,5 @@
 -- Where in a frame's cells a row, a block or a sample lies.
-use Prim.Native.Nat.{ℕ, _+_, _*_, _%_, _≤_, _<_}
+use Prim.Native.Nat.{ℕ, _+_, _*_, _/_, _%_, _≤_, _<_}
 use mathlib.Core.Path.{_≡_}
 use mathlib.Core.Logic.{_⊎_}
 use mathlib.Core.List.{List}
@@ -43,16 +43,24 @@ pub record InPair (w row : ℕ) (f : List ℕ) : Type 0 where
   pub row-in : row < 16_384
   pub inside : (row + 2) * w ≤ length f
 
--- A whole frame; and a map of one, which may not be lent.
+-- The same of a map, which may not be lent.
+abbrev pub MapInPair : ℕ → ℕ → List ℕ → Type 0
+MapInPair w row map = InPair w row map ⊎ (length map ≡ 0)
+
+-- The pairs of rows from one number up to another, of a frame that is lent with its map or without.
+pub record PairsLent (z : Size) (from to : ℕ) (out map : List ℕ) : Type 0 where
+  pub width : z .width ≤ 16_384
+  pub height : z .height ≤ 16_384
+  pub pairs : from ≤ to
+  pub pairs-in : to ≤ z .height / 2
+  pub samples-lent : length out ≡ cells z
+  pub map-lent : Whole z map
+
+-- A whole frame.
 pub record Framed (z : Size) (f : List ℕ) : Type 0 where
   pub width : z .width ≤ 16_384
   pub height : z .height ≤ 16_384
   pub lent : length f ≡ cells z
-
-pub record MapFramed (z : Size) (map : List ℕ) : Type 0 where
-  pub width : z .width ≤ 16_384
-  pub height : z .height ≤ 16_384
-  pub lent : Whole z map
 
 -- What a phase of the two-phase decoder is lent: a frame's cells, and a direction byte for each block from row 2 on.
 pub record PhaseLent (z : Size) (f dirs : List ℕ) : Type 0 where

@@ -1,10 +1,10 @@
-// After all rows: in each even row with a row below, the sample right of each even column and the one below it change places, and
-// so do their marks.
+// In each even row with a row below, the sample right of each even column and the one below it change places, and so do their
+// marks: after all rows, or in a pair of rows that no later row reads.
 ghost use mathlib.Core.Path.{_≡_};
-ghost use Prim.Native.Nat.{_/_, _<_};
+ghost use Prim.Native.Nat.{_-_, _*_, _/_, _<_};
 ghost use Rattle.rules.specs.V0 as V0;
 ghost use Rattle.rules.specs.Map.{v0-marks};
-ghost use Rattle.v0_cells.specs.Places.{InPair, Framed, MapFramed};
+ghost use Rattle.v0_cells.specs.Places.{InPair, MapInPair, PairsLent, Framed};
 use rules::Size;
 
 // Two samples change places.
@@ -51,6 +51,32 @@ fn exchange_mark_pair(map: &mut [u8], w: usize, row: usize)
     }
 }
 
+// The marks of a pair of rows, where a map is lent.
+fn exchange_marks(map: &mut [u8], w: usize, row: usize)
+    requires { ⌜ MapInPair w row (now map) ⌝ }
+    ensures { λ _. ⌜ now (map .exit) ≡ V0.exchange-columns v0-marks w row (w / 2) 0 (now (map .entry)) ⌝ }
+{
+    if map.len() == 0 {
+        return;
+    }
+    exchange_mark_pair(map, w, row);
+}
+
+// Samples and marks of the pairs of rows from one number up to another.
+pub fn exchange_pairs(out: &mut [u16], map: &mut [u8], size: Size, from: usize, to: usize)
+    requires { ⌜ PairsLent size from to (now out) (now map) ⌝ }
+    ensures samples { λ _. ⌜ now (out .exit) ≡ V0.exchange-rows V0.sample-kind (size .width) (to - from) (from * 2) (now (out .entry)) ⌝ }
+    ensures marks { λ _. ⌜ now (map .exit) ≡ V0.exchange-rows v0-marks (size .width) (to - from) (from * 2) (now (map .entry)) ⌝ }
+{
+    let w = size.width;
+    let mut pair = from;
+    while pair < to {
+        exchange_pair(out, w, pair * 2);
+        exchange_marks(map, w, pair * 2);
+        pair += 1;
+    }
+}
+
 // The samples of all pairs of rows.
 pub fn exchange(out: &mut [u16], size: Size)
     requires { ⌜ Framed size (now out) ⌝ }
@@ -61,23 +87,6 @@ pub fn exchange(out: &mut [u16], size: Size)
     let mut row: usize = 0;
     while row + 1 < h {
         exchange_pair(out, w, row);
-        row += 2;
-    }
-}
-
-// The marks of all pairs of rows, where a map is lent.
-pub fn exchange_marks(map: &mut [u8], size: Size)
-    requires { ⌜ MapFramed size (now map) ⌝ }
-    ensures { λ _. ⌜ now (map .exit) ≡ V0.exchange v0-marks size (now (map .entry)) ⌝ }
-{
-    if map.len() == 0 {
-        return;
-    }
-    let w = size.width;
-    let h = size.height;
-    let mut row: usize = 0;
-    while row + 1 < h {
-        exchange_mark_pair(map, w, row);
         row += 2;
     }
 }
