@@ -25,6 +25,10 @@ pairs-lent z offsets out₀ map₀ out map from to i l h eo em =
 
 -- ── Samples, or marks ──
 
+-- The freed pairs end two rows above a row, and so no row from there on looks at them.
+freed-end : (row : ℕ) → freed-pairs row * 2 ≤ row - 2
+freed-end row = omega arith
+
 freed-length : (k : Kind ℕ) (s offsets : List ℕ) (z : Size) (count : ℕ) (f : List ℕ) → length (rows-freed k s offsets z count f) ≡ length f
 unfolding rows-freed
 freed-length k s offsets z count f = rows-length k (z .width) (freed-pairs count) 0 _ ∙ write-all-length k (rows s offsets z count 0) f
@@ -75,10 +79,11 @@ module _ (k : Kind ℕ) (s offsets : List ℕ) (z : Size) (count : ℕ) (f₀ : 
           let pairs : freed-pairs count - freed-pairs row ≡ to - from + (freed-pairs count - to) = omega arith in
           let start : freed-pairs row * 2 ≡ from * 2 = omega arith in
           let next : from * 2 + 2 * (to - from) ≡ to * 2 = omega arith in
+          let above : from * 2 + 2 * (to - from) ≤ row + 1 - 2 = rw (next, et) (freed-end (row + 1)) in
           ap₂ (λ n x. exchange-rows k w n (freed-pairs row * 2) x) pairs first
           ∙ ap (λ a. exchange-rows k w (to - from + (freed-pairs count - to)) a (write-all k rest f′)) start
           ∙ exchange-append k w (to - from) (freed-pairs count - to) (from * 2) (write-all k rest f′)
-          ∙ ap₂ (exchange-rows k w (freed-pairs count - to)) next (exchange-past k s offsets z (to - from) (from * 2) (count - (row + 1)) (row + 1) (omega arith) f′)
+          ∙ ap₂ (exchange-rows k w (freed-pairs count - to)) next (exchange-past k s offsets z (to - from) (from * 2) (count - (row + 1)) (row + 1) above f′)
 
   -- No row is left.
   pub freed-all : (f : List ℕ) (row : ℕ) → row ≡ count → Freeing f row → f ≡ rows-freed k s offsets z count f₀
