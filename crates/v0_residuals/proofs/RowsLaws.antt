@@ -5,15 +5,16 @@ use mathlib.Core.Bool.{Bool, true, false, cond}
 use mathlib.Core.List.{List, [], _∷_, _++_, map, append-assoc, append-nil}
 use Prim.Native.Nat.{ℕ, suc, _+_, _-_, _*_, _≤_, _<_}
 use native.Mathlib.Omega.{arith}
-use native.Mathlib.Nat.{mul-comm, mul-le-mul-right}
+use native.Mathlib.Nat.{mul-comm}
 use lib.Dec.{ltb}
 use lib.ListN.{length, getD, set, take, drop, length-drop, length-append, drop-of-length-le, take-append-drop}
 use lib.Seq.{take-all, take-set-le, drop-set-add, length-take-le, take-at, drop-append-add, drop-drop}
 use borrow.Author.Tests.{le-ltb}
 use borrow.Rule.Slice.PartMut.{midOf, putMid}
 use Rattle.rules.specs.V0.{order, blocks-in, fresh-row}
-use Rattle.rules.specs.Phases.{BlockRecord, row-records, store-samples, store-blocks, phase-one, direction, directions, scratch}
+use Rattle.rules.specs.Phases.{BlockRecord, row-records, store-samples, store-blocks, phase-one, direction, directions}
 use Rattle.rules.proofs.TwoPhase.{row-directions-length}
+use Rattle.v0_cells.proofs.RoomLaws.{directions-within}
 
 -- ── A row where it lies ──
 
@@ -64,113 +65,148 @@ tail-lent a xs = take-all (length xs - a) (drop a xs) (omega (arith, length-drop
 pub tail-back : (a : ℕ) (xs ys : List ℕ) → putMid a (length xs - a) xs ys ≡ take a xs ++ ys
 tail-back a xs ys = rw (drop-of-length-le (drop a xs) {i = length xs - a} (omega (arith, length-drop a xs)), append-nil)
 
--- ── Rows ──
+-- ── A row that is lent as parts ──
 
 -- From row 2 on every row starts alike.
 late-records : (s : List ℕ) (w row offset : ℕ) → 2 ≤ row → row-records s w 2 offset ≡ row-records s w row offset
 unfolding row-records fresh-row
 late-records s w row offset h = rw (le-ltb row 2 h)
 
+module _ (s : List ℕ) (w r offset : ℕ) where
+  -- Its residuals come to lie in the frame where the row lies ..
+  pub row-stored : (f ys : List ℕ) → ys ≡ store-blocks 0 w 0 (row-records s w 2 offset) (midOf ((r + 2) * w) (length f - (r + 2) * w) f)
+      → putMid ((r + 2) * w) (length f - (r + 2) * w) f ys ≡ store-blocks ((r + 2) * w) w 0 (row-records s w (r + 2) offset) f
+  row-stored f ys q =
+      let late = late-records s w (r + 2) offset (omega arith) in
+      let q′ : ys ≡ store-blocks 0 w 0 (row-records s w (r + 2) offset) (drop ((r + 2) * w) f) = rw (tail-lent ((r + 2) * w) f, late) at q in
+      rw (tail-back ((r + 2) * w) f ys, q′, row-in-frame ((r + 2) * w) w (row-records s w (r + 2) offset) f)
+
+  -- .. and its directions in the scratch between what stood before them and what stood after them.
+  pub row-directed : (n : ℕ) (ds zs : List ℕ) → zs ≡ map direction (row-records s w 2 offset) ++ drop n (midOf (r * n) (length ds - r * n) ds)
+      → putMid (r * n) (length ds - r * n) ds zs ≡ (take (r * n) ds ++ map direction (row-records s w (r + 2) offset)) ++ drop (r * n + n) ds
+  row-directed n ds zs q =
+      let late = late-records s w (r + 2) offset (omega arith) in
+      let bytes = map direction (row-records s w (r + 2) offset) in
+      let q′ : zs ≡ bytes ++ drop n (drop (r * n) ds) = rw (tail-lent (r * n) ds, late) at q in
+      tail-back (r * n) ds zs
+      ∙ ap (λ xs. take (r * n) ds ++ xs) (q′ ∙ ap (λ xs. bytes ++ xs) (drop-drop n (r * n) ds))
+      ∙ sym (append-assoc (take (r * n) ds) bytes (drop (r * n + n) ds))
+
 module _ (s offsets : List ℕ) (w h : ℕ) where
   abbrev n : ℕ
   n = blocks-in w
 
-  pub record Rows (f₀ f ds₀ ds : List ℕ) (r : ℕ) : Type 0 where
+  abbrev records : ℕ → List BlockRecord
+  records r = row-records s w (r + 2) (getD offsets (r + 2) 0)
+
+  -- ── The scratch ──
+
+  pub record Filled (ds₀ ds : List ℕ) (r : ℕ) : Type 0 where
     pub below : r ≤ h - 2
-    pub same-samples : length f ≡ length f₀
     pub same-dirs : length ds ≡ length ds₀
-    pub cells-are : phase-one s offsets w (h - 2 - r) (r + 2) f ≡ phase-one s offsets w (h - 2) 2 f₀
     pub dirs-are : take (r * n) ds ++ directions s offsets w (h - 2 - r) (r + 2) ≡ directions s offsets w (h - 2) 2
     pub rest-is : drop (n * (h - 2)) ds ≡ drop (n * (h - 2)) ds₀
 
-  pub rows-begun : (f ds : List ℕ) → Rows f f ds ds 0
-  rows-begun f ds =
+  pub filled-begun : (ds : List ℕ) → Filled ds ds 0
+  filled-begun ds =
       let z : h - 2 - 0 ≡ h - 2 = omega arith in
       let first : 0 + 2 ≡ 2 = omega arith in
       let none : 0 * n ≡ 0 = omega arith in
-      record { below = omega arith; same-samples = refl; same-dirs = refl; cells-are = rw (z, first); dirs-are = rw (z, first, none); rest-is = refl }
+      record { below = omega arith; same-dirs = refl; dirs-are = rw (z, first, none); rest-is = refl }
 
-  module _ (f ds : List ℕ) (r : ℕ) (l : r + 2 < h) (room : r * n + n ≤ n * (h - 2)) (enough : n * (h - 2) ≤ length ds) where
-    abbrev records : List BlockRecord
-    records = row-records s w (r + 2) (getD offsets (r + 2) 0)
-
-    more : h - 2 - r ≡ suc (h - 2 - (r + 1))
-    more = omega arith
-
-    next-row : r + 1 + 2 ≡ suc (r + 2)
-    next-row = omega arith
-
-    samples-left : (ys : List ℕ) → ys ≡ store-blocks 0 w 0 (row-records s w 2 (getD offsets (r + 2) 0)) (midOf ((r + 2) * w) (length f - (r + 2) * w) f)
-        → phase-one s offsets w (h - 2 - r) (r + 2) f
-        ≡ phase-one s offsets w (h - 2 - (r + 1)) (r + 1 + 2) (putMid ((r + 2) * w) (length f - (r + 2) * w) f ys)
-    unfolding phase-one
-    samples-left ys q =
-        let late = late-records s w (r + 2) (getD offsets (r + 2) 0) (omega arith) in
-        let q′ : ys ≡ store-blocks 0 w 0 records (drop ((r + 2) * w) f) = rw (tail-lent ((r + 2) * w) f, late) at q in
-        rw (more, next-row, tail-back ((r + 2) * w) f ys, q′, row-in-frame ((r + 2) * w) w records f)
-
-    -- The scratch after a row: what stood before its directions, the directions, and what stood after them.
-    new-dirs : (zs : List ℕ)
-        → zs ≡ map direction (row-records s w 2 (getD offsets (r + 2) 0)) ++ drop n (midOf (r * n) (length ds - r * n) ds)
-        → putMid (r * n) (length ds - r * n) ds zs ≡ (take (r * n) ds ++ map direction records) ++ drop (r * n + n) ds
-    new-dirs zs q =
-        let late = late-records s w (r + 2) (getD offsets (r + 2) 0) (omega arith) in
-        let q′ : zs ≡ map direction records ++ drop n (drop (r * n) ds) = rw (tail-lent (r * n) ds, late) at q in
-        tail-back (r * n) ds zs
-        ∙ ap (λ xs. take (r * n) ds ++ xs) (q′ ∙ ap (λ xs. map direction records ++ xs) (drop-drop n (r * n) ds))
-        ∙ sym (append-assoc (take (r * n) ds) (map direction records) (drop (r * n + n) ds))
-
+  module _ (ds : List ℕ) (r : ℕ) (l : r + 2 < h) (enough : n * (h - 2) ≤ length ds) where
+    -- The directions of the rows before, and of this one.
     abbrev front : List ℕ
-    front = take (r * n) ds ++ map direction records
+    front = take (r * n) ds ++ map direction (records r)
+
+    room : r * n + n ≤ n * (h - 2)
+    room = directions-within n h r (n * (h - 2)) l (omega arith)
 
     front-length : length front ≡ r * n + n
     front-length =
-        rw (length-append, length-take-le (r * n) ds (omega arith), row-directions-length s w (r + 2) (getD offsets (r + 2) 0))
+        rw (length-append, length-take-le (r * n) ds (omega (arith, room)), row-directions-length s w (r + 2) (getD offsets (r + 2) 0))
 
     front-left : take (r * n) ds ++ directions s offsets w (h - 2 - r) (r + 2) ≡ front ++ directions s offsets w (h - 2 - (r + 1)) (r + 1 + 2)
     unfolding directions
-    front-left = rw (more, next-row, append-assoc)
+    front-left =
+        let more : h - 2 - r ≡ suc (h - 2 - (r + 1)) = omega arith in
+        let next-row : r + 1 + 2 ≡ suc (r + 2) = omega arith in
+        rw (more, next-row, append-assoc)
 
     rest-kept : drop (n * (h - 2)) (front ++ drop (r * n + n) ds) ≡ drop (n * (h - 2)) ds
     rest-kept =
-        let e : n * (h - 2) ≡ length front + (n * (h - 2) - (r * n + n)) = omega (arith, front-length) in
-        let e′ : r * n + n + (n * (h - 2) - (r * n + n)) ≡ n * (h - 2) = omega arith in
+        let e : n * (h - 2) ≡ length front + (n * (h - 2) - (r * n + n)) = omega (arith, front-length, room) in
+        let e′ : r * n + n + (n * (h - 2) - (r * n + n)) ≡ n * (h - 2) = omega (arith, room) in
         ap (λ k. drop k (front ++ drop (r * n + n) ds)) e
         ∙ drop-append-add front (drop (r * n + n) ds) (n * (h - 2) - (r * n + n))
         ∙ drop-drop (n * (h - 2) - (r * n + n)) (r * n + n) ds
         ∙ ap (λ k. drop k ds) e′
 
-    pub rows-on : (f₀ ds₀ ys zs : List ℕ)
-        → length (putMid ((r + 2) * w) (length f - (r + 2) * w) f ys) ≡ length f
-        → length (putMid (r * n) (length ds - r * n) ds zs) ≡ length ds
-        → ys ≡ store-blocks 0 w 0 (row-records s w 2 (getD offsets (r + 2) 0)) (midOf ((r + 2) * w) (length f - (r + 2) * w) f)
-        → zs ≡ map direction (row-records s w 2 (getD offsets (r + 2) 0)) ++ drop n (midOf (r * n) (length ds - r * n) ds)
-        → Rows f₀ f ds₀ ds r
-        → Rows f₀ (putMid ((r + 2) * w) (length f - (r + 2) * w) f ys) ds₀ (putMid (r * n) (length ds - r * n) ds zs) (r + 1)
-    rows-on f₀ ds₀ ys zs sf sd qy qz p =
-        let new = new-dirs zs qz in
+    pub filled-on : (ds₀ ds′ : List ℕ) → length ds′ ≡ length ds → ds′ ≡ front ++ drop (r * n + n) ds → Filled ds₀ ds r → Filled ds₀ ds′ (r + 1)
+    filled-on ds₀ ds′ same q p =
         let start : (r + 1) * n ≡ r * n + n = omega arith in
         record {
           below = omega arith;
-          same-samples = sf ∙ p .same-samples;
-          same-dirs = sd ∙ p .same-dirs;
-          cells-are = sym (samples-left ys qy) ∙ p .cells-are;
+          same-dirs = same ∙ p .same-dirs;
           dirs-are =
               ap (λ xs. xs ++ directions s offsets w (h - 2 - (r + 1)) (r + 1 + 2))
-              (ap (λ k. take k (putMid (r * n) (length ds - r * n) ds zs)) start
-              ∙ ap (take (r * n + n)) new ∙ take-at front (drop (r * n + n) ds) (r * n + n) front-length)
+              (ap (λ k. take k ds′) start ∙ ap (take (r * n + n)) q ∙ take-at front (drop (r * n + n) ds) (r * n + n) front-length)
               ∙ sym front-left ∙ p .dirs-are;
-          rest-is = ap (drop (n * (h - 2))) new ∙ rest-kept ∙ p .rest-is;
+          rest-is = ap (drop (n * (h - 2))) q ∙ rest-kept ∙ p .rest-is;
         }
 
-  pub rows-done : (f₀ f ds₀ ds : List ℕ) (r : ℕ) → h ≤ r + 2 → n * (h - 2) ≤ length ds → Rows f₀ f ds₀ ds r
-      → (f ≡ phase-one s offsets w (h - 2) 2 f₀) × (ds ≡ directions s offsets w (h - 2) 2 ++ drop (n * (h - 2)) ds₀)
-  unfolding phase-one directions
-  rows-done f₀ f ds₀ ds r l enough p =
+  pub filled-done : (ds₀ ds : List ℕ) (r : ℕ) → h ≤ r + 2 → Filled ds₀ ds r → ds ≡ directions s offsets w (h - 2) 2 ++ drop (n * (h - 2)) ds₀
+  unfolding directions
+  filled-done ds₀ ds r l p =
       let none : h - 2 - r ≡ 0 = omega arith in
       let all : r * n ≡ n * (h - 2) = let e : r ≡ h - 2 = omega (arith, p .below) in rw e (mul-comm (h - 2) n) in
-      let d : take (n * (h - 2)) ds ≡ directions s offsets w (h - 2) 2 = rw (none, append-nil, all) at (p .dirs-are) in (
-        rw none at (p .cells-are),
-        sym (take-append-drop (n * (h - 2)) ds) ∙ ap (λ xs. xs ++ drop (n * (h - 2)) ds) d
-            ∙ ap (λ xs. directions s offsets w (h - 2) 2 ++ xs) (p .rest-is),
-      )
+      let d : take (n * (h - 2)) ds ≡ directions s offsets w (h - 2) 2 = rw (none, append-nil, all) at (p .dirs-are) in
+      sym (take-append-drop (n * (h - 2)) ds) ∙ ap (λ xs. xs ++ drop (n * (h - 2)) ds) d
+      ∙ ap (λ xs. directions s offsets w (h - 2) 2 ++ xs) (p .rest-is)
+
+  -- ── Rows ──
+
+  pub record Rows (f₀ f ds₀ ds : List ℕ) (r : ℕ) : Type 0 where
+    pub filled : Filled ds₀ ds r
+    pub same-samples : length f ≡ length f₀
+    pub cells-are : phase-one s offsets w (h - 2 - r) (r + 2) f ≡ phase-one s offsets w (h - 2) 2 f₀
+
+  pub rows-begun : (f ds : List ℕ) → Rows f f ds ds 0
+  rows-begun f ds =
+      let z : h - 2 - 0 ≡ h - 2 = omega arith in
+      let first : 0 + 2 ≡ 2 = omega arith in
+      record { filled = filled-begun ds; same-samples = refl; cells-are = rw (z, first) }
+
+  module _ (f ds : List ℕ) (r : ℕ) (l : r + 2 < h) (enough : n * (h - 2) ≤ length ds) where
+    abbrev first : ℕ
+    first = (r + 2) * w
+
+    samples-left : (f′ : List ℕ) → f′ ≡ store-blocks first w 0 (records r) f
+        → phase-one s offsets w (h - 2 - r) (r + 2) f ≡ phase-one s offsets w (h - 2 - (r + 1)) (r + 1 + 2) f′
+    unfolding phase-one
+    samples-left f′ q =
+        let more : h - 2 - r ≡ suc (h - 2 - (r + 1)) = omega arith in
+        let next-row : r + 1 + 2 ≡ suc (r + 2) = omega arith in
+        rw (more, next-row, q)
+
+    pub rows-on : (f₀ ds₀ ys zs : List ℕ)
+        → length (putMid first (length f - first) f ys) ≡ length f
+        → length (putMid (r * n) (length ds - r * n) ds zs) ≡ length ds
+        → ys ≡ store-blocks 0 w 0 (row-records s w 2 (getD offsets (r + 2) 0)) (midOf first (length f - first) f)
+        → zs ≡ map direction (row-records s w 2 (getD offsets (r + 2) 0)) ++ drop n (midOf (r * n) (length ds - r * n) ds)
+        → Rows f₀ f ds₀ ds r
+        → Rows f₀ (putMid first (length f - first) f ys) ds₀ (putMid (r * n) (length ds - r * n) ds zs) (r + 1)
+    rows-on f₀ ds₀ ys zs sf sd qy qz p =
+        let offset = getD offsets (r + 2) 0 in
+        record {
+          filled = filled-on ds r l enough ds₀ _ sd (row-directed s w r offset n ds zs qz) (p .filled);
+          same-samples = sf ∙ p .same-samples;
+          cells-are = sym (samples-left _ (row-stored s w r offset f ys qy)) ∙ p .cells-are;
+        }
+
+  pub rows-done : (f₀ f ds₀ ds : List ℕ) (r : ℕ) → h ≤ r + 2 → Rows f₀ f ds₀ ds r
+      → (f ≡ phase-one s offsets w (h - 2) 2 f₀) × (ds ≡ directions s offsets w (h - 2) 2 ++ drop (n * (h - 2)) ds₀)
+  unfolding phase-one
+  rows-done f₀ f ds₀ ds r l p =
+      let none : h - 2 - r ≡ 0 = omega arith in
+      (rw none at (p .cells-are), filled-done ds₀ ds r l (p .filled))

@@ -40,7 +40,7 @@ dirs-room : (c : tie.In-loop Inv-loop μ-loop)
 dirs-room c =
     rw (c .before .before .blocks-in .ensures)
     (directions-within _ (at-start (c .before) .args .size .height) _ _ (omega arith)
-    (omega (arith, c .before .loop .inv .same-dirs, at-start (c .before) .pre .0 .directions-lent)))
+    (omega (arith, c .before .loop .inv .filled .same-dirs, at-start (c .before) .pre .0 .directions-lent)))
 
 blocks-in-requires : tie.Need-blocks-in-requires Inv-loop μ-loop
 blocks-in-requires c κs = search needs
@@ -116,9 +116,9 @@ loop-again c =
     let n = blocks-in (z .width) in
     let first = (l .r + 2) * z .width in
     let p = c .before .before .before .before .parse-v0-residuals in
-    let enough : n * (z .height - 2) ≤ length (l .dirs) = omega (arith, l .inv .same-dirs, at-start x .pre .0 .directions-lent) in
+    let enough : n * (z .height - 2) ≤ length (l .dirs) = omega (arith, l .inv .filled .same-dirs, at-start x .pre .0 .directions-lent) in
     rw (b .ensures)
-    (rows-on _ _ _ _ _ _ _ (omega arith) (directions-within n (z .height) (l .r) (n * (z .height - 2)) (omega arith) (omega arith)) enough _ _ _ _
+    (rows-on _ _ _ _ _ _ _ (omega arith) enough _ _ _ _
     (same-len-mid {X = ℕ} first (length (l .out) - first) (l .out) (p .last .1 .1 .1 .0) (p .kept .1 .1 .1 .0))
     (same-len-mid {X = ℕ} (l .r * n) (length (l .dirs) - l .r * n) (l .dirs) (p .last .1 .1 .1 .1 .0) (rw (b .ensures) at (p .kept .1 .1 .1 .1 .0)))
     (p .ensures .0) (rw (b .ensures) at (p .ensures .1)) (l .inv))
@@ -131,8 +131,7 @@ same-length-2 c = search needs
 
 returns : tie.Need-returns Inv-loop μ-loop
 unfolding scratch
-returns c =
-    rows-done _ _ _ _ _ _ _ _ _ (omega arith) (omega (arith, c .before .loop .inv .same-dirs, at-start (c .before) .pre .0 .directions-lent)) (c .before .loop .inv)
+returns c = rows-done _ _ _ _ _ _ _ _ _ (omega arith) (c .before .loop .inv)
 
 pub parse-rows-spec : {M : Type 1} → statement M
 parse-rows-spec =
