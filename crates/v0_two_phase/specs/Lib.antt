@@ -1,1 +1,2 @@
+pub mod LateRow
 pub mod Lent

@@ -1,30 +1,27 @@
--- Each step's ensures in the order of the rules; the directions that phase two reads are those that phase one left.
+-- Each step's ensures in the order of the rules.
 use borrow.Author.Needs.{needs}
 use Rattle.v0_two_phase.proofs.FrameLaws.{samples-done, directions-done}
 use Rattle.v0_two_phase.proofs.frame.decode_frame.Statement.{statement}
 use Rattle.v0_two_phase.proofs.frame.decode_frame.Tie as tie
 
 -- Places that the answers look back at.
-abbrev at-start : tie.After-slice-known2 → tie.Start
-at-start c = c .before .before .before .before
+abbrev at-start : tie.After-decode-head-arg → tie.Start
+at-start c = c .before .before .before .before .before
 
-abbrev before-store-rows : tie.After-store-rows → tie.After-slice-known2
-before-store-rows c = c .before .before .before
+abbrev after-decode-head : tie.After-decode-late-rows → tie.After-decode-head
+after-decode-head c = c .before .before .before .before .before
 
-abbrev after-store-rows : tie.After-slice-known4 → tie.After-store-rows
-after-store-rows c = c .before .before .before .before
+abbrev before-exchange : tie.After-exchange → tie.After-slice-known5
+before-exchange c = c .before .before
 
-abbrev before-add-rows : tie.After-add-rows → tie.After-slice-known4
-before-add-rows c = c .before .before .before
+abbrev after-late-rows : tie.After-slice-known5 → tie.After-decode-late-rows
+after-late-rows c = c .before .before .before .before
 
-abbrev after-add-rows : tie.After-exchange → tie.After-add-rows
-after-add-rows c = c .before .before .before .before
+decode-head-requires : tie.Need-decode-head-requires
+decode-head-requires c κs = search needs
 
-store-rows-requires : tie.Need-store-rows-requires
-store-rows-requires c κs = search needs
-
-add-rows-requires : tie.Need-add-rows-requires
-add-rows-requires c κs = search needs
+decode-late-rows-requires : tie.Need-decode-late-rows-requires
+decode-late-rows-requires c κs = search needs
 
 exchange-requires : tie.Need-exchange-requires
 exchange-requires c κs = search needs
@@ -37,20 +34,21 @@ same-length-2 c = search needs
 
 returns : tie.Need-returns
 returns c =
-    let added = after-add-rows (c .before .before) in
-    let filled = after-store-rows (before-add-rows added) in
-    let z = at-start (before-store-rows filled) .args .size in
-    let stored = filled .store-rows .ensures in (
-      samples-done _ _ z _ _ _ _ _ _ (stored .0) (stored .1) (added .add-rows .ensures) (c .before .before .exchange .ensures),
-      directions-done _ _ z _ _ (stored .1),
+    let exchanged = c .before .before in
+    let late = after-late-rows (before-exchange exchanged) in
+    let headed = after-decode-head late in
+    let z = at-start (headed .before) .args .size in
+    let rows = late .decode-late-rows .ensures in (
+      samples-done _ _ z _ _ _ _ (headed .decode-head .ensures) (rows .0) (exchanged .exchange .ensures),
+      directions-done _ _ z _ _ (rows .1),
     )
 
 pub decode-frame-spec : {M : Type 1} → statement M
 decode-frame-spec =
     tie.close
     (tie.spec
-    store-rows-requires
-    add-rows-requires
+    decode-head-requires
+    decode-late-rows-requires
     exchange-requires
     same-length
     same-length-2
