@@ -1,5 +1,4 @@
--- Phase two of any kind of cell: row by row, block by block and sample by sample, what is left from here comes to the whole from
--- the start.
+-- Phase two of any kind of cell: block by block and sample by sample, what is left from here comes to the whole from the start.
 use mathlib.Core.Path.{_≡_, refl, sym, _∙_}
 use mathlib.Core.Bool.{Bool, true, false}
 use mathlib.Core.List.{List, [], _∷_, _++_, map}
@@ -9,7 +8,7 @@ use native.Mathlib.Omega.{arith}
 use native.Mathlib.Nat.{mul-le-mul-right}
 use native.Mathlib.Numerals.{add-one}
 use lib.ListN.{length, getD, take, drop, length-drop}
-use lib.Seq.{drop-cons, drop-drop, take-append-le, drop-append-le}
+use lib.Seq.{drop-cons, take-append-le, drop-append-le}
 use borrow.Author.Tests.{lt-ltb, le-ltb, ne-eqb}
 use Rattle.rules.specs.V0.{put, apply, order, blocks-in, rows-up, columns-back}
 use Rattle.rules.specs.Phases.{Stage, upward, late-predictor, predict-samples, predict-blocks, phase-two}
@@ -153,43 +152,6 @@ whole-row g w row start n dirs f f₀ e =
     let all : n - 0 ≡ n = omega arith in
     let first : start + 0 ≡ start = omega arith in
     rw (all, first) at e
-
--- ── Rows ──
-
-module _ (g : Stage ℕ) (w h : ℕ) (ds : List ℕ) where
-  pub record Rows (f₀ f : List ℕ) (r : ℕ) : Type 0 where
-    pub below : r ≤ h - 2
-    pub same-length : length f ≡ length f₀
-    pub cells-are : phase-two g w (h - 2 - r) (r + 2) (drop (r * blocks-in w) ds) f ≡ phase-two g w (h - 2) 2 ds f₀
-
-  pub rows-begun : (f : List ℕ) → Rows f f 0
-  rows-begun f =
-      let z : h - 2 - 0 ≡ h - 2 = omega arith in
-      let first : 0 + 2 ≡ 2 = omega arith in
-      let none : 0 * blocks-in w ≡ 0 = omega arith in
-      record { below = omega arith; same-length = refl; cells-are = rw (z, first, none) }
-
-  pub rows-on : (f₀ f f′ : List ℕ) (r : ℕ) → r + 2 < h → length f′ ≡ length f
-      → f′ ≡ predict-blocks g w (r + 2) 0 (take (blocks-in w) (drop (r * blocks-in w) ds)) f → Rows f₀ f r → Rows f₀ f′ (r + 1)
-  unfolding phase-two
-  rows-on f₀ f f′ r l same q p =
-      record { below = omega arith; same-length = same ∙ p .same-length; cells-are = sym left ∙ p .cells-are }
-    where
-      n : ℕ
-      n = blocks-in w
-
-      left : phase-two g w (h - 2 - r) (r + 2) (drop (r * n) ds) f ≡ phase-two g w (h - 2 - (r + 1)) (r + 1 + 2) (drop ((r + 1) * n) ds) f′
-      left =
-          let more : h - 2 - r ≡ suc (h - 2 - (r + 1)) = omega arith in
-          let row : r + 1 + 2 ≡ suc (r + 2) = omega arith in
-          let start : (r + 1) * n ≡ r * n + n = omega arith in
-          rw (more, row, start, ← drop-drop n (r * n) ds, q)
-
-  pub rows-done : (f₀ f : List ℕ) (r : ℕ) → h ≤ r + 2 → Rows f₀ f r → f ≡ phase-two g w (h - 2) 2 ds f₀
-  unfolding phase-two
-  rows-done f₀ f r l p =
-      let none : h - 2 - r ≡ 0 = omega arith in
-      rw none at (p .cells-are)
 
 -- ── The directions that are read ──
 

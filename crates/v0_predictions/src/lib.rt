@@ -6,13 +6,12 @@ ghost use Prim.Native.Nat.{_+_, _-_, _*_, _%_, _≤_, _<_};
 ghost use lib.Dec.{eqb};
 ghost use lib.ListN.{length, getD, take, drop};
 ghost use Rattle.rules.specs.V0.{order, blocks-in, sample-kind};
-ghost use Rattle.rules.specs.Phases.{late-predictor, predict-samples, predict-blocks, phase-two, sample-stage};
-ghost use Rattle.v0_cells.specs.Places.{Inside, Low, PhaseLent};
+ghost use Rattle.rules.specs.Phases.{late-predictor, predict-samples, predict-blocks, sample-stage};
+ghost use Rattle.v0_cells.specs.Places.{Inside, Low};
 ghost use Rattle.v0_cells.specs.Inner.{Replaced};
 ghost use Rattle.v0_predictions.specs.Inner.{predict-inner};
 ghost use Rattle.v0_predictions.specs.Lent.{LateSample, LateRow};
 use rules::Predictor;
-use rules::Size;
 use rules::V0Row;
 use v0_cells::cells::put;
 use v0_stream::order::stream_column;
@@ -165,20 +164,5 @@ pub fn add_part(
     while k < to {
         add_block(out, w, row, k * V0Row::BLOCK, dirs[start + k] != 0);
         k += 1;
-    }
-}
-
-// The samples of rows 2 on.
-pub fn add_rows(out: &mut [u16], dirs: &[u8], size: Size)
-    requires { ⌜ PhaseLent size (now out) (now dirs) ⌝ }
-    ensures { λ _. ⌜ now (out .exit) ≡ phase-two sample-stage (size .width) (size .height - 2) 2 (now (dirs .entry)) (now (out .entry)) ⌝ }
-{
-    let w = size.width;
-    let h = size.height;
-    let blocks = V0Row::blocks_in(w);
-    let mut r: usize = 0;
-    while r + 2 < h {
-        add_part(out, dirs, r * blocks, 0, blocks, w, r + 2);
-        r += 1;
     }
 }
