@@ -63,7 +63,7 @@ fn decode_late_row(src: &[u8], offset: u32, w: usize, r: usize, out: &mut [u16],
 }
 
 // Rows 2 on, one after another. A row's phase two reads nothing that a later row's phase one writes, so that this comes to phase two
-// of all rows after phase one of all; but the frame goes through memory once.
+// of all rows after phase one of all; but the rows go through memory once, not twice.
 fn decode_late_rows(src: &[u8], offsets: &[u32], size: Size, out: &mut [u16], scratch: &mut [u8])
     requires { ⌜ PhaseLent size (now out) (now scratch) × (size .height ≤ length (now offsets)) ⌝ }
     ensures samples { λ _. ⌜ now (out .exit) ≡ Phases.phase-two sample-stage (size .width) (size .height - 2) 2 (Phases.scratch (now (src .entry)) (now (offsets .entry)) size) (Phases.phase-one (now (src .entry)) (now (offsets .entry)) (size .width) (size .height - 2) 2 (now (out .entry))) ⌝ }
