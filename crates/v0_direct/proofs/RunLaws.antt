@@ -2,7 +2,7 @@
 -- run ends.
 use mathlib.Core.Path.{_≡_, refl, sym, ap, ap₂, subst, _∙_}
 use mathlib.Core.List.{List}
-use Prim.Native.Nat.{ℕ, suc, _+_, _-_, _*_, _/_, _%_, _^_, _≤_, _<_}
+use Prim.Native.Nat.{ℕ, suc, _+_, _-_, _*_, _/_, _%_, _≤_}
 use native.Mathlib.Omega.{arith}
 use lib.IntN.{ℤ}
 use lib.ListN.{length, replicate}
@@ -16,7 +16,7 @@ use Rattle.v0_stream.specs.Lengths.{Within, furthest}
 use Rattle.v0_stream.proofs.HeadLaws.{within-more, head-within}
 use Rattle.v0_windows.specs.ByWindow.{Ahead, HeadAt, Ends, residuals-of}
 use Rattle.v0_windows.specs.declared.WindowHead.{WindowHead}
-use Rattle.v0_windows.proofs.GroupLaws.{after-head, end-room, block-read}
+use Rattle.v0_windows.proofs.GroupLaws.{ahead-end, block-read}
 use Rattle.v0_cells.specs.Inner.{inner-ops}
 use Rattle.v0_cells.specs.Places.{Inner}
 use Rattle.v0_direct.specs.Block.{BlockRun, none, also, Ran}
@@ -44,9 +44,7 @@ module _ (s : List ℕ) (z : Size) (row from base q₀ : ℕ) (ls₀ : List ℤ)
     pub after : from ≤ col
     pub below : col ≤ z .width
     pub whole : col % 16 ≡ 0
-    pub late : 64 < q
-    pub soon : q ≤ 96 + 34 * col
-    pub there : base + (q + 31) / 32 * 4 ≤ length s
+    pub ahead : Ahead s base q 31
     pub near : Within (15 + col / 16) ls
     pub same-samples : length out ≡ length out₀
     pub same-map : length map ≡ length map₀
@@ -58,21 +56,13 @@ module _ (s : List ℕ) (z : Size) (row from base q₀ : ℕ) (ls₀ : List ℤ)
         after = omega arith;
         below = omega (arith, i .inside);
         whole = i .frame .block;
-        late = omega (arith, x .few);
-        soon = omega arith;
-        there = omega (arith, x .there);
+        ahead = record { late = omega (arith, x .few); soon = omega arith; there = omega (arith, x .there); far = omega (arith, x .far) };
         near = near;
         same-samples = refl;
         same-map = refl;
       }
 
   module _ {out map : List ℕ} {q : ℕ} {ls : List ℤ} {col : ℕ} (i : Inner z row from) (inside : col + 16 ≤ z .width) (r : Running out map q ls col) where
-    -- Room for a block, where the bytes are there.
-    pub running-ahead : length s < 2 ^ 64 → base + 77 ≤ length s → q / 8 ≤ length s - base - 77 → Ahead s base q 608
-    running-ahead most room more =
-        let few = i .frame .width in let soon = r .soon in
-        record { late = r .late; soon = omega arith; there = omega arith; far = omega arith }
-
     -- Its lengths are near enough to 0 for one more block.
     pub running-near : Within furthest ls
     running-near = within-more (15 + col / 16) furthest ls (omega (arith, i .frame .width)) (r .near)
@@ -81,20 +71,17 @@ module _ (s : List ℕ) (z : Size) (row from base q₀ : ℕ) (ls₀ : List ℤ)
     running-inner = inner-on i (r .after) (r .whole) inside
 
     -- A block more.
-    pub running-on : (h : WindowHead) (q′ : ℕ) (out′ map′ : List ℕ) → Ahead s base q 608 → HeadAt s base q ls h → Ends s base h q′
+    pub running-on : (h : WindowHead) (q′ : ℕ) (out′ map′ : List ℕ) → Ahead s base (h .q) 583 → HeadAt s base q ls h → Ends s base h q′
         → out′ ≡ apply sample-kind (inner-ops (z .width) (row * z .width + col) (h .up) order (residuals-of s base h)) out
         → map′ ≡ apply v0-marks (inner-ops (z .width) (row * z .width + col) (h .up) order (replicate 16 0)) map
         → length out′ ≡ length out → length map′ ≡ length map → Running out′ map′ q′ (h .lengths) (col + 16)
     running-on h q′ out′ map′ ahead at ends eo em so sm =
-        let more = at .soon in let more′ = ends .soon in let some = at .some in let some′ = ends .some in let soon = r .soon in let late = r .late in
         record {
           run = also (r .run) (omega arith) (inner-decoded s (at-bit s base q ls) running-inner _ (block-read {st = at-bit s base q ls} refl at ends) out out′ map map′ eo em) refl;
           after = omega (arith, r .after);
           below = inside;
           whole = omega (arith, r .whole);
-          late = omega arith;
-          soon = omega arith;
-          there = end-room (after-head ahead at) ends;
+          ahead = ahead-end ahead ends;
           near = next;
           same-samples = so ∙ r .same-samples;
           same-map = sm ∙ r .same-map;

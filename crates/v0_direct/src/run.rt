@@ -21,6 +21,7 @@ use v0_windows::BLOCK_BYTES;
 use v0_windows::WindowHead;
 use v0_windows::are_short;
 use v0_windows::four_at;
+use v0_windows::last_start;
 use v0_windows::window_head;
 use window::stands_within;
 use window::state_at;
@@ -82,12 +83,12 @@ fn short_run(
 {
     let bits = state.bits;
     let base = bits.pos as usize - 12;
-    let last = src.len() - base - 77;
+    let last = last_start(src.len() - base);
     let w = size.width;
     let mut q = 96 - bits.count as usize;
     let mut lengths = state.lengths;
     let mut col = from;
-    while col + V0Row::BLOCK <= w && q / 8 <= last {
+    while col + V0Row::BLOCK <= w && q <= last {
         let head = window_head(src, base, q, lengths);
         let after = head.lengths;
         if !are_short(after) {

@@ -12,17 +12,12 @@ use Rattle.rules.specs.declared.v0.V0Row.{V0Row}
 use Rattle.window.specs.Window.{state-at}
 use Rattle.v0_stream.specs.Lengths.{Within}
 use Rattle.v0_stream.proofs.BlockLaws.{block-within}
-use Rattle.v0_windows.specs.ByWindow.{Ahead, Short, HeadAt, Ends, residuals-of}
+use Rattle.v0_windows.specs.ByWindow.{Ahead, HeadAt, Ends, residuals-of}
 use Rattle.v0_windows.specs.declared.WindowHead.{WindowHead}
-use Rattle.v0_windows.proofs.GroupLaws.{Planned}
+use Rattle.v0_windows.proofs.GroupLaws.{ahead-end}
 use Rattle.v0_residuals.specs.Ran.{Ran, none, also, RanAt}
 use Rattle.v0_residuals.specs.declared.run.Place.{Place}
 use Rattle.v0_residuals.proofs.ResidualLaws.{Parsing, parsing-on, position-parsed}
-
--- The bits of short residuals.
-pub short-plan : {s : List ℕ} {base : ℕ} {h : WindowHead} {n₀ n₁ n₂ n₃ : ℕ} → Planned s base h n₀ n₁ n₂ n₃ → Short (h .lengths)
-    → (n₀ ≤ 16) × ((n₁ ≤ 16) × ((n₂ ≤ 16) × (n₃ ≤ 16)))
-short-plan x y = (rw (x .is₀) (y .first), (rw (x .is₁) (y .second), (rw (x .is₂) (y .third), rw (x .is₃) (y .fourth))))
 
 -- ── Blocks by the record ──
 
@@ -62,10 +57,6 @@ module _ {s : List ℕ} {w k : ℕ} {st : V0Row} {out dirs : List ℕ} where
 
 -- ── Blocks by position ──
 
--- There is room for a block that begins no later than it may.
-pub room-for : {s : List ℕ} {base q last : ℕ} → 64 < q → base ≤ length s → length s < 2 ^ 64 → (last + 608 ≤ (length s - base) * 8) × (last < 2 ^ 20) → q ≤ last → Ahead s base q 608
-room-for late starts fits room soon = record { late = late; soon = omega arith; there = omega arith; far = omega arith }
-
 module _ {s : List ℕ} {base w : ℕ} {p : Place} {out dirs : List ℕ} where
   pub run-begun : Ahead s base (p .q) 608 → RanAt s base w p out dirs p out dirs
   run-begun x = record { ahead = record { late = omega arith; soon = omega arith; there = omega arith; far = omega arith }; reads = λ f. none }
@@ -77,7 +68,7 @@ module _ {s : List ℕ} {base w : ℕ} {p : Place} {out dirs : List ℕ} where
       → RanAt s base w p out dirs (record { k = p₁ .k + 1; q = q; lengths = h .lengths }) out₂ (set dirs₁ (p₁ .k) d)
   run-on r l same x head ends eo ed =
       record {
-        ahead = record { late = omega arith; soon = omega arith; there = omega arith; far = omega arith };
+        ahead = ahead-end x ends;
         reads = λ f. also (r .reads f) l same (position-parsed refl head ends eo ed refl);
       }
 

@@ -2,7 +2,7 @@
 // follow one another by position, and the record is made again only after them. No way of reading long residuals stands in the loop,
 // so that the compiler keeps what it goes on with in registers.
 ghost use mathlib.Core.Path.{_≡_};
-ghost use Prim.Native.Nat.{_+_, _*_, _^_, _≤_, _<_};
+ghost use Prim.Native.Nat.{_+_, _≤_};
 ghost use lib.ListN.{length};
 ghost use Rattle.rules.specs.V0.{order};
 ghost use Rattle.rules.specs.Phases.{store-samples};
@@ -17,6 +17,7 @@ use v0_windows::BLOCK_BYTES;
 use v0_windows::WindowHead;
 use v0_windows::are_short;
 use v0_windows::four_at;
+use v0_windows::last_start;
 use v0_windows::window_head;
 use window::stands_within;
 use window::state_at;
@@ -66,18 +67,6 @@ fn store_short(
     let d = four_at(src, base, q3, n3);
     store_four(out, col + 9, d);
     q3 + 4 * n3 as usize
-}
-
-// The last bit of some bytes that a block may begin at: 608 are there from it on. A row's blocks have fewer than 2^20 bits, so that no
-// more are counted, which need not fit.
-fn last_start(bytes: usize) -> usize
-    requires { ⌜ 76 ≤ bytes ⌝ }
-    ensures { λ r. ⌜ (r + 608 ≤ bytes * 8) × (r < 2 ^ 20) ⌝ }
-{
-    if bytes < 131_072 {
-        return bytes * 8 - 608;
-    }
-    1_047_968
 }
 
 // Blocks from a place on, and the place after them: the next is not short, does not lie within the row or has too little room.

@@ -24,7 +24,7 @@ use Rattle.rules.proofs.ReaderLaws.{four-fields, sign-low, sign-high, residual-
 use Rattle.window.specs.Window.{bits-from, state-at, values-at, span, none, also, Window, Standing}
 use Rattle.window.proofs.WindowLaws.{fields-at, fields-end, pair-top, three-at}
 use Rattle.v0_stream.specs.Block.{with-residuals, whole-block}
-use Rattle.v0_windows.specs.ByWindow.{residual, Room, HeadAt, head-of, Ahead, Group, joined, residuals-of, Ends}
+use Rattle.v0_windows.specs.ByWindow.{residual, Room, HeadAt, head-of, Ahead, Short, Group, joined, residuals-of, Ends}
 use Rattle.v0_windows.specs.declared.WindowHead.{WindowHead}
 use Rattle.v0_stream.proofs.BlockLaws.{bits-few-enough, Reading, reading-begun, reading-four, read-all}
 
@@ -227,6 +227,11 @@ module _ {s : List ℕ} {base : ℕ} {h : WindowHead} {n₀ n₁ n₂ n₃ : ℕ
   pub fourth-in : FourIn s base (h .q + 4 * n₀ + 4 * n₁ + 4 * n₂) n₃
   fourth-in = in-room _ _ (omega (arith, near)) (omega (arith, near)) few₃
 
+-- The bits of short residuals.
+pub short-plan : {s : List ℕ} {base : ℕ} {h : WindowHead} {n₀ n₁ n₂ n₃ : ℕ} → Planned s base h n₀ n₁ n₂ n₃ → Short (h .lengths)
+    → (n₀ ≤ 16) × ((n₁ ≤ 16) × ((n₂ ≤ 16) × (n₃ ≤ 16)))
+short-plan x y = (rw (x .is₀) (y .first), (rw (x .is₁) (y .second), (rw (x .is₂) (y .third), rw (x .is₃) (y .fourth))))
+
 -- A block read by position: its four groups too.
 pub record ByPosition (s : List ℕ) (base : ℕ) (h : WindowHead) (n₀ n₁ n₂ n₃ : ℕ) (a b c d : List ℕ) : Type 0 where
   pub plan : Planned s base h n₀ n₁ n₂ n₃
@@ -277,6 +282,10 @@ module _ (s : List ℕ) (base : ℕ) (h : WindowHead) (n₀ n₁ n₂ n₃ : ℕ
 pub standing-ahead : {s : List ℕ} {b : Bits} → Standing s b 80 → Ahead s (b .pos - 12) (96 - b .count) 608
 standing-ahead x = record { late = omega arith; soon = omega arith; there = omega arith; far = omega arith }
 
+-- There is room for a block that begins no later than it may.
+pub room-for : {s : List ℕ} {base q last : ℕ} → 64 < q → base ≤ length s → length s < 2 ^ 64 → (last + 608 ≤ (length s - base) * 8) × (last < 2 ^ 20) → q ≤ last → Ahead s base q 608
+room-for late starts fits room soon = record { late = late; soon = omega arith; there = omega arith; far = omega arith }
+
 -- Its head begins in a window that is there, and its residuals after the head.
 pub ahead-room : {s : List ℕ} {base q : ℕ} → Ahead s base q 608 → Room s base q
 ahead-room x = record { some = omega arith; soon = omega arith; there = omega arith; far = omega arith }
@@ -284,9 +293,12 @@ ahead-room x = record { some = omega arith; soon = omega arith; there = omega ar
 pub after-head : {s : List ℕ} {base q : ℕ} {ls : List ℤ} {h : WindowHead} → Ahead s base q 608 → HeadAt s base q ls h → Ahead s base (h .q) 583
 after-head x y = record { late = omega arith; soon = omega arith; there = omega arith; far = omega arith }
 
--- The state after the block.
-pub end-room : {s : List ℕ} {base : ℕ} {h : WindowHead} {q : ℕ} → Ahead s base (h .q) 583 → Ends s base h q → base + (q + 31) / 32 * 4 ≤ length s
-end-room x y = omega arith
+-- The record can be made again after the block: the word that it has fetched by then lies within 31 bits.
+pub ahead-end : {s : List ℕ} {base : ℕ} {h : WindowHead} {q : ℕ} → Ahead s base (h .q) 583 → Ends s base h q → Ahead s base q 31
+ahead-end x y = record { late = omega arith; soon = omega arith; there = omega arith; far = omega arith }
+
+pub end-room : {s : List ℕ} {base q : ℕ} → Ahead s base q 31 → (0 < q) × ((q < 2 ^ 32) × (base + (q + 31) / 32 * 4 ≤ length s))
+end-room x = (omega arith, (omega arith, omega arith))
 
 -- The head and the residuals are the block that the record reads whole.
 pub block-read : {s : List ℕ} {base q p f : ℕ} {st : V0Row} {h : WindowHead} → st .bits ≡ state-at s base q f → HeadAt s base q (st .lengths) h → Ends s base h p

@@ -18,6 +18,18 @@ use window::window;
 // eighteenth word, and a window may reach into the next but one.
 pub const BLOCK_BYTES: usize = 80;
 
+// The last bit of some bytes that a block may begin at: 608 are there from it on. A row's blocks have fewer than 2^20 bits, so that no
+// more are counted, which need not fit.
+pub fn last_start(bytes: usize) -> usize
+    requires { ⌜ 76 ≤ bytes ⌝ }
+    ensures { λ r. ⌜ (r + 608 ≤ bytes * 8) × (r < 2 ^ 20) ⌝ }
+{
+    if bytes < 131_072 {
+        return bytes * 8 - 608;
+    }
+    1_047_968
+}
+
 // A length after its operation, and how many bits of a window are left after what the operation read.
 struct WindowLength {
     length: i32,

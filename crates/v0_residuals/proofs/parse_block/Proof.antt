@@ -5,7 +5,7 @@ use denote.Ref.{now}
 use borrow.Author.Needs.{needs}
 use Rattle.window.specs.Window.{Standing}
 use Rattle.v0_windows.specs.ByWindow.{Ahead}
-use Rattle.v0_windows.proofs.GroupLaws.{standing-ahead, ahead-room, after-head, end-room}
+use Rattle.v0_windows.proofs.GroupLaws.{standing-ahead, ahead-room, after-head, ahead-end, end-room}
 use Rattle.v0_residuals.proofs.ResidualLaws.{position-parsed}
 use Rattle.v0_residuals.proofs.parse_block.Statement.{statement}
 use Rattle.v0_residuals.proofs.parse_block.Tie as tie
@@ -70,7 +70,7 @@ slice-write-dirs c = let pre = entry (within (opened (stored c))) .pre in let le
 state-at-requires : tie.Need-state-at-requires
 state-at-requires c κs =
     let x = stored (c .before) in let here = ahead (opened x) in let ends = x .store-groups .ensures .0 in
-    (omega (arith, here .late, ends .some), (omega (arith, here .soon, ends .soon), end-room here ends))
+    end-room (ahead-end here ends)
 
 same-length : tie.Need-same-length
 same-length c = search needs

@@ -5,7 +5,7 @@ use denote.Ref.{now}
 use borrow.Author.Needs.{needs}
 use Rattle.window.specs.Window.{Standing}
 use Rattle.v0_windows.specs.ByWindow.{Ahead}
-use Rattle.v0_windows.proofs.GroupLaws.{standing-ahead, ahead-room, after-head, end-room, block-read}
+use Rattle.v0_windows.proofs.GroupLaws.{standing-ahead, ahead-room, after-head, ahead-end, end-room, block-read}
 use Rattle.v0_direct.proofs.InnerLaws.{inner-decoded}
 use Rattle.v0_direct.proofs.row.decode_inner.Statement.{statement}
 use Rattle.v0_direct.proofs.row.decode_inner.Tie as tie
@@ -56,7 +56,7 @@ mark-block-requires c κs = search needs
 state-at-requires : tie.Need-state-at-requires
 state-at-requires c κs =
     let groups = put (marked c) in let near = ahead (groups .before .before) in let end = groups .put-groups .ensures .0 in
-    (omega (arith, near .late, end .some), (omega (arith, near .soon, end .soon), end-room near end))
+    end-room (ahead-end near end)
 
 same-length : tie.Need-same-length
 same-length c = search needs

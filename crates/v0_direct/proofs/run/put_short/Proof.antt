@@ -1,11 +1,11 @@
 -- As `put_groups`, each group out of one window.
 use mathlib.Core.Path.{refl, ap, _∙_}
-use Prim.Native.Nat.{_+_, _*_}
+use Prim.Native.Nat.{_+_, _*_, _≤_}
 use native.Mathlib.Omega.{arith}
 use denote.Ref.{now}
 use borrow.Author.Needs.{needs}
 use Rattle.rules.specs.V0.{sample-kind, apply, order}
-use Rattle.v0_windows.proofs.GroupLaws.{Planned, plan-made, first-in, second-in, third-in, fourth-in, near, ByPosition, groups-are, groups-end}
+use Rattle.v0_windows.proofs.GroupLaws.{Planned, plan-made, first-in, second-in, third-in, fourth-in, near, short-plan, ByPosition, groups-are, groups-end}
 use Rattle.v0_cells.specs.Inner.{inner-ops}
 use Rattle.v0_cells.proofs.InnerLaws.{inner-fits, inner-inside}
 use Rattle.v0_cells.proofs.FourLaws.{fours-put}
@@ -42,6 +42,11 @@ planned c =
     let n₂ = c .before .before in let n₁ = two-counted c in let n₀ = n₁ .before .before in
     plan-made (start c .pre .1 .0) (n₀ .before .residual-length-arg .given) (n₀ .residual-length .ensures) (n₁ .before .residual-length-arg2 .given) (n₁ .residual-length2 .ensures)
     (n₂ .before .residual-length-arg3 .given) (n₂ .residual-length3 .ensures) (c .before .residual-length-arg4 .given) (c .residual-length4 .ensures)
+
+-- At most 16 each.
+few : (c : tie.After-residual-length4)
+    → (two-counted c .before .before .residual-length .result ≤ 16) × ((two-counted c .residual-length2 .result ≤ 16) × ((c .before .before .residual-length3 .result ≤ 16) × (c .residual-length4 .result ≤ 16)))
+few c = short-plan (planned c) (start c .pre .0)
 
 array-copy-out-residual-length : tie.Need-array-copy-out-residual-length
 array-copy-out-residual-length c = search needs
@@ -101,19 +106,19 @@ add-at : tie.Need-add-at
 add-at c = record { fits = omega (arith, inner-fits (start c .pre .1 .1 .0)) }
 
 four-at-requires : tie.Need-four-at-requires
-four-at-requires c κs = let x = planned c in first-in x .short (omega (arith, x .is₀, start c .pre .0 .first))
+four-at-requires c κs = first-in (planned c) .short (few c .0)
 
 put-four-requires : tie.Need-put-four-requires
 put-four-requires c κs = let i = start (c .before .before) .pre .1 .1 .0 in (inner-inside i _ (search needs), (inner-fits i, omega arith))
 
 four-at-requires-2 : tie.Need-four-at-requires-2
-four-at-requires-2 c κs = let n = counted (c .before .before) in let x = planned n in second-in x .short (omega (arith, x .is₁, start n .pre .0 .second))
+four-at-requires-2 c κs = let n = counted (c .before .before) in second-in (planned n) .short (few n .1 .0)
 
 put-four-requires-2 : tie.Need-put-four-requires-2
 put-four-requires-2 c κs = let i = start (counted (c .before .before .before .before)) .pre .1 .1 .0 in (inner-inside i _ (search needs), (inner-fits i, omega arith))
 
 four-at-requires-3 : tie.Need-four-at-requires-3
-four-at-requires-3 c κs = let n = counted (first (c .before .before)) in let x = planned n in third-in x .short (omega (arith, x .is₂, start n .pre .0 .third))
+four-at-requires-3 c κs = let n = counted (first (c .before .before)) in third-in (planned n) .short (few n .1 .1 .0)
 
 put-four-requires-3 : tie.Need-put-four-requires-3
 put-four-requires-3 c κs =
@@ -121,7 +126,7 @@ put-four-requires-3 c κs =
     (inner-inside (pre .0) _ (p₂ .put-four2 .kept .0 ∙ p₁ .put-four .kept .0 ∙ pre .1), (inner-fits (pre .0), omega arith))
 
 four-at-requires-4 : tie.Need-four-at-requires-4
-four-at-requires-4 c κs = let n = counted (first (second (c .before .before))) in let x = planned n in fourth-in x .short (omega (arith, x .is₃, start n .pre .0 .fourth))
+four-at-requires-4 c κs = let n = counted (first (second (c .before .before))) in fourth-in (planned n) .short (few n .1 .1 .1)
 
 put-four-requires-4 : tie.Need-put-four-requires-4
 put-four-requires-4 c κs =

@@ -6,8 +6,8 @@ use denote.Ref.{now}
 use borrow.Author.Needs.{needs}
 use borrow.Author.Tests.{not-false, leb-true}
 use Rattle.v0_windows.specs.ByWindow.{Ahead}
-use Rattle.v0_windows.proofs.GroupLaws.{ahead-room, after-head}
-use Rattle.v0_direct.proofs.RunLaws.{Running, running-begun, running-ahead, running-near, running-inner, running-on, running-done}
+use Rattle.v0_windows.proofs.GroupLaws.{room-for, ahead-room, after-head, end-room}
+use Rattle.v0_direct.proofs.RunLaws.{Running, running-begun, running-near, running-inner, running-on, running-done}
 use Rattle.v0_direct.proofs.run.short_run.Statement.{statement}
 use Rattle.v0_direct.proofs.run.short_run.Tie as tie
 
@@ -18,8 +18,14 @@ abbrev μ-loop : tie.MeasureT-loop
 μ-loop src size row from out₀ map₀ base last w q₀ lengths₀ col₀ out map q lengths col = size .width + 16 - col
 
 -- Points on the way: the entry, the turn's start, and the head.
+abbrev began : tie.After-last-start Inv-loop μ-loop → tie.Start Inv-loop μ-loop
+began c = c .before .before .before .before .before
+
+abbrev roomed : tie.At-loop Inv-loop μ-loop → tie.After-last-start Inv-loop μ-loop
+roomed c = c .before .before .before
+
 abbrev entry : tie.After-struct-known Inv-loop μ-loop → tie.Start Inv-loop μ-loop
-entry c = c .before .before .before .before .before
+entry c = began (c .before)
 
 abbrev start : tie.At-loop Inv-loop μ-loop → tie.Start Inv-loop μ-loop
 start c = entry (c .before .before)
@@ -36,17 +42,17 @@ inside c = omega arith
 
 ahead : (c : tie.Then1 Inv-loop μ-loop) → (let a = start (c .before .before) .args in Ahead (now (a .src)) (a .state .bits .pos - 12) (c .before .before .loop .q) 608)
 ahead c =
-    let l = c .before .before .loop in let a = start (c .before .before) in let there = a .pre .1 .1 .0 .there in
-    running-ahead _ _ _ _ _ _ _ _ _ (a .pre .0) (inside c) (l .inv) (omega arith) (omega arith) (leb-true _ _ (c .if1 .taken))
+    let l = c .before .before .loop in let there = start (c .before .before) .pre .1 .1 .0 .there in
+    room-for (l .inv .ahead .late) (omega arith) (omega arith) (roomed (c .before .before) .last-start .ensures) (leb-true _ _ (c .if1 .taken))
 
 sub-base : tie.Need-sub-base Inv-loop μ-loop
 sub-base c = c .before .before .before .before .pre .1 .1 .0 .fetched
 
-sub-last : tie.Need-sub-last Inv-loop μ-loop
-sub-last c = let there = c .before .before .before .before .pre .1 .1 .0 .there in omega arith
+sub-last-start : tie.Need-sub-last-start Inv-loop μ-loop
+sub-last-start c = let there = c .before .before .before .before .pre .1 .1 .0 .there in omega arith
 
-sub-last-2 : tie.Need-sub-last-2 Inv-loop μ-loop
-sub-last-2 c = let there = c .before .before .before .before .pre .1 .1 .0 .there in omega arith
+last-start-requires : tie.Need-last-start-requires Inv-loop μ-loop
+last-start-requires c κs = let there = c .before .before .before .before .pre .1 .1 .0 .there in omega arith
 
 cast-q : tie.Need-cast-q Inv-loop μ-loop
 cast-q c = search needs
@@ -87,13 +93,11 @@ loop-less c = let t = headed (put-arg (c .before .before .before)) .before in le
 loop-again : tie.Need-loop-again Inv-loop μ-loop
 loop-again c =
     let m = c .before .before .before in let p = put-arg m in let h = headed p in let t = h .before in let l = t .before .before in
-    running-on _ _ _ _ _ _ _ _ _ (start l .pre .0) (inside t) (l .loop .inv) (h .window-head .result) _ _ _ (ahead t) (h .window-head .ensures)
+    running-on _ _ _ _ _ _ _ _ _ (start l .pre .0) (inside t) (l .loop .inv) (h .window-head .result) _ _ _ (after-head (ahead t) (h .window-head .ensures)) (h .window-head .ensures)
     (m .before .before .before .put-short .ensures .0) (m .before .before .before .put-short .ensures .1) (c .before .before .mark-block .ensures) (search needs) (search needs)
 
 state-at-requires : tie.Need-state-at-requires Inv-loop μ-loop
-state-at-requires c κs =
-    let l = c .before in let i = l .loop .inv in let few = start l .pre .0 .frame .width in
-    (omega (arith, i .late), (omega (arith, i .soon, i .below), i .there))
+state-at-requires c κs = end-room (c .before .loop .inv .ahead)
 
 same-length : tie.Need-same-length Inv-loop μ-loop
 same-length c = c .before .before .loop .inv .same-samples
@@ -113,8 +117,8 @@ short-run-spec =
     Inv-loop
     μ-loop
     sub-base
-    sub-last
-    sub-last-2
+    sub-last-start
+    last-start-requires
     cast-q
     sub-q
     loop-holds

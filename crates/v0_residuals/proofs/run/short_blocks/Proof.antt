@@ -7,11 +7,11 @@ use borrow.Author.Needs.{needs}
 use borrow.Author.Tests.{leb-true, not-false}
 use Rattle.rules.specs.V0.{blocks-in}
 use Rattle.v0_windows.specs.ByWindow.{Ahead}
-use Rattle.v0_windows.proofs.GroupLaws.{ahead-room, after-head}
+use Rattle.v0_windows.proofs.GroupLaws.{ahead-room, after-head, room-for}
 use Rattle.v0_residuals.specs.Lent.{RowLent}
 use Rattle.v0_residuals.specs.Ran.{RanAt}
 use Rattle.v0_residuals.proofs.ResidualLaws.{near-enough}
-use Rattle.v0_residuals.proofs.RunLaws.{ran-below, ran-samples, ran-directions, ran-within, run-begun, run-on, room-for}
+use Rattle.v0_residuals.proofs.RunLaws.{ran-below, ran-samples, ran-directions, ran-within, run-begun, run-on}
 use Rattle.v0_residuals.proofs.run.short_blocks.Statement.{statement}
 use Rattle.v0_residuals.proofs.run.short_blocks.Tie as tie
 

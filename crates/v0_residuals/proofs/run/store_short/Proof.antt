@@ -7,9 +7,8 @@ use denote.Ref.{now}
 use borrow.Author.Needs.{needs}
 use Rattle.rules.specs.V0.{order}
 use Rattle.rules.specs.Phases.{store-samples}
-use Rattle.v0_windows.proofs.GroupLaws.{Planned, plan-made, first-in, second-in, third-in, fourth-in, near, ByPosition, groups-are, groups-end}
+use Rattle.v0_windows.proofs.GroupLaws.{Planned, plan-made, first-in, second-in, third-in, fourth-in, near, ByPosition, groups-are, groups-end, short-plan}
 use Rattle.v0_residuals.proofs.ResidualLaws.{fours-stored}
-use Rattle.v0_residuals.proofs.RunLaws.{short-plan}
 use Rattle.v0_residuals.proofs.run.store_short.Statement.{statement}
 use Rattle.v0_residuals.proofs.run.store_short.Tie as tie
 
