@@ -18,8 +18,8 @@ use v0_direct::row::is_inner;
 use v0_direct::sample::decode_samples;
 use v0_stream::block::read_block;
 use v0_stream::block::read_block_head;
-use v0_stream::block::residual_length;
 use v0_windows::BLOCK_BYTES;
+use v0_windows::plan_of;
 use v0_windows::window_head;
 use window::stands_within;
 use window::state_at;
@@ -35,17 +35,13 @@ fn pass_block(src: &[u8], state: V0Row) -> V0Head
     if stands_within(src, bits, BLOCK_BYTES) {
         let base = bits.pos as usize - 12;
         let head = window_head(src, base, 96 - bits.count as usize, lengths);
+        let plan = plan_of(head);
         let after = head.lengths;
-        let n0 = residual_length(after[0]);
-        let n1 = residual_length(after[1]);
-        let n2 = residual_length(after[2]);
-        let n3 = residual_length(after[3]);
-        let end = head.q + 4 * (n0 + n1 + n2 + n3) as usize;
         return V0Head {
             up: head.up,
             row: V0Row {
                 lengths: after,
-                bits: state_at(src, base, end, bits.filler),
+                bits: state_at(src, base, plan.end, bits.filler),
             },
         };
     }

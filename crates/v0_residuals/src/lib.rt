@@ -20,12 +20,12 @@ use rules::V0Row;
 use run::Run;
 use run::parse_run;
 use v0_stream::block::read_block;
-use v0_stream::block::residual_length;
 use v0_stream::order::stream_column;
 use v0_windows::BLOCK_BYTES;
 use v0_windows::WindowHead;
 use v0_windows::four_at;
 use v0_windows::four_long_at;
+use v0_windows::plan_of;
 use v0_windows::window_head;
 use window::stands_within;
 use window::state_at;
@@ -111,40 +111,32 @@ fn store_groups(
     ensures { λ r. ⌜ Ends (now (src .entry)) base head r ⌝ }
     ensures { λ _. ⌜ now (out .exit) ≡ store-samples 0 width col order (residuals-of (now (src .entry)) base head) (now (out .entry)) ⌝ }
 {
-    let lengths = head.lengths;
-    let n0 = residual_length(lengths[0]);
-    let n1 = residual_length(lengths[1]);
-    let n2 = residual_length(lengths[2]);
-    let n3 = residual_length(lengths[3]);
-    let q0 = head.q;
-    let q1 = q0 + 4 * n0 as usize;
-    let q2 = q1 + 4 * n1 as usize;
-    let q3 = q2 + 4 * n2 as usize;
-    let a = if n0 <= 16 {
-        four_at(src, base, q0, n0)
+    let plan = plan_of(head);
+    let a = if plan.n0 <= 16 {
+        four_at(src, base, head.q, plan.n0)
     } else {
-        four_long_at(src, base, q0, n0)
+        four_long_at(src, base, head.q, plan.n0)
     };
     store_four(out, col, a);
-    let b = if n1 <= 16 {
-        four_at(src, base, q1, n1)
+    let b = if plan.n1 <= 16 {
+        four_at(src, base, plan.q1, plan.n1)
     } else {
-        four_long_at(src, base, q1, n1)
+        four_long_at(src, base, plan.q1, plan.n1)
     };
     store_four(out, col + 8, b);
-    let c = if n2 <= 16 {
-        four_at(src, base, q2, n2)
+    let c = if plan.n2 <= 16 {
+        four_at(src, base, plan.q2, plan.n2)
     } else {
-        four_long_at(src, base, q2, n2)
+        four_long_at(src, base, plan.q2, plan.n2)
     };
     store_four(out, col + 1, c);
-    let d = if n3 <= 16 {
-        four_at(src, base, q3, n3)
+    let d = if plan.n3 <= 16 {
+        four_at(src, base, plan.q3, plan.n3)
     } else {
-        four_long_at(src, base, q3, n3)
+        four_long_at(src, base, plan.q3, plan.n3)
     };
     store_four(out, col + 9, d);
-    q3 + 4 * n3 as usize
+    plan.end
 }
 
 // Block k of a row by the record, whatever its state.

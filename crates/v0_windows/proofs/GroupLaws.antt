@@ -24,8 +24,9 @@ use Rattle.rules.proofs.ReaderLaws.{four-fields, sign-low, sign-high, residual-
 use Rattle.window.specs.Window.{bits-from, state-at, values-at, span, none, also, Window, Standing}
 use Rattle.window.proofs.WindowLaws.{fields-at, fields-end, pair-top, three-at}
 use Rattle.v0_stream.specs.Block.{with-residuals, whole-block}
-use Rattle.v0_windows.specs.ByWindow.{residual, Room, HeadAt, head-of, Ahead, Short, Group, joined, residuals-of, Ends}
+use Rattle.v0_windows.specs.ByWindow.{residual, Room, HeadAt, head-of, Ahead, Plans, Short, Group, joined, residuals-of, Ends}
 use Rattle.v0_windows.specs.declared.WindowHead.{WindowHead}
+use Rattle.v0_windows.specs.declared.Plan.{Plan}
 use Rattle.v0_stream.proofs.BlockLaws.{bits-few-enough, Reading, reading-begun, reading-four, read-all}
 
 -- ── The sign ──
@@ -151,25 +152,9 @@ group-at s ls b₀ base q f vs j n a h en some there far x r =
 
 -- ── The block ──
 
--- Room for the residuals after a head, and the bits of each.
-pub record Planned (s : List ℕ) (base : ℕ) (h : WindowHead) (n₀ n₁ n₂ n₃ : ℕ) : Type 0 where
-  pub ahead : Ahead s base (h .q) 583
-  pub is₀ : n₀ ≡ length-bits (getD (h .lengths) 0 (pos 0))
-  pub is₁ : n₁ ≡ length-bits (getD (h .lengths) 1 (pos 0))
-  pub is₂ : n₂ ≡ length-bits (getD (h .lengths) 2 (pos 0))
-  pub is₃ : n₃ ≡ length-bits (getD (h .lengths) 3 (pos 0))
-
 -- Each length is counted as a machine's number.
-pub plan-made : {s : List ℕ} {base : ℕ} {h : WindowHead} {n₀ n₁ n₂ n₃ : ℕ} → Ahead s base (h .q) 583
-    → mag (getD (h .lengths) 0 (pos 0)) < 2 ^ 31 → n₀ ≡ length-bits (toZ w32 (ofZ w32 (getD (h .lengths) 0 (pos 0))))
-    → mag (getD (h .lengths) 1 (pos 0)) < 2 ^ 31 → n₁ ≡ length-bits (toZ w32 (ofZ w32 (getD (h .lengths) 1 (pos 0))))
-    → mag (getD (h .lengths) 2 (pos 0)) < 2 ^ 31 → n₂ ≡ length-bits (toZ w32 (ofZ w32 (getD (h .lengths) 2 (pos 0))))
-    → mag (getD (h .lengths) 3 (pos 0)) < 2 ^ 31 → n₃ ≡ length-bits (toZ w32 (ofZ w32 (getD (h .lengths) 3 (pos 0))))
-    → Planned s base h n₀ n₁ n₂ n₃
-plan-made o f₀ e₀ f₁ e₁ f₂ e₂ f₃ e₃ = record { ahead = o; is₀ = counted _ _ f₀ e₀; is₁ = counted _ _ f₁ e₁; is₂ = counted _ _ f₂ e₂; is₃ = counted _ _ f₃ e₃ }
-  where
-    counted : (l : ℤ) (n : ℕ) → mag l < 2 ^ 31 → n ≡ length-bits (toZ w32 (ofZ w32 l)) → n ≡ length-bits l
-    counted l n fits e = rw (toZ-ofZ w32 l (record { sfits = fits })) at e
+pub counted : (l : ℤ) (n : ℕ) → mag l < 2 ^ 31 → n ≡ length-bits (toZ w32 (ofZ w32 l)) → n ≡ length-bits l
+counted l n fits e = rw (toZ-ofZ w32 l (record { sfits = fits })) at e
 
 -- ── Short ones ──
 
@@ -190,55 +175,46 @@ pub record FourIn (s : List ℕ) (base q n : ℕ) : Type 0 where
   pub short : n ≤ 16 → (n ≤ 16) × ((64 ≤ q) × ((q < 2 ^ 32) × (base + (q + 4 * n - 64) / 32 * 4 + 12 ≤ length s)))
   pub long : 16 < n → (16 < n) × ((n ≤ 32) × ((q < 2 ^ 31) × (base + (q + 2 * n) / 32 * 4 + 12 ≤ length s)))
 
-module _ {s : List ℕ} {base : ℕ} {h : WindowHead} {n₀ n₁ n₂ n₃ : ℕ} (x : Planned s base h n₀ n₁ n₂ n₃) where
-  few₀ : n₀ ≤ 32
-  few₀ = omega (arith, x .is₀, bits-few-enough (getD (h .lengths) 0 (pos 0)))
+-- No residual has more than 32.
+pub few : {h : WindowHead} {p : Plan} → Plans h p → (p .n0 ≤ 32) × ((p .n1 ≤ 32) × ((p .n2 ≤ 32) × (p .n3 ≤ 32)))
+few {h} x = (
+  rw (x .is₀) (bits-few-enough (getD (h .lengths) 0 (pos 0))),
+  (rw (x .is₁) (bits-few-enough (getD (h .lengths) 1 (pos 0))), (rw (x .is₂) (bits-few-enough (getD (h .lengths) 2 (pos 0))), rw (x .is₃) (bits-few-enough (getD (h .lengths) 3 (pos 0))))),
+)
 
-  few₁ : n₁ ≤ 32
-  few₁ = omega (arith, x .is₁, bits-few-enough (getD (h .lengths) 1 (pos 0)))
+-- Short ones have at most 16.
+pub short-plan : {h : WindowHead} {p : Plan} → Plans h p → Short (h .lengths) → (p .n0 ≤ 16) × ((p .n1 ≤ 16) × ((p .n2 ≤ 16) × (p .n3 ≤ 16)))
+short-plan x y = (rw (x .is₀) (y .first), (rw (x .is₁) (y .second), (rw (x .is₂) (y .third), rw (x .is₃) (y .fourth))))
 
-  few₂ : n₂ ≤ 32
-  few₂ = omega (arith, x .is₂, bits-few-enough (getD (h .lengths) 2 (pos 0)))
-
-  few₃ : n₃ ≤ 32
-  few₃ = omega (arith, x .is₃, bits-few-enough (getD (h .lengths) 3 (pos 0)))
-
-  -- The head's end, and the bits of each residual.
-  pub near : (64 < h .q) × ((h .q + 583 < 2 ^ 31) × ((n₀ ≤ 32) × ((n₁ ≤ 32) × ((n₂ ≤ 32) × (n₃ ≤ 32)))))
-  near = (x .ahead .late, (x .ahead .soon, (few₀, (few₁, (few₂, few₃)))))
-
+module _ {s : List ℕ} {base : ℕ} {h : WindowHead} {p : Plan} (ahead : Ahead s base (h .q) 583) (x : Plans h p) where
   -- A group that begins no later than the fourth may.
   in-room : (q n : ℕ) → 64 < q → q ≤ h .q + 384 → n ≤ 32 → FourIn s base q n
   in-room q n late soon few =
-      let there : base * 8 + h .q + 583 ≤ length s * 8 = x .ahead .there in
-      let near : h .q + 583 < 2 ^ 31 = x .ahead .soon in
+      let there : base * 8 + h .q + 583 ≤ length s * 8 = ahead .there in
+      let near : h .q + 583 < 2 ^ 31 = ahead .soon in
       record { short = λ l. (l, (omega arith, (omega arith, omega arith))); long = λ l. (l, (few, (omega arith, omega arith))) }
 
   -- Each of the four.
-  pub first-in : FourIn s base (h .q) n₀
-  first-in = in-room _ _ (omega (arith, near)) (omega (arith, near)) few₀
+  pub first-in : FourIn s base (h .q) (p .n0)
+  first-in = in-room _ _ (ahead .late) (omega arith) (few x .0)
 
-  pub second-in : FourIn s base (h .q + 4 * n₀) n₁
-  second-in = in-room _ _ (omega (arith, near)) (omega (arith, near)) few₁
+  pub second-in : FourIn s base (p .q1) (p .n1)
+  second-in = in-room _ _ (omega (arith, ahead .late, x .second)) (omega (arith, few x, x .second)) (few x .1 .0)
 
-  pub third-in : FourIn s base (h .q + 4 * n₀ + 4 * n₁) n₂
-  third-in = in-room _ _ (omega (arith, near)) (omega (arith, near)) few₂
+  pub third-in : FourIn s base (p .q2) (p .n2)
+  third-in = in-room _ _ (omega (arith, ahead .late, x .third)) (omega (arith, few x, x .third)) (few x .1 .1 .0)
 
-  pub fourth-in : FourIn s base (h .q + 4 * n₀ + 4 * n₁ + 4 * n₂) n₃
-  fourth-in = in-room _ _ (omega (arith, near)) (omega (arith, near)) few₃
-
--- The bits of short residuals.
-pub short-plan : {s : List ℕ} {base : ℕ} {h : WindowHead} {n₀ n₁ n₂ n₃ : ℕ} → Planned s base h n₀ n₁ n₂ n₃ → Short (h .lengths)
-    → (n₀ ≤ 16) × ((n₁ ≤ 16) × ((n₂ ≤ 16) × (n₃ ≤ 16)))
-short-plan x y = (rw (x .is₀) (y .first), (rw (x .is₁) (y .second), (rw (x .is₂) (y .third), rw (x .is₃) (y .fourth))))
+  pub fourth-in : FourIn s base (p .q3) (p .n3)
+  fourth-in = in-room _ _ (omega (arith, ahead .late, x .fourth)) (omega (arith, few x, x .fourth)) (few x .1 .1 .1)
 
 -- A block read by position: its four groups too.
-pub record ByPosition (s : List ℕ) (base : ℕ) (h : WindowHead) (n₀ n₁ n₂ n₃ : ℕ) (a b c d : List ℕ) : Type 0 where
-  pub plan : Planned s base h n₀ n₁ n₂ n₃
-  pub first : Group s base (h .q) n₀ a
-  pub second : Group s base (h .q + 4 * n₀) n₁ b
-  pub third : Group s base (h .q + 4 * n₀ + 4 * n₁) n₂ c
-  pub fourth : Group s base (h .q + 4 * n₀ + 4 * n₁ + 4 * n₂) n₃ d
+pub record ByPosition (s : List ℕ) (base : ℕ) (h : WindowHead) (p : Plan) (a b c d : List ℕ) : Type 0 where
+  pub ahead : Ahead s base (h .q) 583
+  pub plans : Plans h p
+  pub first : Group s base (h .q) (p .n0) a
+  pub second : Group s base (p .q1) (p .n1) b
+  pub third : Group s base (p .q2) (p .n2) c
+  pub fourth : Group s base (p .q3) (p .n3) d
 
 -- A group is one, whichever of the two readers of four made it.
 pub either-way : {s : List ℕ} {base q n : ℕ} {a : List ℕ} {A B : Type 0} {C : A → Type 0} {D : B → Type 0} {u : (x : A) → C x → List ℕ} {v : (x : B) → D x → List ℕ}
@@ -247,34 +223,36 @@ pub either-way : {s : List ℕ} {base q n : ℕ} {a : List ℕ} {A B : Type 0} {
 either-way w f g = ⊎-elim (λ x. subst (Group _ _ _ _) (sym (x .2)) (f (x .0) (x .1))) (λ x. subst (Group _ _ _ _) (sym (x .2)) (g (x .0) (x .1))) w
 
 -- So it is the block that the record reads after the head.
-module _ (s : List ℕ) (base : ℕ) (h : WindowHead) (n₀ n₁ n₂ n₃ : ℕ) (a b c d : List ℕ) (x : ByPosition s base h n₀ n₁ n₂ n₃ a b c d) where
-  block-made : (f : ℕ) → record {
-    up = h .up;
-    row = record { lengths = h .lengths; bits = state-at s base (h .q + 4 * n₀ + 4 * n₁ + 4 * n₂ + 4 * n₃) f };
-    residuals = joined a b c d;
-  } ≡ with-residuals s (head-of s base f h)
+module _ {s : List ℕ} {base : ℕ} {h : WindowHead} {p : Plan} {a b c d : List ℕ} (x : ByPosition s base h p a b c d) where
+  block-made : (f : ℕ) → record { up = h .up; row = record { lengths = h .lengths; bits = state-at s base (p .end) f }; residuals = joined a b c d }
+      ≡ with-residuals s (head-of s base f h)
   block-made f =
       let ls = h .lengths in
       let q : ℕ = h .q in
-      let p = x .plan in
-      let n = near p in
-      let there : base * 8 + q + 583 ≤ length s * 8 = p .ahead .there in
-      let far : base * 8 + q + 583 < 2 ^ 67 = p .ahead .far in
+      let n₀ : ℕ = p .n0 in let n₁ : ℕ = p .n1 in let n₂ : ℕ = p .n2 in let n₃ : ℕ = p .n3 in
+      let y = x .plans in
+      let n = few y in
+      let late : 64 < q = x .ahead .late in
+      let there : base * 8 + q + 583 ≤ length s * 8 = x .ahead .there in
+      let far : base * 8 + q + 583 < 2 ^ 67 = x .ahead .far in
+      let g₁ = rw (y .second) at (x .second) in
+      let g₂ = rw (y .third) at (x .third) in
+      let g₃ = rw (y .fourth) at (x .fourth) in
       let r₀ = reading-begun s ls (state-at s base q f) (replicate 16 0) refl in
-      let r₁ = group-at s ls (state-at s base q f) base q f _ 0 n₀ a (omega arith) (p .is₀) (omega arith) (omega arith) (omega arith) (x .first) r₀ in
-      let r₂ = group-at s ls (state-at s base q f) base (q + 4 * n₀) f _ 1 n₁ b (omega arith) (p .is₁) (omega arith) (omega arith) (omega arith) (x .second) r₁ in
-      let r₃ = group-at s ls (state-at s base q f) base (q + 4 * n₀ + 4 * n₁) f _ 2 n₂ c (omega arith) (p .is₂) (omega arith) (omega arith) (omega arith) (x .third) r₂ in
-      let r₄ = group-at s ls (state-at s base q f) base (q + 4 * n₀ + 4 * n₁ + 4 * n₂) f _ 3 n₃ d (omega arith) (p .is₃) (omega arith) (omega arith) (omega arith) (x .fourth) r₃ in
-      read-all s ls (state-at s base q f) _ _ 16 (head-of s base f h) (omega arith) refl refl r₄
+      let r₁ = group-at s ls (state-at s base q f) base q f _ 0 n₀ a (omega arith) (y .is₀) (omega arith) (omega arith) (omega arith) (x .first) r₀ in
+      let r₂ = group-at s ls (state-at s base q f) base (q + 4 * n₀) f _ 1 n₁ b (omega arith) (y .is₁) (omega arith) (omega arith) (omega arith) g₁ r₁ in
+      let r₃ = group-at s ls (state-at s base q f) base (q + 4 * n₀ + 4 * n₁) f _ 2 n₂ c (omega arith) (y .is₂) (omega arith) (omega arith) (omega arith) g₂ r₂ in
+      let r₄ = group-at s ls (state-at s base q f) base (q + 4 * n₀ + 4 * n₁ + 4 * n₂) f _ 3 n₃ d (omega arith) (y .is₃) (omega arith) (omega arith) (omega arith) g₃ r₃ in
+      rw (y .ends) (read-all s ls (state-at s base q f) _ _ 16 (head-of s base f h) (omega arith) refl refl r₄)
 
   -- Its residuals, and where it ends.
   pub groups-are : joined a b c d ≡ residuals-of s base h
   groups-are = ap (λ r. r .residuals) (block-made 0)
 
-  pub groups-end : (q : ℕ) → q ≡ h .q + 4 * n₀ + 4 * n₁ + 4 * n₂ + 4 * n₃ → Ends s base h q
-  groups-end q e =
-      let n = near (x .plan) in
-      rw e (record { some = omega arith; soon = omega arith; reads = λ f. sym (block-made f) ∙ rw groups-are })
+  pub groups-end : Ends s base h (p .end)
+  groups-end =
+      let n = few (x .plans) in let e = x .plans .ends in
+      record { some = omega arith; soon = omega arith; reads = λ f. sym (block-made f) ∙ rw groups-are }
 
 -- ── From a head's start ──
 

@@ -16,6 +16,7 @@ use Rattle.v0_stream.specs.Block.{with-residuals}
 use Rattle.v0_stream.specs.Lengths.{stepped}
 use Rattle.v0_windows.specs.declared.WindowLength.{WindowLength}
 use Rattle.v0_windows.specs.declared.WindowHead.{WindowHead}
+use Rattle.v0_windows.specs.declared.Plan.{Plan}
 
 -- A window that begins at bit q is in the stream.
 pub record Room (s : List ℕ) (base q : ℕ) : Type 0 where
@@ -56,6 +57,17 @@ pub record Ahead (s : List ℕ) (base q more : ℕ) : Type 0 where
 -- The residual that n bits v are.
 abbrev pub residual : ℕ → ℕ → ℕ
 residual n v = modulo (signed n v)
+
+-- The groups after a head: the bits of each residual, and where each group begins and the last ends.
+pub record Plans (h : WindowHead) (p : Plan) : Type 0 where
+  pub is₀ : p .n0 ≡ length-bits (getD (h .lengths) 0 (pos 0))
+  pub is₁ : p .n1 ≡ length-bits (getD (h .lengths) 1 (pos 0))
+  pub is₂ : p .n2 ≡ length-bits (getD (h .lengths) 2 (pos 0))
+  pub is₃ : p .n3 ≡ length-bits (getD (h .lengths) 3 (pos 0))
+  pub second : p .q1 ≡ h .q + 4 * p .n0
+  pub third : p .q2 ≡ h .q + 4 * p .n0 + 4 * p .n1
+  pub fourth : p .q3 ≡ h .q + 4 * p .n0 + 4 * p .n1 + 4 * p .n2
+  pub ends : p .end ≡ h .q + 4 * p .n0 + 4 * p .n1 + 4 * p .n2 + 4 * p .n3
 
 -- Lengths whose residuals have at most 16 bits, so that four lie in one window.
 pub record Short (ls : List ℤ) : Type 0 where

@@ -6,11 +6,12 @@ ghost use Prim.Native.Nat.{_+_, _-_, _*_, _/_, _%_, _^_, _≤_, _<_};
 ghost use lib.Dec.{eqb};
 ghost use lib.ListN.{length};
 ghost use lib.Signed.{mag};
-ghost use Rattle.v0_windows.specs.ByWindow.{residual, Room, length-in, HeadAt, Short, Group};
+ghost use Rattle.v0_windows.specs.ByWindow.{residual, Room, length-in, HeadAt, Plans, Short, Group};
 ghost use Rattle.rules.specs.V0.{length-bits};
 ghost use Rattle.v0_stream.specs.Lengths.{Within, furthest};
 use fields::field;
 use fields::power;
+use v0_stream::block::residual_length;
 use v0_stream::head::step;
 use window::window;
 
@@ -79,6 +80,45 @@ pub fn window_head(src: &[u8], base: usize, q: usize, lengths: [i32; 4]) -> Wind
         up: field(v, 63, 1) == 1,
         lengths: [a.length, b.length, c.length, d.length],
         q: q + (64 - d.left) as usize,
+    }
+}
+
+// How the residuals after a head lie: the bits of each group's, the bit that each group after the first begins at, and the bit after
+// the last.
+pub struct Plan {
+    pub n0: u32,
+    pub n1: u32,
+    pub n2: u32,
+    pub n3: u32,
+    pub q1: usize,
+    pub q2: usize,
+    pub q3: usize,
+    pub end: usize,
+}
+
+// The plan after a head.
+pub fn plan_of(head: WindowHead) -> Plan
+    requires { ⌜ head .q < 2 ^ 31 ⌝ }
+    ensures { λ r. ⌜ Plans head r ⌝ }
+{
+    let lengths = head.lengths;
+    let n0 = residual_length(lengths[0]);
+    let n1 = residual_length(lengths[1]);
+    let n2 = residual_length(lengths[2]);
+    let n3 = residual_length(lengths[3]);
+    let q1 = head.q + 4 * n0 as usize;
+    let q2 = q1 + 4 * n1 as usize;
+    let q3 = q2 + 4 * n2 as usize;
+    let end = q3 + 4 * n3 as usize;
+    Plan {
+        n0,
+        n1,
+        n2,
+        n3,
+        q1,
+        q2,
+        q3,
+        end,
     }
 }
 

@@ -1,24 +1,19 @@
 -- The head tells the bits of each residual, so each group is the one that the record would read from there on; stored one after another
 -- they are the block's.
-use mathlib.Core.Path.{refl, ap, _∙_}
+use mathlib.Core.Path.{ap, _∙_}
+use native.Mathlib.Omega.{arith}
 use denote.Ref.{now}
 use borrow.Author.Needs.{needs}
 use Rattle.rules.specs.V0.{order}
 use Rattle.rules.specs.Phases.{store-samples}
-use Rattle.v0_windows.proofs.GroupLaws.{Planned, plan-made, first-in, second-in, third-in, fourth-in, ByPosition, either-way, groups-are, groups-end}
+use Rattle.v0_windows.proofs.GroupLaws.{first-in, second-in, third-in, fourth-in, ByPosition, either-way, groups-are, groups-end}
 use Rattle.v0_residuals.proofs.ResidualLaws.{fours-stored}
 use Rattle.v0_residuals.proofs.store_groups.Statement.{statement}
 use Rattle.v0_residuals.proofs.store_groups.Tie as tie
 
--- Points on the way: the entry, the bits of the first length, and each group where it was read.
-abbrev start : tie.After-lengths → tie.Start
-start c = c .before .before .before
-
-abbrev counted : tie.After-residual-length3 → tie.After-residual-length
-counted c = c .before .before .before .before
-
-abbrev entry : tie.After-residual-length4 → tie.Start
-entry c = start (counted (c .before .before) .before .before)
+-- Points on the way: the entry, and each group where it was read.
+abbrev entry : tie.After-plan-of → tie.Start
+entry c = c .before .before .before
 
 abbrev first : tie.After-slice-known2 → tie.Joined1
 first c = c .before .before .before .before
@@ -32,79 +27,23 @@ third c = c .before .before .before .before
 abbrev fourth : tie.After-slice-known5 → tie.Joined4
 fourth c = c .before .before .before .before
 
--- The bits of each residual are known.
-planned : (c : tie.After-residual-length4) → (let a = entry c .args in
-    Planned (now (a .src)) (a .base) (a .head) (counted (c .before .before) .residual-length .result) (c .before .before .before .before .residual-length2 .result) (c .before .before .residual-length3 .result) (c .residual-length4 .result))
-planned c =
-    let n₂ = c .before .before in let n₁ = n₂ .before .before in let n₀ = n₁ .before .before in
-    plan-made (entry c .pre .0) (n₀ .before .residual-length-arg .given) (n₀ .residual-length .ensures) (n₁ .before .residual-length-arg2 .given) (n₁ .residual-length2 .ensures)
-    (n₂ .before .residual-length-arg3 .given) (n₂ .residual-length3 .ensures) (c .before .residual-length-arg4 .given) (c .residual-length4 .ensures)
-
-array-copy-out-residual-length : tie.Need-array-copy-out-residual-length
-array-copy-out-residual-length c = search needs
-
-residual-length-requires : tie.Need-residual-length-requires
-residual-length-requires c κs = search needs
-
-array-copy-out-residual-length-2 : tie.Need-array-copy-out-residual-length-2
-array-copy-out-residual-length-2 c = search needs
-
-residual-length-requires-2 : tie.Need-residual-length-requires-2
-residual-length-requires-2 c κs = search needs
-
-array-copy-out-residual-length-3 : tie.Need-array-copy-out-residual-length-3
-array-copy-out-residual-length-3 c = search needs
-
-residual-length-requires-3 : tie.Need-residual-length-requires-3
-residual-length-requires-3 c κs = search needs
-
-array-copy-out-residual-length-4 : tie.Need-array-copy-out-residual-length-4
-array-copy-out-residual-length-4 c = search needs
-
-residual-length-requires-4 : tie.Need-residual-length-requires-4
-residual-length-requires-4 c κs = search needs
-
-cast-q1 : tie.Need-cast-q1
-cast-q1 c = search needs
-
-mul-q1 : tie.Need-mul-q1
-mul-q1 c = search needs
-
-add-q1 : tie.Need-add-q1
-add-q1 c = search needs
-
-cast-q2 : tie.Need-cast-q2
-cast-q2 c = search needs
-
-mul-q2 : tie.Need-mul-q2
-mul-q2 c = search needs
-
-add-q2 : tie.Need-add-q2
-add-q2 c = search needs
-
-cast-q3 : tie.Need-cast-q3
-cast-q3 c = search needs
-
-mul-q3 : tie.Need-mul-q3
-mul-q3 c = search needs
-
-add-q3 : tie.Need-add-q3
-add-q3 c = search needs
+plan-of-requires : tie.Need-plan-of-requires
+plan-of-requires c κs = search needs
 
 four-at-requires : tie.Need-four-at-requires
-four-at-requires c κs = first-in (planned (c .before)) .short (search needs)
+four-at-requires c κs = let x = c .before .before in first-in (entry x .pre .0) (x .plan-of .ensures) .short (search needs)
 
 four-long-at-requires : tie.Need-four-long-at-requires
-four-long-at-requires c κs = first-in (planned (c .before)) .long (search needs)
+four-long-at-requires c κs = let x = c .before .before in first-in (entry x .pre .0) (x .plan-of .ensures) .long (search needs)
 
 store-four-requires : tie.Need-store-four-requires
 store-four-requires c κs = search needs
 
 four-at-requires-2 : tie.Need-four-at-requires-2
-four-at-requires-2 c κs = second-in (planned (first (c .before) .before)) .short (search needs)
+four-at-requires-2 c κs = let x = first (c .before .before) .before .before in second-in (entry x .pre .0) (x .plan-of .ensures) .short (search needs)
 
 four-long-at-requires-2 : tie.Need-four-long-at-requires-2
-four-long-at-requires-2 c κs = second-in (planned (first (c .before) .before)) .long (search needs)
+four-long-at-requires-2 c κs = let x = first (c .before .before) .before .before in second-in (entry x .pre .0) (x .plan-of .ensures) .long (search needs)
 
 add-store-four : tie.Need-add-store-four
 add-store-four c = search needs
@@ -113,10 +52,10 @@ store-four-requires-2 : tie.Need-store-four-requires-2
 store-four-requires-2 c κs = search needs
 
 four-at-requires-3 : tie.Need-four-at-requires-3
-four-at-requires-3 c κs = third-in (planned (first (second (c .before) .before) .before)) .short (search needs)
+four-at-requires-3 c κs = let x = first (second (c .before .before) .before .before) .before .before in third-in (entry x .pre .0) (x .plan-of .ensures) .short (search needs)
 
 four-long-at-requires-3 : tie.Need-four-long-at-requires-3
-four-long-at-requires-3 c κs = third-in (planned (first (second (c .before) .before) .before)) .long (search needs)
+four-long-at-requires-3 c κs = let x = first (second (c .before .before) .before .before) .before .before in third-in (entry x .pre .0) (x .plan-of .ensures) .long (search needs)
 
 add-store-four-2 : tie.Need-add-store-four-2
 add-store-four-2 c = search needs
@@ -125,68 +64,47 @@ store-four-requires-3 : tie.Need-store-four-requires-3
 store-four-requires-3 c κs = search needs
 
 four-at-requires-4 : tie.Need-four-at-requires-4
-four-at-requires-4 c κs = fourth-in (planned (first (second (third (c .before) .before) .before) .before)) .short (search needs)
+four-at-requires-4 c κs = let x = first (second (third (c .before .before) .before .before) .before .before) .before .before in fourth-in (entry x .pre .0) (x .plan-of .ensures) .short (search needs)
 
 four-long-at-requires-4 : tie.Need-four-long-at-requires-4
-four-long-at-requires-4 c κs = fourth-in (planned (first (second (third (c .before) .before) .before) .before)) .long (search needs)
+four-long-at-requires-4 c κs = let x = first (second (third (c .before .before) .before .before) .before .before) .before .before in fourth-in (entry x .pre .0) (x .plan-of .ensures) .long (search needs)
 
 add-store-four-3 : tie.Need-add-store-four-3
-add-store-four-3 c = search needs
+add-store-four-3 c = let room = entry (first (second (third (c .before .before .before) .before .before) .before .before) .before .before) .pre .1 in omega (arith, room)
 
 store-four-requires-4 : tie.Need-store-four-requires-4
-store-four-requires-4 c κs = search needs
-
-cast-result : tie.Need-cast-result
-cast-result c = search needs
-
-mul-result : tie.Need-mul-result
-mul-result c = search needs
-
-add-result : tie.Need-add-result
-add-result c = search needs
+store-four-requires-4 c κs =
+    let s₃ = c .before .before .before in let s₂ = third s₃ .before .before in let s₁ = second s₂ .before .before in let room = entry (first s₁ .before .before) .pre .1 in
+    (omega (arith, room, s₃ .before .before .store-four3 .kept .0, s₂ .before .before .store-four2 .kept .0, s₁ .before .before .store-four .kept .0), omega (arith, room))
 
 same-length : tie.Need-same-length
 same-length c = search needs
 
 returns : tie.Need-returns
 returns c =
-    let s₃ = fourth c in let s₂ = third (s₃ .before) in let s₁ = second (s₂ .before) in let s₀ = first (s₁ .before) in
-    let a = entry (s₀ .before) .args in
-    let x : ByPosition (now (a .src)) (a .base) (a .head) _ _ _ _ (s₀ .if1 .a) (s₁ .if2 .b) (s₂ .if3 .c) (s₃ .if4 .d)
+    let s₃ = fourth c in let s₂ = third (s₃ .before .before) in let s₁ = second (s₂ .before .before) in let s₀ = first (s₁ .before .before) in
+    let plan = s₀ .before .before in
+    let a = entry plan .args in
+    let x : ByPosition (now (a .src)) (a .base) (a .head) (plan .plan-of .result) (s₀ .if1 .a) (s₁ .if2 .b) (s₂ .if3 .c) (s₃ .if4 .d)
     = record {
-      plan = planned (s₀ .before);
+      ahead = entry plan .pre .0;
+      plans = plan .plan-of .ensures;
       first = either-way (s₀ .if1 .came) (λ _ y. y .ensures) (λ _ y. y .ensures);
       second = either-way (s₁ .if2 .came) (λ _ y. y .ensures) (λ _ y. y .ensures);
       third = either-way (s₂ .if3 .came) (λ _ y. y .ensures) (λ _ y. y .ensures);
       fourth = either-way (s₃ .if4 .came) (λ _ y. y .ensures) (λ _ y. y .ensures);
     } in (
-      groups-end _ _ _ _ _ _ _ _ _ _ _ x _ refl,
-      fours-stored (a .width) (a .col) (s₀ .if1 .a) (s₁ .if2 .b) (s₂ .if3 .c) (s₃ .if4 .d) _ _ _ _ _ (entry (s₀ .before) .pre .1 .1 .0)
-          (s₁ .before .before .before .store-four .ensures) (s₂ .before .before .before .store-four2 .ensures) (s₃ .before .before .before .store-four3 .ensures) (c .before .before .store-four4 .ensures)
-          ∙ ap (λ r. store-samples 0 (a .width) (a .col) order r (now (a .out))) (groups-are _ _ _ _ _ _ _ _ _ _ _ x),
+      groups-end x,
+      fours-stored (a .width) (a .col) (s₀ .if1 .a) (s₁ .if2 .b) (s₂ .if3 .c) (s₃ .if4 .d) _ _ _ _ _ (entry plan .pre .1 .1 .0)
+          (s₁ .before .before .before .before .store-four .ensures) (s₂ .before .before .before .before .store-four2 .ensures) (s₃ .before .before .before .before .store-four3 .ensures) (c .before .before .store-four4 .ensures)
+          ∙ ap (λ r. store-samples 0 (a .width) (a .col) order r (now (a .out))) (groups-are x),
     )
 
 pub store-groups-spec : {M : Type 1} → statement M
 store-groups-spec =
     tie.close
     (tie.spec
-    array-copy-out-residual-length
-    residual-length-requires
-    array-copy-out-residual-length-2
-    residual-length-requires-2
-    array-copy-out-residual-length-3
-    residual-length-requires-3
-    array-copy-out-residual-length-4
-    residual-length-requires-4
-    cast-q1
-    mul-q1
-    add-q1
-    cast-q2
-    mul-q2
-    add-q2
-    cast-q3
-    mul-q3
-    add-q3
+    plan-of-requires
     four-at-requires
     four-long-at-requires
     store-four-requires
@@ -202,8 +120,5 @@ store-groups-spec =
     four-long-at-requires-4
     add-store-four-3
     store-four-requires-4
-    cast-result
-    mul-result
-    add-result
     same-length
     returns)

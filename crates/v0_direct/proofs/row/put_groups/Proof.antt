@@ -1,98 +1,44 @@
 -- Four groups by position are the residuals that the record reads whole; put one after another, they are the whole block.
-use mathlib.Core.Path.{refl, ap, _∙_}
+use mathlib.Core.Path.{ap, _∙_}
 use Prim.Native.Nat.{_+_, _*_}
 use native.Mathlib.Omega.{arith}
 use denote.Ref.{now}
 use borrow.Author.Needs.{needs}
 use Rattle.rules.specs.V0.{sample-kind, apply, order}
-use Rattle.v0_windows.proofs.GroupLaws.{Planned, plan-made, first-in, second-in, third-in, fourth-in, near, ByPosition, either-way, groups-are, groups-end}
+use Rattle.v0_windows.proofs.GroupLaws.{first-in, second-in, third-in, fourth-in, ByPosition, either-way, groups-are, groups-end}
 use Rattle.v0_cells.specs.Inner.{inner-ops}
 use Rattle.v0_cells.proofs.InnerLaws.{inner-fits, inner-inside}
 use Rattle.v0_cells.proofs.FourLaws.{fours-put}
 use Rattle.v0_direct.proofs.row.put_groups.Statement.{statement}
 use Rattle.v0_direct.proofs.row.put_groups.Tie as tie
 
--- Points on the way: where the lengths are taken, where the bits of two residuals are known, the entry, where those of all are known, and
--- each group once it is put.
-abbrev after-lengths : tie.After-residual-length2 → tie.After-lengths
-after-lengths c = c .before .before .before .before
+-- Points on the way: the entry, where the groups are planned, and each group once it is put and its samples are back.
+abbrev start : tie.After-plan-of → tie.Start
+start c = c .before .before .before
 
-abbrev two-counted : tie.After-residual-length4 → tie.After-residual-length2
-two-counted c = c .before .before .before .before
+abbrev planned : tie.After-put-four → tie.After-plan-of
+planned c = c .before .before .before .before
 
-abbrev start : tie.After-residual-length4 → tie.Start
-start c = after-lengths (two-counted c) .before .before .before
-
-abbrev counted : tie.After-put-four → tie.After-residual-length4
-counted c = c .before .before .before
+abbrev first-back : tie.After-put-four2 → tie.After-out
+first-back c = c .before .before .before .before .before
 
 abbrev first : tie.After-put-four2 → tie.After-put-four
-first c = c .before .before .before .before .before
+first c = first-back c .before
+
+abbrev second-back : tie.After-put-four3 → tie.After-out2
+second-back c = c .before .before .before .before .before
 
 abbrev second : tie.After-put-four3 → tie.After-put-four2
-second c = c .before .before .before .before .before
+second c = second-back c .before
+
+abbrev third-back : tie.After-put-four4 → tie.After-out3
+third-back c = c .before .before .before .before .before
 
 abbrev third : tie.After-put-four4 → tie.After-put-four3
-third c = c .before .before .before .before .before
+third c = third-back c .before
 
--- The bits of each residual, after a head that stands in the stream.
-planned : (c : tie.After-residual-length4) → (let a = start c .args in
-    Planned (now (a .src)) (a .base) (a .head) (two-counted c .before .before .residual-length .result) (two-counted c .residual-length2 .result) (c .before .before .residual-length3 .result) (c .residual-length4 .result))
-planned c =
-    let n₂ = c .before .before in let n₁ = two-counted c in let n₀ = n₁ .before .before in
-    plan-made (start c .pre .0) (n₀ .before .residual-length-arg .given) (n₀ .residual-length .ensures) (n₁ .before .residual-length-arg2 .given) (n₁ .residual-length2 .ensures)
-    (n₂ .before .residual-length-arg3 .given) (n₂ .residual-length3 .ensures) (c .before .residual-length-arg4 .given) (c .residual-length4 .ensures)
-
-array-copy-out-residual-length : tie.Need-array-copy-out-residual-length
-array-copy-out-residual-length c = search needs
-
-residual-length-requires : tie.Need-residual-length-requires
-residual-length-requires c κs = search needs
-
-array-copy-out-residual-length-2 : tie.Need-array-copy-out-residual-length-2
-array-copy-out-residual-length-2 c = search needs
-
-residual-length-requires-2 : tie.Need-residual-length-requires-2
-residual-length-requires-2 c κs = search needs
-
-array-copy-out-residual-length-3 : tie.Need-array-copy-out-residual-length-3
-array-copy-out-residual-length-3 c = search needs
-
-residual-length-requires-3 : tie.Need-residual-length-requires-3
-residual-length-requires-3 c κs = search needs
-
-array-copy-out-residual-length-4 : tie.Need-array-copy-out-residual-length-4
-array-copy-out-residual-length-4 c = search needs
-
-residual-length-requires-4 : tie.Need-residual-length-requires-4
-residual-length-requires-4 c κs = search needs
-
-cast-q1 : tie.Need-cast-q1
-cast-q1 c = search needs
-
-mul-q1 : tie.Need-mul-q1
-mul-q1 c = search needs
-
-add-q1 : tie.Need-add-q1
-add-q1 c = search needs
-
-cast-q2 : tie.Need-cast-q2
-cast-q2 c = search needs
-
-mul-q2 : tie.Need-mul-q2
-mul-q2 c = search needs
-
-add-q2 : tie.Need-add-q2
-add-q2 c = search needs
-
-cast-q3 : tie.Need-cast-q3
-cast-q3 c = search needs
-
-mul-q3 : tie.Need-mul-q3
-mul-q3 c = search needs
-
-add-q3 : tie.Need-add-q3
-add-q3 c = search needs
+plan-of-requires : tie.Need-plan-of-requires
+plan-of-requires c κs = search needs
 
 mul-at : tie.Need-mul-at
 mul-at c = record { fits = omega (arith, inner-fits (start c .pre .1 .0)) }
@@ -101,49 +47,44 @@ add-at : tie.Need-add-at
 add-at c = record { fits = omega (arith, inner-fits (start c .pre .1 .0)) }
 
 four-at-requires : tie.Need-four-at-requires
-four-at-requires c κs = first-in (planned (c .before)) .short (search needs)
+four-at-requires c κs = let x = c .before .before in first-in (start x .pre .0) (x .plan-of .ensures) .short (search needs)
 
 four-long-at-requires : tie.Need-four-long-at-requires
-four-long-at-requires c κs = first-in (planned (c .before)) .long (search needs)
+four-long-at-requires c κs = let x = c .before .before in first-in (start x .pre .0) (x .plan-of .ensures) .long (search needs)
 
 put-four-requires : tie.Need-put-four-requires
-put-four-requires c κs = let i = start (c .before .before) .pre .1 .0 in (inner-inside i _ (search needs), (inner-fits i, omega arith))
+put-four-requires c κs = let i = start (c .before .before .before) .pre .1 .0 in (inner-inside i _ (search needs), (inner-fits i, omega arith))
 
 four-at-requires-2 : tie.Need-four-at-requires-2
-four-at-requires-2 c κs = second-in (planned (counted (c .before .before .before))) .short (search needs)
+four-at-requires-2 c κs = let x = planned (c .before .before .before .before) in second-in (start x .pre .0) (x .plan-of .ensures) .short (search needs)
 
 four-long-at-requires-2 : tie.Need-four-long-at-requires-2
-four-long-at-requires-2 c κs = second-in (planned (counted (c .before .before .before))) .long (search needs)
+four-long-at-requires-2 c κs = let x = planned (c .before .before .before .before) in second-in (start x .pre .0) (x .plan-of .ensures) .long (search needs)
 
 put-four-requires-2 : tie.Need-put-four-requires-2
-put-four-requires-2 c κs = let i = start (counted (c .before .before .before .before)) .pre .1 .0 in (inner-inside i _ (search needs), (inner-fits i, omega arith))
+put-four-requires-2 c κs = let i = start (planned (c .before .before .before .before .before)) .pre .1 .0 in (inner-inside i _ (search needs), (inner-fits i, omega arith))
 
 four-at-requires-3 : tie.Need-four-at-requires-3
-four-at-requires-3 c κs = third-in (planned (counted (first (c .before .before .before)))) .short (search needs)
+four-at-requires-3 c κs = let x = planned (first (c .before .before .before .before)) in third-in (start x .pre .0) (x .plan-of .ensures) .short (search needs)
 
 four-long-at-requires-3 : tie.Need-four-long-at-requires-3
-four-long-at-requires-3 c κs = third-in (planned (counted (first (c .before .before .before)))) .long (search needs)
+four-long-at-requires-3 c κs = let x = planned (first (c .before .before .before .before)) in third-in (start x .pre .0) (x .plan-of .ensures) .long (search needs)
 
 put-four-requires-3 : tie.Need-put-four-requires-3
-put-four-requires-3 c κs = let i = start (counted (first (c .before .before .before .before))) .pre .1 .0 in (inner-inside i _ (search needs), (inner-fits i, omega arith))
+put-four-requires-3 c κs =
+    let p₂ = c .before .before .before .before .before in let p₁ = first p₂ in let pre = start (planned p₁) .pre .1 in
+    (inner-inside (pre .0) _ (p₂ .put-four2 .kept .0 ∙ p₁ .put-four .kept .0 ∙ pre .1), (inner-fits (pre .0), omega arith))
 
 four-at-requires-4 : tie.Need-four-at-requires-4
-four-at-requires-4 c κs = fourth-in (planned (counted (first (second (c .before .before .before))))) .short (search needs)
+four-at-requires-4 c κs = let x = planned (first (second (c .before .before .before .before))) in fourth-in (start x .pre .0) (x .plan-of .ensures) .short (search needs)
 
 four-long-at-requires-4 : tie.Need-four-long-at-requires-4
-four-long-at-requires-4 c κs = fourth-in (planned (counted (first (second (c .before .before .before))))) .long (search needs)
+four-long-at-requires-4 c κs = let x = planned (first (second (c .before .before .before .before))) in fourth-in (start x .pre .0) (x .plan-of .ensures) .long (search needs)
 
 put-four-requires-4 : tie.Need-put-four-requires-4
-put-four-requires-4 c κs = let i = start (counted (first (second (c .before .before .before .before)))) .pre .1 .0 in (inner-inside i _ (search needs), (inner-fits i, omega arith))
-
-cast-result : tie.Need-cast-result
-cast-result c = search needs
-
-mul-result : tie.Need-mul-result
-mul-result c = search needs
-
-add-result : tie.Need-add-result
-add-result c = let n = near (planned (counted (first (second (third (c .before .before)))))) in record { fits = omega arith }
+put-four-requires-4 c κs =
+    let p₃ = c .before .before .before .before .before in let p₂ = second p₃ in let p₁ = first p₂ in let pre = start (planned p₁) .pre .1 in
+    (inner-inside (pre .0) _ (p₃ .put-four3 .kept .0 ∙ p₂ .put-four2 .kept .0 ∙ p₁ .put-four .kept .0 ∙ pre .1), (inner-fits (pre .0), omega arith))
 
 same-length : tie.Need-same-length
 same-length c = search needs
@@ -151,43 +92,28 @@ same-length c = search needs
 returns : tie.Need-returns
 returns c =
     let p₄ = c .before .before in let p₃ = third p₄ in let p₂ = second p₃ in let p₁ = first p₂ in
-    let i₁ = p₁ .before .before in let i₂ = p₂ .before .before in let i₃ = p₃ .before .before in let i₄ = p₄ .before .before in
-    let a = start (counted p₁) .args in
-    let x : ByPosition (now (a .src)) (a .base) (a .head) _ _ _ _ (i₁ .if1 .a) (i₂ .if2 .b) (i₃ .if3 .c) (i₄ .if4 .d)
+    let g₁ = p₁ .before .before in let g₂ = p₂ .before .before in let g₃ = p₃ .before .before in let g₄ = p₄ .before .before in
+    let plan = planned p₁ in let a = start plan .args in
+    let x : ByPosition (now (a .src)) (a .base) (a .head) (plan .plan-of .result) (g₁ .if1 .a) (g₂ .if2 .b) (g₃ .if3 .c) (g₄ .if4 .d)
     = record {
-      plan = planned (counted p₁);
-      first = either-way (i₁ .if1 .came) (λ _ y. y .ensures) (λ _ y. y .ensures);
-      second = either-way (i₂ .if2 .came) (λ _ y. y .ensures) (λ _ y. y .ensures);
-      third = either-way (i₃ .if3 .came) (λ _ y. y .ensures) (λ _ y. y .ensures);
-      fourth = either-way (i₄ .if4 .came) (λ _ y. y .ensures) (λ _ y. y .ensures);
+      ahead = start plan .pre .0;
+      plans = plan .plan-of .ensures;
+      first = either-way (g₁ .if1 .came) (λ _ y. y .ensures) (λ _ y. y .ensures);
+      second = either-way (g₂ .if2 .came) (λ _ y. y .ensures) (λ _ y. y .ensures);
+      third = either-way (g₃ .if3 .came) (λ _ y. y .ensures) (λ _ y. y .ensures);
+      fourth = either-way (g₄ .if4 .came) (λ _ y. y .ensures) (λ _ y. y .ensures);
     } in (
-      groups-end _ _ _ _ _ _ _ _ _ _ _ x _ refl,
-      fours-put sample-kind (a .size .width) (a .row * a .size .width + a .col) (a .head .up) (i₁ .if1 .a) (i₂ .if2 .b) (i₃ .if3 .c) (i₄ .if4 .d)
+      groups-end x,
+      fours-put sample-kind (a .size .width) (a .row * a .size .width + a .col) (a .head .up) (g₁ .if1 .a) (g₂ .if2 .b) (g₃ .if3 .c) (g₄ .if4 .d)
           (now (a .out)) (p₁ .put-four .last .0) (p₂ .put-four2 .last .0) (p₃ .put-four3 .last .0) (p₄ .put-four4 .last .0) (p₁ .put-four .ensures) (p₂ .put-four2 .ensures) (p₃ .put-four3 .ensures) (p₄ .put-four4 .ensures)
-          ∙ ap (λ r. apply sample-kind (inner-ops (a .size .width) (a .row * a .size .width + a .col) (a .head .up) order r) (now (a .out))) (groups-are _ _ _ _ _ _ _ _ _ _ _ x),
+          ∙ ap (λ r. apply sample-kind (inner-ops (a .size .width) (a .row * a .size .width + a .col) (a .head .up) order r) (now (a .out))) (groups-are x),
     )
 
 pub put-groups-spec : {M : Type 1} → statement M
 put-groups-spec =
     tie.close
     (tie.spec
-    array-copy-out-residual-length
-    residual-length-requires
-    array-copy-out-residual-length-2
-    residual-length-requires-2
-    array-copy-out-residual-length-3
-    residual-length-requires-3
-    array-copy-out-residual-length-4
-    residual-length-requires-4
-    cast-q1
-    mul-q1
-    add-q1
-    cast-q2
-    mul-q2
-    add-q2
-    cast-q3
-    mul-q3
-    add-q3
+    plan-of-requires
     mul-at
     add-at
     four-at-requires
@@ -202,8 +128,5 @@ put-groups-spec =
     four-at-requires-4
     four-long-at-requires-4
     put-four-requires-4
-    cast-result
-    mul-result
-    add-result
     same-length
     returns)
