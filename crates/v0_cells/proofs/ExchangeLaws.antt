@@ -9,7 +9,7 @@ use lib.ListN.{length, getD, set, length-set}
 use Rattle.rules.specs.V0.{Kind, swap, exchange-columns, exchange-rows, exchange}
 use Rattle.rules.specs.Frame.{cells}
 use Rattle.rules.specs.declared.answer.Size.{Size}
-use Rattle.v0_cells.specs.Places.{Whole, InPair, MapInPair, PairsLent, Framed}
+use Rattle.v0_cells.specs.Places.{Whole, InPair, MapInPair, PairsLent}
 use Rattle.v0_cells.proofs.CellLaws.{product}
 
 -- ── Places ──
@@ -67,39 +67,6 @@ module _ (k : Kind ℕ) where
   rows-length w zero row f = refl
   rows-length w (suc n) row f = rows-length w n (row + 2) (exchange-columns k w row (w / 2) 0 f) ∙ columns-length w row (w / 2) 0 f
 
-  pub record Exchanging (w h : ℕ) (f₀ f : List ℕ) (row : ℕ) : Type 0 where
-    pub below : row ≤ h + 1
-    pub same-length : length f ≡ length f₀
-    pub cells-are : exchange-rows k w ((h - row) / 2) row f ≡ exchange-rows k w (h / 2) 0 f₀
-
-  pub exchanging-begun : (w h : ℕ) (f : List ℕ) → Exchanging w h f f 0
-  exchanging-begun w h f = let q : h - 0 ≡ h = omega arith in record { below = omega arith; same-length = refl; cells-are = rw q }
-
-  pub exchanging-on : (w h : ℕ) (f₀ f f′ : List ℕ) (row : ℕ) → row + 1 < h → f′ ≡ exchange-columns k w row (w / 2) 0 f
-      → Exchanging w h f₀ f row → Exchanging w h f₀ f′ (row + 2)
-  unfolding exchange-rows
-  exchanging-on w h f₀ f f′ row l e r =
-      let q : (h - row) / 2 ≡ suc ((h - (row + 2)) / 2) = omega arith in
-      record {
-        below = omega arith;
-        same-length = ap length e ∙ columns-length w row (w / 2) 0 f ∙ r .same-length;
-        cells-are = ap (exchange-rows k w ((h - (row + 2)) / 2) (row + 2)) e ∙ (rw q at (r .cells-are));
-      }
-
-  pub exchanged : (z : Size) (f₀ f : List ℕ) (row : ℕ) → z .height ≤ row + 1 → Exchanging (z .width) (z .height) f₀ f row → f ≡ exchange k z f₀
-  unfolding exchange exchange-rows
-  exchanged z f₀ f row l r = let q : (z .height - row) / 2 ≡ 0 = omega arith in rw q at (r .cells-are)
-
-  -- A pair of rows that the frame still has lies in it.
-  pub frame-pair : (z : Size) (f₀ f : List ℕ) (row : ℕ) → row + 1 < z .height → Framed z f₀ → Exchanging (z .width) (z .height) f₀ f row → InPair (z .width) row f
-  frame-pair z f₀ f row l i r =
-      let h : (row + 2) * z .width ≤ z .height * z .width = mul-le-mul-right (z .width) (omega arith) in
-      record {
-        width = i .width;
-        row-in = omega (arith, i .height);
-        inside = omega (arith, r .same-length, i .lent, mul-comm (z .width) (z .height));
-      }
-
   -- ── Pairs of rows from one number up to another ──
 
   pub record Pairs (w from to : ℕ) (f₀ f : List ℕ) (pair : ℕ) : Type 0 where
@@ -123,6 +90,11 @@ module _ (k : Kind ℕ) where
   pub pairs-done : (w from to : ℕ) (f₀ f : List ℕ) (pair : ℕ) → to ≤ pair → Pairs w from to f₀ f pair → f ≡ exchange-rows k w (to - from) (from * 2) f₀
   unfolding exchange-rows
   pairs-done w from to f₀ f pair l r = let q : to - pair ≡ 0 = omega arith in rw q at (r .cells-are)
+
+  -- All of them are the whole exchange.
+  pub pairs-all : (z : Size) (f f′ : List ℕ) (to : ℕ) → to ≡ z .height / 2 → f′ ≡ exchange-rows k (z .width) (to - 0) 0 f → f′ ≡ exchange k z f
+  unfolding exchange
+  pairs-all z f f′ to n e = let q : to - 0 ≡ z .height / 2 = omega arith in rw q at e
 
   -- ── A map that is not lent ──
 

@@ -77,16 +77,11 @@ pub fn exchange_pairs(out: &mut [u16], map: &mut [u8], size: Size, from: usize, 
     }
 }
 
-// The samples of all pairs of rows.
+// The samples of all pairs of rows, without a map.
 pub fn exchange(out: &mut [u16], size: Size)
     requires { ⌜ Framed size (now out) ⌝ }
     ensures { λ _. ⌜ now (out .exit) ≡ V0.exchange V0.sample-kind size (now (out .entry)) ⌝ }
 {
-    let w = size.width;
-    let h = size.height;
-    let mut row: usize = 0;
-    while row + 1 < h {
-        exchange_pair(out, w, row);
-        row += 2;
-    }
+    let mut no_map = [0u8; 0];
+    exchange_pairs(out, &mut no_map, size, 0, size.height / 2);
 }
