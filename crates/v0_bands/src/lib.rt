@@ -1,11 +1,13 @@
 // Phase two of a V0 frame and the exchange, block by block in the sequence of a list of steps.
 ghost use mathlib.Core.Path.{_≡_};
-ghost use Prim.Native.Nat.{_-_, _/_, min};
+ghost use Prim.Native.Nat.{_-_, _/_, _≤_, min};
 ghost use lib.ListN.{length, drop};
 ghost use mathlib.Core.List.{_++_};
 ghost use Rattle.rules.specs.V0.{exchange-columns, sample-kind};
+ghost use Rattle.rules.specs.Answer.{scratch-bytes};
 ghost use Rattle.rules.specs.Phases as Phases;
 ghost use Rattle.rules.specs.Phases.{sample-stage};
+ghost use Rattle.v0_cells.specs.Places.{PhaseLent};
 ghost use Rattle.bands.specs.Bands.{sized, cut, predict-band, in-bands};
 ghost use Rattle.v0_bands.specs.Freed.{exchange-part, freed-rows, freed-columns, exchange-freed, steps-freed};
 ghost use Rattle.v0_bands.specs.Lent.{BandLent, PairLent, PartLent, RowLent, ColumnLent, StepLent, StepsLent, FrameLent};
@@ -14,8 +16,9 @@ use bands::late_rows;
 use rules::Size;
 use rules::V0Row;
 use v0_cells::exchange::exchange;
+use v0_direct::frame::decode_v0_head;
 use v0_predictions::add_part;
-use v0_two_phase::frame::store_rows;
+use v0_residuals::parse_rows;
 
 // The smaller of two numbers.
 fn least(a: usize, b: usize) -> usize
@@ -163,6 +166,16 @@ pub fn add_steps(
         exchange_freed(out, w, h, bands, block_width, blocks, n);
         i += 1;
     }
+}
+
+// Rows 0 and 1, finished, and then phase one of the others: its residuals lie over what row 1 spilled.
+fn store_rows(src: &[u8], offsets: &[u32], size: Size, out: &mut [u16], scratch: &mut [u8])
+    requires { ⌜ PhaseLent size (now out) (now scratch) × (size .height ≤ length (now offsets)) ⌝ }
+    ensures samples { λ _. ⌜ now (out .exit) ≡ Phases.phase-one (now (src .entry)) (now (offsets .entry)) (size .width) (size .height - 2) 2 (Phases.first-rows sample-kind (now (src .entry)) (now (offsets .entry)) size (now (out .entry))) ⌝ }
+    ensures directions { λ _. ⌜ now (scratch .exit) ≡ Phases.scratch (now (src .entry)) (now (offsets .entry)) size ++ drop (scratch-bytes size) (now (scratch .entry)) ⌝ }
+{
+    decode_v0_head(src, offsets, size, out);
+    parse_rows(src, offsets, size, out, scratch);
 }
 
 // A whole frame, as the plain decoder leaves it, with phase two in the sequence of a good list. There is no map. Without late rows

@@ -9,6 +9,7 @@ use lib.ListN.{length, getD}
 use Rattle.rules.specs.Reader.{most-filler}
 use Rattle.rules.specs.V0.{Kind, Block, write-all, exchange-rows, exchange, frame, decoded, sample-kind, rows, row-blocks, rows-filler, frame-filler}
 use Rattle.rules.specs.Map.{v0-marks}
+use Rattle.rules.specs.Phases.{first-rows}
 use Rattle.rules.specs.declared.answer.Size.{Size}
 use Rattle.v0_direct.specs.Freed.{freed-pairs, rows-freed}
 use Rattle.v0_direct.specs.Lent.{Lends, InRow}
@@ -164,11 +165,11 @@ counted-all s offsets z count filler row l r =
 
 -- ── The first rows, and the whole frame ──
 
--- Rows 0 and 1 free no pair.
-pub rows-first : (k : Kind ℕ) (s offsets : List ℕ) (z : Size) (count : ℕ) (f r : List ℕ) → count ≤ 2 → r ≡ rows-freed k s offsets z count f
-    → r ≡ write-all k (rows s offsets z count 0) f
-unfolding rows-freed exchange-rows
-rows-first k s offsets z count f r l e = let none : freed-pairs count ≡ 0 = omega arith in rw none at e
+-- The first two rows, or as many as there are, free no pair.
+pub rows-first : (k : Kind ℕ) (s offsets : List ℕ) (z : Size) (count : ℕ) (f r : List ℕ) → count ≡ min (z .height) 2 → r ≡ rows-freed k s offsets z count f
+    → r ≡ first-rows k s offsets z f
+unfolding rows-freed exchange-rows first-rows
+rows-first k s offsets z count f r n e = let none : freed-pairs count ≡ 0 = omega arith in rw (none, n) at e
 
 -- All rows' missing words are the frame's.
 pub filler-is : (s offsets : List ℕ) (z : Size) (n : ℕ) → n ≡ rows-filler s offsets z (z .height) 0 0 → n ≡ frame-filler s offsets z

@@ -1,9 +1,11 @@
 // A whole frame: its rows, and the exchange of each pair of rows once no later row reads it, while the caches still hold it.
 // Samples and marks go through the same code; a map that is not lent is a frame of no cells.
 ghost use mathlib.Core.Path.{_≡_};
-ghost use Prim.Native.Nat.{_≤_};
+ghost use mathlib.Core.List.{[]};
+ghost use Prim.Native.Nat.{_≤_, min};
 ghost use Rattle.rules.specs.V0 as V0;
 ghost use Rattle.rules.specs.Map.{v0-marks};
+ghost use Rattle.rules.specs.Phases.{first-rows};
 ghost use Rattle.v0_direct.specs.Freed.{freed-pairs, rows-freed};
 ghost use Rattle.v0_direct.specs.Lent.{Lends};
 use super::row::decode_row;
@@ -43,21 +45,21 @@ fn decode_freeing(
     filler
 }
 
-// At most rows 0 and 1, which free no pair: how many words were missing in them.
-pub fn decode_rows(
-    src: &[u8],
-    offsets: &[u32],
-    size: Size,
-    count: usize,
-    out: &mut [u16],
-    map: &mut [u8],
-) -> u64
-    requires { ⌜ Lends size (now offsets) (now out) (now map) × (count ≤ size .height) × (count ≤ 2) ⌝ }
-    ensures { λ r. ⌜ r ≡ V0.rows-filler (now (src .entry)) (now (offsets .entry)) size count 0 0 ⌝ }
-    ensures { λ _. ⌜ now (out .exit) ≡ V0.write-all V0.sample-kind (V0.rows (now (src .entry)) (now (offsets .entry)) size count 0) (now (out .entry)) ⌝ }
-    ensures { λ _. ⌜ now (map .exit) ≡ V0.write-all v0-marks (V0.rows (now (src .entry)) (now (offsets .entry)) size count 0) (now (map .entry)) ⌝ }
+// How many rows the two-phase decoder leaves to the direct rules.
+fn head_rows(height: usize) -> usize
+    ensures { λ r. ⌜ r ≡ min height 2 ⌝ }
 {
-    decode_freeing(src, offsets, size, count, out, map)
+    if height < 2 { height } else { 2 }
+}
+
+// Rows 0 and 1, or as many as there are: what the two-phase decoder begins with, without a map. They free no pair.
+pub fn decode_v0_head(src: &[u8], offsets: &[u32], size: Size, out: &mut [u16])
+    requires { ⌜ Lends size (now offsets) (now out) [] ⌝ }
+    ensures { λ _. ⌜ now (out .exit) ≡ first-rows V0.sample-kind (now (src .entry)) (now (offsets .entry)) size (now (out .entry)) ⌝ }
+{
+    let first = head_rows(size.height);
+    let mut no_map = [0u8; 0];
+    decode_freeing(src, offsets, size, first, out, &mut no_map);
 }
 
 // All rows, and the last pair after them: how many words were missing.

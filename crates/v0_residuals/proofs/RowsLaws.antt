@@ -12,8 +12,10 @@ use lib.Seq.{take-all, take-set-le, drop-set-add, length-take-le, take-at, drop-
 use borrow.Author.Tests.{le-ltb}
 use borrow.Rule.Slice.PartMut.{midOf, putMid}
 use Rattle.rules.specs.V0.{order, blocks-in, fresh-row}
-use Rattle.rules.specs.Phases.{BlockRecord, row-records, store-samples, store-blocks, phase-one, direction, directions}
-use Rattle.rules.proofs.TwoPhase.{row-directions-length}
+use Rattle.rules.specs.Phases.{BlockRecord, row-records, store-samples, store-blocks, phase-one, direction, directions, scratch}
+use Rattle.rules.specs.Answer.{scratch-bytes}
+use Rattle.rules.specs.declared.answer.Size.{Size}
+use Rattle.rules.proofs.TwoPhase.{row-directions-length, scratch-length}
 use Rattle.v0_cells.proofs.RoomLaws.{directions-within}
 
 -- ── A row where it lies ──
@@ -210,3 +212,8 @@ module _ (s offsets : List ℕ) (w h : ℕ) where
   rows-done f₀ f ds₀ ds r l p =
       let none : h - 2 - r ≡ 0 = omega arith in
       (rw none at (p .cells-are), filled-done ds₀ ds r l (p .filled))
+
+-- The bytes that the directions take are as many as there are directions.
+pub directions-done : (s offsets : List ℕ) (z : Size) (ds₀ ds : List ℕ) → ds ≡ scratch s offsets z ++ drop (scratch-bytes z) ds₀
+    → ds ≡ scratch s offsets z ++ drop (length (scratch s offsets z)) ds₀
+directions-done s offsets z ds₀ ds e = e ∙ ap (λ n. scratch s offsets z ++ drop n ds₀) (sym (scratch-length s offsets z))

@@ -1,52 +1,23 @@
 // A whole frame: rows 0 and 1 by the direct decoder's rules, then the two phases of the others, then the exchange. There is no
 // map: the direct decoder alone makes one.
 ghost use mathlib.Core.Path.{_≡_};
-ghost use mathlib.Core.List.{[], _++_, map};
-ghost use Prim.Native.Nat.{_+_, _-_, _*_, _≤_, min};
+ghost use mathlib.Core.List.{_++_, map};
+ghost use Prim.Native.Nat.{_+_, _-_, _*_, _≤_};
 ghost use lib.ListN.{length, take, drop};
-ghost use Rattle.rules.specs.V0.{blocks-in, sample-kind};
+ghost use Rattle.rules.specs.V0.{blocks-in};
 ghost use Rattle.rules.specs.Answer.{scratch-bytes};
 ghost use Rattle.rules.specs.Phases as Phases;
 ghost use Rattle.rules.specs.Phases.{direction, row-records, sample-stage};
 ghost use Rattle.v0_cells.specs.Places.{PhaseLent};
-ghost use Rattle.v0_direct.specs.Lent as Direct;
 ghost use Rattle.v0_predictions.specs.Lent.{LateRow};
 ghost use Rattle.v0_two_phase.specs.Lent.{Lends};
 ghost use Rattle.v0_two_phase.specs.LateRow.{late-row};
 use rules::Size;
 use rules::V0Row;
 use v0_cells::exchange::exchange;
-use v0_direct::frame::decode_rows;
+use v0_direct::frame::decode_v0_head;
 use v0_predictions::add_part;
-use v0_residuals::parse_rows;
 use v0_residuals::parse_v0_residuals;
-
-// How many rows go by the direct decoder's rules.
-fn head_rows(height: usize) -> usize
-    ensures { λ r. ⌜ r ≡ min height 2 ⌝ }
-{
-    if height < 2 { height } else { 2 }
-}
-
-// Rows 0 and 1, or as many as there are, finished.
-fn decode_head(src: &[u8], offsets: &[u32], size: Size, out: &mut [u16])
-    requires { ⌜ Direct.Lends size (now offsets) (now out) [] ⌝ }
-    ensures { λ _. ⌜ now (out .exit) ≡ Phases.first-rows sample-kind (now (src .entry)) (now (offsets .entry)) size (now (out .entry)) ⌝ }
-{
-    let first = head_rows(size.height);
-    let mut no_map = [0u8; 0];
-    decode_rows(src, offsets, size, first, out, &mut no_map);
-}
-
-// Rows 0 and 1, finished, and then phase one of the others: its residuals lie over what row 1 spilled.
-pub fn store_rows(src: &[u8], offsets: &[u32], size: Size, out: &mut [u16], scratch: &mut [u8])
-    requires { ⌜ Lends size (now offsets) (now out) (now scratch) ⌝ }
-    ensures samples { λ _. ⌜ now (out .exit) ≡ Phases.phase-one (now (src .entry)) (now (offsets .entry)) (size .width) (size .height - 2) 2 (Phases.first-rows sample-kind (now (src .entry)) (now (offsets .entry)) size (now (out .entry))) ⌝ }
-    ensures directions { λ _. ⌜ now (scratch .exit) ≡ Phases.scratch (now (src .entry)) (now (offsets .entry)) size ++ drop (scratch-bytes size) (now (scratch .entry)) ⌝ }
-{
-    decode_head(src, offsets, size, out);
-    parse_rows(src, offsets, size, out, scratch);
-}
 
 // Row r + 2: its residuals stored and its directions kept, then at once its predictions added, while its samples are in the cache.
 fn decode_late_row(src: &[u8], offset: u32, w: usize, r: usize, out: &mut [u16], scratch: &mut [u8])
@@ -83,7 +54,7 @@ pub fn decode_frame(src: &[u8], offsets: &[u32], size: Size, out: &mut [u16], sc
     ensures samples { λ _. ⌜ now (out .exit) ≡ Phases.two-phase (now (src .entry)) (now (offsets .entry)) size (now (out .entry)) ⌝ }
     ensures directions { λ _. ⌜ now (scratch .exit) ≡ Phases.scratch (now (src .entry)) (now (offsets .entry)) size ++ drop (length (Phases.scratch (now (src .entry)) (now (offsets .entry)) size)) (now (scratch .entry)) ⌝ }
 {
-    decode_head(src, offsets, size, out);
+    decode_v0_head(src, offsets, size, out);
     decode_late_rows(src, offsets, size, out, scratch);
     exchange(out, size);
 }

@@ -1,7 +1,7 @@
 -- The lesser of the height and 2, by the code's test.
 use native.Mathlib.Omega.{arith}
-use Rattle.v0_two_phase.proofs.frame.head_rows.Statement.{statement}
-use Rattle.v0_two_phase.proofs.frame.head_rows.Tie as tie
+use Rattle.v0_direct.proofs.frame.head_rows.Statement.{statement}
+use Rattle.v0_direct.proofs.frame.head_rows.Tie as tie
 
 returns : tie.Need-returns
 returns c = omega arith

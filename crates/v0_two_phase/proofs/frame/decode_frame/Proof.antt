@@ -1,15 +1,16 @@
 -- Each step's ensures in the order of the rules.
 use borrow.Author.Needs.{needs}
-use Rattle.v0_two_phase.proofs.FrameLaws.{samples-done, directions-done}
+use Rattle.v0_residuals.proofs.RowsLaws.{directions-done}
+use Rattle.v0_two_phase.proofs.FrameLaws.{samples-done}
 use Rattle.v0_two_phase.proofs.frame.decode_frame.Statement.{statement}
 use Rattle.v0_two_phase.proofs.frame.decode_frame.Tie as tie
 
 -- Places that the answers look back at.
-abbrev at-start : tie.After-decode-head-arg → tie.Start
+abbrev at-start : tie.After-decode-v0-head-arg → tie.Start
 at-start c = c .before .before .before .before .before
 
-abbrev after-decode-head : tie.After-decode-late-rows → tie.After-decode-head
-after-decode-head c = c .before .before .before .before .before
+abbrev after-decode-v0-head : tie.After-decode-late-rows → tie.After-decode-v0-head
+after-decode-v0-head c = c .before .before .before .before .before
 
 abbrev before-exchange : tie.After-exchange → tie.After-slice-known5
 before-exchange c = c .before .before
@@ -17,8 +18,8 @@ before-exchange c = c .before .before
 abbrev after-late-rows : tie.After-slice-known5 → tie.After-decode-late-rows
 after-late-rows c = c .before .before .before .before
 
-decode-head-requires : tie.Need-decode-head-requires
-decode-head-requires c κs = search needs
+decode-v0-head-requires : tie.Need-decode-v0-head-requires
+decode-v0-head-requires c κs = search needs
 
 decode-late-rows-requires : tie.Need-decode-late-rows-requires
 decode-late-rows-requires c κs = search needs
@@ -36,10 +37,10 @@ returns : tie.Need-returns
 returns c =
     let exchanged = c .before .before in
     let late = after-late-rows (before-exchange exchanged) in
-    let headed = after-decode-head late in
+    let headed = after-decode-v0-head late in
     let z = at-start (headed .before) .args .size in
     let rows = late .decode-late-rows .ensures in (
-      samples-done _ _ z _ _ _ _ (headed .decode-head .ensures) (rows .0) (exchanged .exchange .ensures),
+      samples-done _ _ z _ _ _ _ (headed .decode-v0-head .ensures) (rows .0) (exchanged .exchange .ensures),
       directions-done _ _ z _ _ (rows .1),
     )
 
@@ -47,7 +48,7 @@ pub decode-frame-spec : {M : Type 1} → statement M
 decode-frame-spec =
     tie.close
     (tie.spec
-    decode-head-requires
+    decode-v0-head-requires
     decode-late-rows-requires
     exchange-requires
     same-length
