@@ -16,7 +16,7 @@ use Rattle.v0_windows.specs.ByWindow.{Ahead, HeadAt, Ends, residuals-of}
 use Rattle.v0_windows.specs.declared.WindowHead.{WindowHead}
 use Rattle.v0_windows.proofs.GroupLaws.{ahead-end}
 use Rattle.v0_residuals.specs.Ran.{Ran, none, also, RanAt}
-use Rattle.v0_residuals.specs.declared.run.Place.{Place}
+use Rattle.v0_residuals.specs.declared.run.Point.{Point}
 use Rattle.v0_residuals.proofs.ResidualLaws.{Parsing, parsing-on, position-parsed}
 
 -- ── Blocks by the record ──
@@ -57,12 +57,12 @@ module _ {s : List ℕ} {w k : ℕ} {st : V0Row} {out dirs : List ℕ} where
 
 -- ── Blocks by position ──
 
-module _ {s : List ℕ} {base w : ℕ} {p : Place} {out dirs : List ℕ} where
+module _ {s : List ℕ} {base w : ℕ} {p : Point} {out dirs : List ℕ} where
   pub run-begun : Ahead s base (p .q) 608 → RanAt s base w p out dirs p out dirs
   run-begun x = record { ahead = record { late = omega arith; soon = omega arith; there = omega arith; far = omega arith }; reads = λ f. none }
 
   -- One more, from its head and the residuals after it.
-  pub run-on : {p₁ : Place} {h : WindowHead} {q d : ℕ} {out₁ out₂ dirs₁ : List ℕ} → RanAt s base w p out dirs p₁ out₁ dirs₁
+  pub run-on : {p₁ : Point} {h : WindowHead} {q d : ℕ} {out₁ out₂ dirs₁ : List ℕ} → RanAt s base w p out dirs p₁ out₁ dirs₁
       → p₁ .k < blocks-in w → length out₂ ≡ length out₁ → Ahead s base (h .q) 583 → HeadAt s base (p₁ .q) (p₁ .lengths) h → Ends s base h q
       → out₂ ≡ store-samples 0 w (p₁ .k * 16) order (residuals-of s base h) out₁ → d ≡ cond (h .up) 1 0
       → RanAt s base w p out dirs (record { k = p₁ .k + 1; q = q; lengths = h .lengths }) out₂ (set dirs₁ (p₁ .k) d)
@@ -73,7 +73,7 @@ module _ {s : List ℕ} {base w : ℕ} {p : Place} {out dirs : List ℕ} where
       }
 
   -- Between two records.
-  pub run-ran : {p′ : Place} {st : V0Row} {f : ℕ} {b : Bits} {out′ dirs′ : List ℕ} → st .lengths ≡ p .lengths → st .bits ≡ state-at s base (p .q) f
+  pub run-ran : {p′ : Point} {st : V0Row} {f : ℕ} {b : Bits} {out′ dirs′ : List ℕ} → st .lengths ≡ p .lengths → st .bits ≡ state-at s base (p .q) f
       → RanAt s base w p out dirs p′ out′ dirs′ → b ≡ state-at s base (p′ .q) f
       → Ran s w (p .k) st out dirs (p′ .k) (record { lengths = p′ .lengths; bits = b }) out′ dirs′
   run-ran {f = f} el es r eb = rw (el, es, eb) (r .reads f)

@@ -22,8 +22,8 @@ use v0_windows::window_head;
 use window::stands_within;
 use window::state_at;
 
-// A place in a row: a block's number, the bit that it begins at, and the lengths before it.
-pub struct Place {
+// A point in a row: a block's number, the bit that it begins at, and the lengths before it.
+pub struct Point {
     pub k: usize,
     pub q: usize,
     pub lengths: [i32; 4],
@@ -61,15 +61,15 @@ fn store_short(
     plan.end
 }
 
-// Blocks from a place on, and the place after them: the next is not short, does not lie within the row or has too little room.
+// Blocks from a point on, and the point after them: the next is not short, does not lie within the row or has too little room.
 fn short_blocks(
     src: &[u8],
     base: usize,
-    start: Place,
+    start: Point,
     width: usize,
     out: &mut [u16],
     dirs: &mut [u8],
-) -> Place
+) -> Point
     requires { ⌜ Ahead (now src) base (start .q) 608 × RunLent width (start .k) (start .lengths) (now out) (now dirs) ⌝ }
     ensures { λ r. ⌜ RanAt (now (src .entry)) base width start (now (out .entry)) (now (dirs .entry)) r (now (out .exit)) (now (dirs .exit)) ⌝ }
 {
@@ -88,7 +88,7 @@ fn short_blocks(
         lengths = after;
         k += 1;
     }
-    Place { k, q, lengths }
+    Point { k, q, lengths }
 }
 
 // The short blocks from block k on: none where the lengths before it are long, so that a row of long blocks costs no more, or where
@@ -108,7 +108,7 @@ pub fn parse_run(
     let before = row.lengths;
     if are_short(before) && stands_within(src, bits, BLOCK_BYTES) {
         let base = bits.pos as usize - 12;
-        let start = Place {
+        let start = Point {
             k,
             q: 96 - bits.count as usize,
             lengths: before,
