@@ -3,3 +3,12 @@ pub mod frame;
 pub mod row;
 pub mod run;
 pub mod sample;
+
+use rules::Size;
+
+// Where a block lies: at a column of a row of a frame.
+pub struct Place {
+    pub size: Size,
+    pub row: usize,
+    pub col: usize,
+}

@@ -12,6 +12,7 @@ ghost use Rattle.v0_cells.specs.Inner.{inner-ops};
 ghost use Rattle.v0_cells.specs.Places.{InFrame, Inner};
 ghost use Rattle.v0_direct.specs.Lent.{InRow, BlockLent, RunLent};
 ghost use Rattle.v0_direct.specs.Block.{Decoded, BlockRun};
+use super::Place;
 use super::run::Run;
 use super::run::decode_run;
 use super::sample::decode_samples;
@@ -49,118 +50,88 @@ pub fn is_inner(size: Size, row: usize, col: usize) -> bool
 
 // The residuals after a head that was read by position: the bit after them. Each group is put as it is read, so that few registers hold
 // a block; the four ways stand written out, since the compiler calls a function that would join them.
-fn put_groups(
-    src: &[u8],
-    base: usize,
-    head: WindowHead,
-    size: Size,
-    row: usize,
-    col: usize,
-    out: &mut [u16],
-) -> usize
-    requires { ⌜ Ahead (now src) base (head .q) 583 × (Inner size row col × (length (now out) ≡ cells size)) ⌝ }
+fn put_groups(src: &[u8], base: usize, head: WindowHead, at: Place, out: &mut [u16]) -> usize
+    requires { ⌜ Ahead (now src) base (head .q) 583 × (Inner (at .size) (at .row) (at .col) × (length (now out) ≡ cells (at .size))) ⌝ }
     ensures { λ r. ⌜ Ends (now (src .entry)) base head r ⌝ }
-    ensures { λ _. ⌜ now (out .exit) ≡ V0.apply V0.sample-kind (inner-ops (size .width) (row * size .width + col) (head .up) V0.order (residuals-of (now (src .entry)) base head)) (now (out .entry)) ⌝ }
+    ensures { λ _. ⌜ now (out .exit) ≡ V0.apply V0.sample-kind (inner-ops (at .size .width) (at .row * at .size .width + at .col) (head .up) V0.order (residuals-of (now (src .entry)) base head)) (now (out .entry)) ⌝ }
 {
+    let size = at.size;
     let plan = plan_of(head);
     let w = size.width;
-    let at = row * w + col;
+    let first = at.row * w + at.col;
     let a = if plan.n0 <= 16 {
         four_at(src, base, head.q, plan.n0)
     } else {
         four_long_at(src, base, head.q, plan.n0)
     };
-    put_four(out, w, at, head.up, 0, a);
+    put_four(out, w, first, head.up, 0, a);
     let b = if plan.n1 <= 16 {
         four_at(src, base, plan.q1, plan.n1)
     } else {
         four_long_at(src, base, plan.q1, plan.n1)
     };
-    put_four(out, w, at, head.up, 8, b);
+    put_four(out, w, first, head.up, 8, b);
     let c = if plan.n2 <= 16 {
         four_at(src, base, plan.q2, plan.n2)
     } else {
         four_long_at(src, base, plan.q2, plan.n2)
     };
-    put_four(out, w, at, head.up, 1, c);
+    put_four(out, w, first, head.up, 1, c);
     let d = if plan.n3 <= 16 {
         four_at(src, base, plan.q3, plan.n3)
     } else {
         four_long_at(src, base, plan.q3, plan.n3)
     };
-    put_four(out, w, at, head.up, 9, d);
+    put_four(out, w, first, head.up, 9, d);
     plan.end
 }
 
 // An inner block by the record, whatever its state.
-fn decode_by_record(
-    src: &[u8],
-    size: Size,
-    row: usize,
-    col: usize,
-    state: V0Row,
-    out: &mut [u16],
-    map: &mut [u8],
-) -> V0Row
-    requires { ⌜ Inner size row col × BlockLent size (state .lengths) (now out) (now map) ⌝ }
-    ensures { λ r. ⌜ Decoded (now (src .entry)) size row col state (now (out .entry)) (now (map .entry)) r (now (out .exit)) (now (map .exit)) ⌝ }
+fn decode_by_record(src: &[u8], at: Place, state: V0Row, out: &mut [u16], map: &mut [u8]) -> V0Row
+    requires { ⌜ Inner (at .size) (at .row) (at .col) × BlockLent (at .size) (state .lengths) (now out) (now map) ⌝ }
+    ensures { λ r. ⌜ Decoded (now (src .entry)) (at .size) (at .row) (at .col) state (now (out .entry)) (now (map .entry)) r (now (out .exit)) (now (map .exit)) ⌝ }
 {
+    let size = at.size;
     let x = read_block(src, state, true);
     let residuals = x.residuals;
     let w = size.width;
-    put_inner(out, w, row * w + col, x.up, residuals);
-    mark_block(map, size, row, col, x.up);
+    put_inner(out, w, at.row * w + at.col, x.up, residuals);
+    mark_block(map, size, at.row, at.col, x.up);
     x.row
 }
 
 // An inner block: from row 2 on, after column 0 and inside its row nothing is skipped, so that all residuals are read in one go, by
 // windows where the record stands in the stream.
-fn decode_inner(
-    src: &[u8],
-    size: Size,
-    row: usize,
-    col: usize,
-    state: V0Row,
-    out: &mut [u16],
-    map: &mut [u8],
-) -> V0Row
-    requires { ⌜ Inner size row col × BlockLent size (state .lengths) (now out) (now map) ⌝ }
-    ensures { λ r. ⌜ Decoded (now (src .entry)) size row col state (now (out .entry)) (now (map .entry)) r (now (out .exit)) (now (map .exit)) ⌝ }
+fn decode_inner(src: &[u8], at: Place, state: V0Row, out: &mut [u16], map: &mut [u8]) -> V0Row
+    requires { ⌜ Inner (at .size) (at .row) (at .col) × BlockLent (at .size) (state .lengths) (now out) (now map) ⌝ }
+    ensures { λ r. ⌜ Decoded (now (src .entry)) (at .size) (at .row) (at .col) state (now (out .entry)) (now (map .entry)) r (now (out .exit)) (now (map .exit)) ⌝ }
 {
     let bits = state.bits;
     let lengths = state.lengths;
     if stands_within(src, bits, BLOCK_BYTES) {
         let base = bits.pos as usize - 12;
         let head = window_head(src, base, 96 - bits.count as usize, lengths);
-        let end = put_groups(src, base, head, size, row, col, out);
-        mark_block(map, size, row, col, head.up);
+        let end = put_groups(src, base, head, at, out);
+        mark_block(map, at.size, at.row, at.col, head.up);
         let after = head.lengths;
         return V0Row {
             lengths: after,
             bits: state_at(src, base, end, bits.filler),
         };
     }
-    decode_by_record(src, size, row, col, state, out, map)
+    decode_by_record(src, at, state, out, map)
 }
 
 // One block.
-fn decode_block(
-    src: &[u8],
-    size: Size,
-    row: usize,
-    col: usize,
-    state: V0Row,
-    out: &mut [u16],
-    map: &mut [u8],
-) -> V0Row
-    requires { ⌜ InFrame size row col × BlockLent size (state .lengths) (now out) (now map) ⌝ }
-    ensures { λ r. ⌜ Decoded (now (src .entry)) size row col state (now (out .entry)) (now (map .entry)) r (now (out .exit)) (now (map .exit)) ⌝ }
+fn decode_block(src: &[u8], at: Place, state: V0Row, out: &mut [u16], map: &mut [u8]) -> V0Row
+    requires { ⌜ InFrame (at .size) (at .row) (at .col) × BlockLent (at .size) (state .lengths) (now out) (now map) ⌝ }
+    ensures { λ r. ⌜ Decoded (now (src .entry)) (at .size) (at .row) (at .col) state (now (out .entry)) (now (map .entry)) r (now (out .exit)) (now (map .exit)) ⌝ }
 {
-    if is_inner(size, row, col) {
-        return decode_inner(src, size, row, col, state, out, map);
+    if is_inner(at.size, at.row, at.col) {
+        return decode_inner(src, at, state, out, map);
     }
     let head = read_block_head(src, state);
-    let bits = decode_samples(src, size, row, col, head, out, map);
+    let bits = decode_samples(src, at, head, out, map);
     let after = head.row;
     let lengths = after.lengths;
     V0Row { lengths, bits }
@@ -178,30 +149,24 @@ fn end_block(map: &mut [u8], place: usize, bits: Bits)
 }
 
 // A run of blocks from a column on, and the block after it, if the row has one more.
-fn decode_blocks(
-    src: &[u8],
-    size: Size,
-    row: usize,
-    col: usize,
-    state: V0Row,
-    out: &mut [u16],
-    map: &mut [u8],
-) -> Run
-    requires { ⌜ InFrame size row col × RunLent size col (state .lengths) (now out) (now map) ⌝ }
-    ensures { λ r. ⌜ (col < r .col) × BlockRun (now (src .entry)) size row col state (now (out .entry)) (now (map .entry)) (r .col) (r .state) (now (out .exit)) (now (map .exit)) ⌝ }
+fn decode_blocks(src: &[u8], at: Place, state: V0Row, out: &mut [u16], map: &mut [u8]) -> Run
+    requires { ⌜ InFrame (at .size) (at .row) (at .col) × RunLent (at .size) (at .col) (state .lengths) (now out) (now map) ⌝ }
+    ensures { λ r. ⌜ (at .col < r .col) × BlockRun (now (src .entry)) (at .size) (at .row) (at .col) state (now (out .entry)) (now (map .entry)) (r .col) (r .state) (now (out .exit)) (now (map .exit)) ⌝ }
 {
-    let run = decode_run(src, size, row, col, state, out, map);
-    let next = run.col;
+    let size = at.size;
+    let row = at.row;
+    let run = decode_run(src, at, state, out, map);
+    let col = run.col;
     let before = run.state;
     let w = size.width;
-    if w <= next {
+    if w <= col {
         return run;
     }
-    let state = decode_block(src, size, row, next, before, out, map);
+    let state = decode_block(src, Place { size, row, col }, before, out, map);
     let bits = state.bits;
-    end_block(map, row * w + next, bits);
+    end_block(map, row * w + col, bits);
     Run {
-        col: next + V0Row::BLOCK,
+        col: col + V0Row::BLOCK,
         state,
     }
 }
@@ -224,7 +189,7 @@ pub fn decode_row(
     let mut state = V0Row::fresh(row, offset);
     let mut col: usize = 0;
     while col < w {
-        let blocks = decode_blocks(src, size, row, col, state, out, map);
+        let blocks = decode_blocks(src, Place { size, row, col }, state, out, map);
         state = blocks.state;
         col = blocks.col;
     }

@@ -11,8 +11,8 @@ ghost use Rattle.v0_cells.specs.Inner.{inner-ops};
 ghost use Rattle.v0_cells.specs.Places.{InFrame, Inner};
 ghost use Rattle.v0_direct.specs.Lent.{RunLent};
 ghost use Rattle.v0_direct.specs.Block.{Ran};
+use super::Place;
 use super::row::is_inner;
-use rules::Size;
 use rules::V0Row;
 use v0_cells::inner::mark_block;
 use v0_cells::inner::put_four;
@@ -33,60 +33,47 @@ pub struct Run {
 }
 
 // The residuals after a head by position, all of them short: the bit after them.
-fn put_short(
-    src: &[u8],
-    base: usize,
-    head: WindowHead,
-    size: Size,
-    row: usize,
-    col: usize,
-    out: &mut [u16],
-) -> usize
-    requires { ⌜ Short (head .lengths) × (Ahead (now src) base (head .q) 583 × (Inner size row col × (length (now out) ≡ cells size))) ⌝ }
+fn put_short(src: &[u8], base: usize, head: WindowHead, at: Place, out: &mut [u16]) -> usize
+    requires { ⌜ Short (head .lengths) × (Ahead (now src) base (head .q) 583 × (Inner (at .size) (at .row) (at .col) × (length (now out) ≡ cells (at .size)))) ⌝ }
     ensures { λ r. ⌜ Ends (now (src .entry)) base head r ⌝ }
-    ensures { λ _. ⌜ now (out .exit) ≡ V0.apply V0.sample-kind (inner-ops (size .width) (row * size .width + col) (head .up) V0.order (residuals-of (now (src .entry)) base head)) (now (out .entry)) ⌝ }
+    ensures { λ _. ⌜ now (out .exit) ≡ V0.apply V0.sample-kind (inner-ops (at .size .width) (at .row * at .size .width + at .col) (head .up) V0.order (residuals-of (now (src .entry)) base head)) (now (out .entry)) ⌝ }
 {
+    let size = at.size;
     let plan = plan_of(head);
     let w = size.width;
-    let at = row * w + col;
+    let first = at.row * w + at.col;
     let a = four_at(src, base, head.q, plan.n0);
-    put_four(out, w, at, head.up, 0, a);
+    put_four(out, w, first, head.up, 0, a);
     let b = four_at(src, base, plan.q1, plan.n1);
-    put_four(out, w, at, head.up, 8, b);
+    put_four(out, w, first, head.up, 8, b);
     let c = four_at(src, base, plan.q2, plan.n2);
-    put_four(out, w, at, head.up, 1, c);
+    put_four(out, w, first, head.up, 1, c);
     let d = four_at(src, base, plan.q3, plan.n3);
-    put_four(out, w, at, head.up, 9, d);
+    put_four(out, w, first, head.up, 9, d);
     plan.end
 }
 
 // The run from an inner block on, where the row's state stands in the stream and no word was missing.
-fn short_run(
-    src: &[u8],
-    size: Size,
-    row: usize,
-    from: usize,
-    state: V0Row,
-    out: &mut [u16],
-    map: &mut [u8],
-) -> Run
-    requires { ⌜ Inner size row from × ((state .bits .filler ≡ 0) × (Standing (now src) (state .bits) 80 × RunLent size from (state .lengths) (now out) (now map))) ⌝ }
-    ensures { λ r. ⌜ Ran (now (src .entry)) size row from state (now (out .entry)) (now (map .entry)) (r .col) (r .state) (now (out .exit)) (now (map .exit)) ⌝ }
+fn short_run(src: &[u8], at: Place, state: V0Row, out: &mut [u16], map: &mut [u8]) -> Run
+    requires { ⌜ Inner (at .size) (at .row) (at .col) × ((state .bits .filler ≡ 0) × (Standing (now src) (state .bits) 80 × RunLent (at .size) (at .col) (state .lengths) (now out) (now map))) ⌝ }
+    ensures { λ r. ⌜ Ran (now (src .entry)) (at .size) (at .row) (at .col) state (now (out .entry)) (now (map .entry)) (r .col) (r .state) (now (out .exit)) (now (map .exit)) ⌝ }
 {
+    let size = at.size;
+    let row = at.row;
     let bits = state.bits;
     let base = bits.pos as usize - 12;
     let last = last_start(src.len() - base);
     let w = size.width;
     let mut q = 96 - bits.count as usize;
     let mut lengths = state.lengths;
-    let mut col = from;
+    let mut col = at.col;
     while col + V0Row::BLOCK <= w && q <= last {
         let head = window_head(src, base, q, lengths);
         let after = head.lengths;
         if !are_short(after) {
             break;
         }
-        q = put_short(src, base, head, size, row, col, out);
+        q = put_short(src, base, head, Place { size, row, col }, out);
         mark_block(map, size, row, col, head.up);
         lengths = after;
         col += V0Row::BLOCK;
@@ -100,26 +87,18 @@ fn short_run(
 
 // The run from a block on, of which there may be none: it begins at an inner block, after short lengths, where the record stands in the
 // stream and no word was missing.
-pub fn decode_run(
-    src: &[u8],
-    size: Size,
-    row: usize,
-    col: usize,
-    state: V0Row,
-    out: &mut [u16],
-    map: &mut [u8],
-) -> Run
-    requires { ⌜ InFrame size row col × RunLent size col (state .lengths) (now out) (now map) ⌝ }
-    ensures { λ r. ⌜ Ran (now (src .entry)) size row col state (now (out .entry)) (now (map .entry)) (r .col) (r .state) (now (out .exit)) (now (map .exit)) ⌝ }
+pub fn decode_run(src: &[u8], at: Place, state: V0Row, out: &mut [u16], map: &mut [u8]) -> Run
+    requires { ⌜ InFrame (at .size) (at .row) (at .col) × RunLent (at .size) (at .col) (state .lengths) (now out) (now map) ⌝ }
+    ensures { λ r. ⌜ Ran (now (src .entry)) (at .size) (at .row) (at .col) state (now (out .entry)) (now (map .entry)) (r .col) (r .state) (now (out .exit)) (now (map .exit)) ⌝ }
 {
     let bits = state.bits;
     let lengths = state.lengths;
-    if is_inner(size, row, col)
+    if is_inner(at.size, at.row, at.col)
         && bits.filler == 0
         && are_short(lengths)
         && stands_within(src, bits, BLOCK_BYTES)
     {
-        return short_run(src, size, row, col, state, out, map);
+        return short_run(src, at, state, out, map);
     }
-    Run { col, state }
+    Run { col: at.col, state }
 }

@@ -7,9 +7,9 @@ ghost use Rattle.rules.specs.V0 as V0;
 ghost use Rattle.rules.specs.Map.{v0-marks};
 ghost use Rattle.v0_cells.specs.Places.{InFrame};
 ghost use Rattle.v0_direct.specs.Block.{samples-of, Applied};
+use super::Place;
 use bits::read_residual;
 use rules::Bits;
-use rules::Size;
 use rules::V0Head;
 use rules::V0Row;
 use v0_cells::cells::predict;
@@ -21,51 +21,42 @@ use v0_stream::order::stream_column;
 // Sample c of a block after its head.
 fn decode_sample(
     src: &[u8],
-    size: Size,
-    row: usize,
-    col: usize,
+    at: Place,
     head: V0Head,
     c: usize,
     bits: Bits,
     out: &mut [u16],
     map: &mut [u8],
 ) -> Bits
-    requires { ⌜ InFrame size row col × (c < 16) ⌝ }
-    ensures { λ r. ⌜ Applied (samples-of (now (src .entry)) size row col head (c ∷ []) bits) (now (out .entry)) (now (map .entry)) r (now (out .exit)) (now (map .exit)) ⌝ }
+    requires { ⌜ InFrame (at .size) (at .row) (at .col) × (c < 16) ⌝ }
+    ensures { λ r. ⌜ Applied (samples-of (now (src .entry)) (at .size) (at .row) (at .col) head (c ∷ []) bits) (now (out .entry)) (now (map .entry)) r (now (out .exit)) (now (map .exit)) ⌝ }
 {
+    let size = at.size;
     let after = head.row;
     let lengths = after.lengths;
-    let from = predict(size, row, col, head.up, c);
+    let from = predict(size, at.row, at.col, head.up, c);
     let n = residual_bits(from, lengths[2 * (c % 2) + c / 8]);
     let g = read_residual(src, bits, n);
     let w = size.width;
-    let place = row * w + col + c;
+    let place = at.row * w + at.col + c;
     put(out, place, from, g.value);
     put_mark(map, place, from);
     g.bits
 }
 
 // A block's sixteen samples after its head.
-pub fn decode_samples(
-    src: &[u8],
-    size: Size,
-    row: usize,
-    col: usize,
-    head: V0Head,
-    out: &mut [u16],
-    map: &mut [u8],
-) -> Bits
-    requires { ⌜ InFrame size row col ⌝ }
-    ensures { λ r. ⌜ r ≡ samples-of (now (src .entry)) size row col head V0.order (head .row .bits) .bits ⌝ }
-    ensures { λ _. ⌜ now (out .exit) ≡ V0.apply V0.sample-kind (samples-of (now (src .entry)) size row col head V0.order (head .row .bits) .ops) (now (out .entry)) ⌝ }
-    ensures { λ _. ⌜ now (map .exit) ≡ V0.apply v0-marks (samples-of (now (src .entry)) size row col head V0.order (head .row .bits) .ops) (now (map .entry)) ⌝ }
+pub fn decode_samples(src: &[u8], at: Place, head: V0Head, out: &mut [u16], map: &mut [u8]) -> Bits
+    requires { ⌜ InFrame (at .size) (at .row) (at .col) ⌝ }
+    ensures { λ r. ⌜ r ≡ samples-of (now (src .entry)) (at .size) (at .row) (at .col) head V0.order (head .row .bits) .bits ⌝ }
+    ensures { λ _. ⌜ now (out .exit) ≡ V0.apply V0.sample-kind (samples-of (now (src .entry)) (at .size) (at .row) (at .col) head V0.order (head .row .bits) .ops) (now (out .entry)) ⌝ }
+    ensures { λ _. ⌜ now (map .exit) ≡ V0.apply v0-marks (samples-of (now (src .entry)) (at .size) (at .row) (at .col) head V0.order (head .row .bits) .ops) (now (map .entry)) ⌝ }
 {
     let after = head.row;
     let mut bits = after.bits;
     let mut k: usize = 0;
     while k < V0Row::BLOCK {
         let c = stream_column(k);
-        bits = decode_sample(src, size, row, col, head, c, bits, out, map);
+        bits = decode_sample(src, at, head, c, bits, out, map);
         k += 1;
     }
     bits

@@ -44,7 +44,7 @@ same-length-4 c = search needs
 returns-2 : tie.Need-returns-2
 returns-2 c =
     let s = after-decode-samples (c .before .before) in let p = after-read-block-head s in let a = at-start (p .before .before) .args in
-    block-decoded _ (a .size) (a .row) (a .col) (a .state) (p .read-block-head .result) (p .read-block-head .ensures) _ _ _ _ _ (s .decode-samples .ensures)
+    block-decoded _ (a .at .size) (a .at .row) (a .at .col) (a .state) (p .read-block-head .result) (p .read-block-head .ensures) _ _ _ _ _ (s .decode-samples .ensures)
 
 pub decode-block-spec : {M : Type 1} → statement M
 decode-block-spec =

@@ -15,7 +15,7 @@ abbrev ran : tie.Else1 → tie.After-decode-run
 ran c = lent-again c .before .before .before
 
 abbrev start : tie.After-decode-run → tie.Start
-start c = c .before .before .before .before .before .before
+start c = c .before .before .before .before .before .before .before
 
 abbrev decoded : tie.After-bits → tie.After-decode-block
 decoded c = c .before .before .before .before .before
@@ -24,7 +24,7 @@ abbrev more : tie.After-decode-block → tie.Else1
 more c = c .before .before .before
 
 -- The places of the row fit a machine word.
-fit : (c : tie.Else1) → (let a = start (ran c) .args in a .row * a .size .width ≤ 268_550_144)
+fit : (c : tie.Else1) → (let a = start (ran c) .args in a .at .row * a .at .size .width ≤ 268_550_144)
 fit c = let i = start (ran c) .pre .0 in product _ _ (omega (arith, i .row-in, i .height)) (omega (arith, i .width))
 
 decode-run-requires : tie.Need-decode-run-requires
@@ -42,7 +42,7 @@ returns c = search needs
 decode-block-requires : tie.Need-decode-block-requires
 decode-block-requires c κs =
     let e = c .before .before in let x = ran e in let a = start x in
-    block-after (a .pre .0) (omega arith) (x .decode-run .ensures) (a .pre .1) (x .decode-run .kept .1 .1 .1 .1 .1 .0) (x .decode-run .kept .1 .1 .1 .1 .1 .1 .0)
+    block-after (a .pre .0) (omega arith) (x .decode-run .ensures) (a .pre .1) (x .decode-run .kept .1 .1 .1 .0) (x .decode-run .kept .1 .1 .1 .1 .0)
 
 mul-end-block : tie.Need-mul-end-block
 mul-end-block c = let e = more (decoded (c .before)) in record { fits = omega (arith, fit e) }
@@ -53,8 +53,8 @@ add-end-block c = let e = more (decoded (c .before)) in record { fits = omega (a
 end-block-requires : tie.Need-end-block-requires
 end-block-requires c κs = let e = more (decoded (c .before)) in omega (arith, fit e, start (ran e) .pre .0 .width)
 
-add-t26 : tie.Need-add-t26
-add-t26 c = let e = more (decoded (c .before .before .before .before)) in record { fits = omega (arith, start (ran e) .pre .0 .width) }
+add-t27 : tie.Need-add-t27
+add-t27 c = let e = more (decoded (c .before .before .before .before)) in record { fits = omega (arith, start (ran e) .pre .0 .width) }
 
 same-length-3 : tie.Need-same-length-3
 same-length-3 c = search needs
@@ -79,7 +79,7 @@ decode-blocks-spec =
     mul-end-block
     add-end-block
     end-block-requires
-    add-t26
+    add-t27
     same-length-3
     same-length-4
     returns-2)

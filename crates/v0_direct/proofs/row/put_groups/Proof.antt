@@ -12,12 +12,16 @@ use Rattle.v0_cells.proofs.FourLaws.{fours-put}
 use Rattle.v0_direct.proofs.row.put_groups.Statement.{statement}
 use Rattle.v0_direct.proofs.row.put_groups.Tie as tie
 
--- Points on the way: the entry, where the groups are planned, and each group once it is put and its samples are back.
+-- Points on the way: the entry, where the groups are planned (from the block's place on), and each group once it is put and its
+-- samples are back.
 abbrev start : tie.After-plan-of → tie.Start
-start c = c .before .before .before
+start c = c .before .before .before .before
+
+abbrev placed : tie.After-struct-known2 → tie.After-plan-of
+placed c = c .before .before
 
 abbrev planned : tie.After-put-four → tie.After-plan-of
-planned c = c .before .before .before .before
+planned c = placed (c .before .before .before .before)
 
 abbrev first-back : tie.After-put-four2 → tie.After-out
 first-back c = c .before .before .before .before .before
@@ -40,20 +44,20 @@ third c = third-back c .before
 plan-of-requires : tie.Need-plan-of-requires
 plan-of-requires c κs = search needs
 
-mul-at : tie.Need-mul-at
-mul-at c = record { fits = omega (arith, inner-fits (start c .pre .1 .0)) }
+mul-first : tie.Need-mul-first
+mul-first c = record { fits = omega (arith, inner-fits (start (c .before) .pre .1 .0)) }
 
-add-at : tie.Need-add-at
-add-at c = record { fits = omega (arith, inner-fits (start c .pre .1 .0)) }
+add-first : tie.Need-add-first
+add-first c = record { fits = omega (arith, inner-fits (start (placed c) .pre .1 .0)) }
 
 four-at-requires : tie.Need-four-at-requires
-four-at-requires c κs = let x = c .before .before in first-in (start x .pre .0) (x .plan-of .ensures) .short (search needs)
+four-at-requires c κs = let x = placed (c .before .before) in first-in (start x .pre .0) (x .plan-of .ensures) .short (search needs)
 
 four-long-at-requires : tie.Need-four-long-at-requires
-four-long-at-requires c κs = let x = c .before .before in first-in (start x .pre .0) (x .plan-of .ensures) .long (search needs)
+four-long-at-requires c κs = let x = placed (c .before .before) in first-in (start x .pre .0) (x .plan-of .ensures) .long (search needs)
 
 put-four-requires : tie.Need-put-four-requires
-put-four-requires c κs = let i = start (c .before .before .before) .pre .1 .0 in (inner-inside i _ (search needs), (inner-fits i, omega arith))
+put-four-requires c κs = let i = start (placed (c .before .before .before)) .pre .1 .0 in (inner-inside i _ (search needs), (inner-fits i, omega arith))
 
 four-at-requires-2 : tie.Need-four-at-requires-2
 four-at-requires-2 c κs = let x = planned (c .before .before .before .before) in second-in (start x .pre .0) (x .plan-of .ensures) .short (search needs)
@@ -104,9 +108,9 @@ returns c =
       fourth = either-way (g₄ .if4 .came) (λ _ y. y .ensures) (λ _ y. y .ensures);
     } in (
       groups-end x,
-      fours-put sample-kind (a .size .width) (a .row * a .size .width + a .col) (a .head .up) (g₁ .if1 .a) (g₂ .if2 .b) (g₃ .if3 .c) (g₄ .if4 .d)
+      fours-put sample-kind (a .at .size .width) (a .at .row * a .at .size .width + a .at .col) (a .head .up) (g₁ .if1 .a) (g₂ .if2 .b) (g₃ .if3 .c) (g₄ .if4 .d)
           (now (a .out)) (p₁ .put-four .last .0) (p₂ .put-four2 .last .0) (p₃ .put-four3 .last .0) (p₄ .put-four4 .last .0) (p₁ .put-four .ensures) (p₂ .put-four2 .ensures) (p₃ .put-four3 .ensures) (p₄ .put-four4 .ensures)
-          ∙ ap (λ r. apply sample-kind (inner-ops (a .size .width) (a .row * a .size .width + a .col) (a .head .up) order r) (now (a .out))) (groups-are x),
+          ∙ ap (λ r. apply sample-kind (inner-ops (a .at .size .width) (a .at .row * a .at .size .width + a .at .col) (a .head .up) order r) (now (a .out))) (groups-are x),
     )
 
 pub put-groups-spec : {M : Type 1} → statement M
@@ -114,8 +118,8 @@ put-groups-spec =
     tie.close
     (tie.spec
     plan-of-requires
-    mul-at
-    add-at
+    mul-first
+    add-first
     four-at-requires
     four-long-at-requires
     put-four-requires

@@ -12,12 +12,15 @@ use Rattle.v0_cells.proofs.FourLaws.{fours-put}
 use Rattle.v0_direct.proofs.run.put_short.Statement.{statement}
 use Rattle.v0_direct.proofs.run.put_short.Tie as tie
 
--- Points on the way: the entry, where the groups are planned, and each group once it is put.
+-- Points on the way: the entry, where the groups are planned (from the block's place on), and each group once it is put.
 abbrev start : tie.After-plan-of → tie.Start
-start c = c .before .before .before
+start c = c .before .before .before .before
+
+abbrev placed : tie.After-struct-known2 → tie.After-plan-of
+placed c = c .before .before
 
 abbrev planned : tie.After-put-four → tie.After-plan-of
-planned c = c .before .before .before
+planned c = placed (c .before .before .before)
 
 abbrev first : tie.After-put-four2 → tie.After-put-four
 first c = c .before .before .before .before .before
@@ -31,21 +34,21 @@ third c = c .before .before .before .before .before
 plan-of-requires : tie.Need-plan-of-requires
 plan-of-requires c κs = search needs
 
-mul-at : tie.Need-mul-at
-mul-at c = record { fits = omega (arith, inner-fits (start c .pre .1 .1 .0)) }
+mul-first : tie.Need-mul-first
+mul-first c = record { fits = omega (arith, inner-fits (start (c .before) .pre .1 .1 .0)) }
 
-add-at : tie.Need-add-at
-add-at c = record { fits = omega (arith, inner-fits (start c .pre .1 .1 .0)) }
+add-first : tie.Need-add-first
+add-first c = record { fits = omega (arith, inner-fits (start (placed c) .pre .1 .1 .0)) }
 
 -- No residual has more than 16 bits.
 short : (c : tie.After-plan-of) → (let p = c .plan-of .result in (p .n0 ≤ 16) × ((p .n1 ≤ 16) × ((p .n2 ≤ 16) × (p .n3 ≤ 16))))
 short c = short-plan (c .plan-of .ensures) (start c .pre .0)
 
 four-at-requires : tie.Need-four-at-requires
-four-at-requires c κs = let x = c in first-in (start x .pre .1 .0) (x .plan-of .ensures) .short (short x .0)
+four-at-requires c κs = let x = placed c in first-in (start x .pre .1 .0) (x .plan-of .ensures) .short (short x .0)
 
 put-four-requires : tie.Need-put-four-requires
-put-four-requires c κs = let i = start (c .before .before) .pre .1 .1 .0 in (inner-inside i _ (search needs), (inner-fits i, omega arith))
+put-four-requires c κs = let i = start (placed (c .before .before)) .pre .1 .1 .0 in (inner-inside i _ (search needs), (inner-fits i, omega arith))
 
 four-at-requires-2 : tie.Need-four-at-requires-2
 four-at-requires-2 c κs = let x = planned (c .before .before) in second-in (start x .pre .1 .0) (x .plan-of .ensures) .short (short x .1 .0)
@@ -80,9 +83,9 @@ returns c =
     let x : ByPosition (now (a .src)) (a .base) (a .head) (plan .plan-of .result) (g₁ .four-at .result) (g₂ .four-at2 .result) (g₃ .four-at3 .result) (g₄ .four-at4 .result)
     = record { ahead = start plan .pre .1 .0; plans = plan .plan-of .ensures; first = g₁ .four-at .ensures; second = g₂ .four-at2 .ensures; third = g₃ .four-at3 .ensures; fourth = g₄ .four-at4 .ensures } in (
       groups-end x,
-      fours-put sample-kind (a .size .width) (a .row * a .size .width + a .col) (a .head .up) (g₁ .four-at .result) (g₂ .four-at2 .result) (g₃ .four-at3 .result) (g₄ .four-at4 .result)
+      fours-put sample-kind (a .at .size .width) (a .at .row * a .at .size .width + a .at .col) (a .head .up) (g₁ .four-at .result) (g₂ .four-at2 .result) (g₃ .four-at3 .result) (g₄ .four-at4 .result)
           (now (a .out)) (p₁ .put-four .last .0) (p₂ .put-four2 .last .0) (p₃ .put-four3 .last .0) (p₄ .put-four4 .last .0) (p₁ .put-four .ensures) (p₂ .put-four2 .ensures) (p₃ .put-four3 .ensures) (p₄ .put-four4 .ensures)
-          ∙ ap (λ r. apply sample-kind (inner-ops (a .size .width) (a .row * a .size .width + a .col) (a .head .up) order r) (now (a .out))) (groups-are x),
+          ∙ ap (λ r. apply sample-kind (inner-ops (a .at .size .width) (a .at .row * a .at .size .width + a .at .col) (a .head .up) order r) (now (a .out))) (groups-are x),
     )
 
 pub put-short-spec : {M : Type 1} → statement M
@@ -90,8 +93,8 @@ put-short-spec =
     tie.close
     (tie.spec
     plan-of-requires
-    mul-at
-    add-at
+    mul-first
+    add-first
     four-at-requires
     put-four-requires
     four-at-requires-2

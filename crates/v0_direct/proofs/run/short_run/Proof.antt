@@ -12,14 +12,14 @@ use Rattle.v0_direct.proofs.run.short_run.Statement.{statement}
 use Rattle.v0_direct.proofs.run.short_run.Tie as tie
 
 abbrev Inv-loop : tie.InvT-loop
-Inv-loop src size row from out₀ map₀ base last w q₀ lengths₀ col₀ out map q lengths col = Running src size row from base q₀ lengths₀ out₀ map₀ out map q lengths col
+Inv-loop src out₀ map₀ size row base last w q₀ lengths₀ col₀ out map q lengths col = Running src size row col₀ base q₀ lengths₀ out₀ map₀ out map q lengths col
 
 abbrev μ-loop : tie.MeasureT-loop
-μ-loop src size row from out₀ map₀ base last w q₀ lengths₀ col₀ out map q lengths col = size .width + 16 - col
+μ-loop src out₀ map₀ size row base last w q₀ lengths₀ col₀ out map q lengths col = size .width + 16 - col
 
 -- Points on the way: the entry, the turn's start, and the head.
 abbrev began : tie.After-last-start Inv-loop μ-loop → tie.Start Inv-loop μ-loop
-began c = c .before .before .before .before .before
+began c = c .before .before .before .before .before .before
 
 abbrev roomed : tie.At-loop Inv-loop μ-loop → tie.After-last-start Inv-loop μ-loop
 roomed c = c .before .before .before
@@ -37,7 +37,7 @@ abbrev put-arg : tie.After-mark-block-arg Inv-loop μ-loop → tie.After-put-sho
 put-arg c = c .before .before .before .before
 
 -- A block lies inside the row, and there is room for it.
-inside : (c : tie.Then1 Inv-loop μ-loop) → c .before .before .loop .col + 16 ≤ start (c .before .before) .args .size .width
+inside : (c : tie.Then1 Inv-loop μ-loop) → c .before .before .loop .col + 16 ≤ start (c .before .before) .args .at .size .width
 inside c = omega arith
 
 ahead : (c : tie.Then1 Inv-loop μ-loop) → (let a = start (c .before .before) .args in Ahead (now (a .src)) (a .state .bits .pos - 12) (c .before .before .loop .q) 608)
@@ -46,13 +46,13 @@ ahead c =
     room-for (l .inv .ahead .late) (omega arith) (omega arith) (roomed (c .before .before) .last-start .ensures) (leb-true _ _ (c .if1 .taken))
 
 sub-base : tie.Need-sub-base Inv-loop μ-loop
-sub-base c = c .before .before .before .before .pre .1 .1 .0 .fetched
+sub-base c = c .before .before .before .before .before .pre .1 .1 .0 .fetched
 
 sub-last-start : tie.Need-sub-last-start Inv-loop μ-loop
-sub-last-start c = let there = c .before .before .before .before .pre .1 .1 .0 .there in omega arith
+sub-last-start c = let there = c .before .before .before .before .before .pre .1 .1 .0 .there in omega arith
 
 last-start-requires : tie.Need-last-start-requires Inv-loop μ-loop
-last-start-requires c κs = let there = c .before .before .before .before .pre .1 .1 .0 .there in omega arith
+last-start-requires c κs = let there = c .before .before .before .before .before .pre .1 .1 .0 .there in omega arith
 
 cast-q : tie.Need-cast-q Inv-loop μ-loop
 cast-q c = search needs

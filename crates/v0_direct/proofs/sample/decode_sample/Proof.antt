@@ -14,7 +14,7 @@ use Rattle.v0_direct.proofs.sample.decode_sample.Tie as tie
 
 -- Places that the answers look back at.
 abbrev at-start : tie.After-lengths → tie.Start
-at-start c = c .before .before .before .before .before
+at-start c = c .before .before .before .before .before .before
 
 abbrev after-predict : tie.After-read-residual → tie.After-predict
 after-predict c = c .before .before .before
@@ -47,13 +47,13 @@ read-residual-requires : tie.Need-read-residual-requires
 read-residual-requires c κs = search needs
 
 mul-place : tie.Need-mul-place
-mul-place c = let a = at-start (after-predict c .before) in record { fits = omega (arith, row-fits _ _ _ (a .pre .0) (a .args .row) (omega arith)) }
+mul-place c = let a = at-start (after-predict (c .before) .before) in record { fits = omega (arith, row-fits _ _ _ (a .pre .0) (a .args .at .row) (omega arith)) }
 
 add-place : tie.Need-add-place
-add-place c = let a = at-start (after-predict c .before) in record { fits = omega (arith, row-fits _ _ _ (a .pre .0) (a .args .row) (omega arith)) }
+add-place c = let a = at-start (after-predict (c .before .before) .before) in record { fits = omega (arith, row-fits _ _ _ (a .pre .0) (a .args .at .row) (omega arith)) }
 
 add-place-2 : tie.Need-add-place-2
-add-place-2 c = let a = at-start (after-predict c .before) in record { fits = omega (arith, row-fits _ _ _ (a .pre .0) (a .args .row) (omega arith)) }
+add-place-2 c = let a = at-start (after-predict (c .before .before) .before) in record { fits = omega (arith, row-fits _ _ _ (a .pre .0) (a .args .at .row) (omega arith)) }
 
 put-requires : tie.Need-put-requires
 put-requires c κs = search needs
@@ -69,10 +69,10 @@ same-length-2 c = search needs
 
 returns : tie.Need-returns
 unfolding length-of
-returns c = let m = after-put-mark c in let p = after-put m in let x = p .before .before in let f = after-predict x in let a = at-start (f .before) in
+returns c = let m = after-put-mark c in let p = after-put m in let x = p .before .before .before .before in let f = after-predict x in let a = at-start (f .before) in
     let l = getD (a .args .head .row .lengths) (2 * (a .args .c % 2) + a .args .c / 8) (pos 0) in
     let en = rw (toZ-ofZ w32 l (record { sfits = x .before .before .residual-bits-arg .given })) at (x .before .residual-bits .ensures) in
-    sample-applied _ (a .args .size) _ _ (a .args .head) (a .args .c) (a .args .bits) _ _ _ (f .predict .ensures) en (x .read-residual .ensures) _ _ _ _ (p .put .ensures) (m .put-mark .ensures)
+    sample-applied _ (a .args .at .size) _ _ (a .args .head) (a .args .c) (a .args .bits) _ _ _ (f .predict .ensures) en (x .read-residual .ensures) _ _ _ _ (p .put .ensures) (m .put-mark .ensures)
 
 pub decode-sample-spec : {M : Type 1} → statement M
 decode-sample-spec =

@@ -7,10 +7,10 @@ use Rattle.v0_direct.proofs.sample.decode_samples.Statement.{statement}
 use Rattle.v0_direct.proofs.sample.decode_samples.Tie as tie
 
 abbrev Inv-loop : tie.InvT-loop
-Inv-loop src size row col head out₀ map₀ bits₀ k₀ out map bits k = Sampling src size row col head bits₀ bits out₀ out map₀ map k
+Inv-loop src at head out₀ map₀ bits₀ k₀ out map bits k = Sampling src (at .size) (at .row) (at .col) head bits₀ bits out₀ out map₀ map k
 
 abbrev μ-loop : tie.MeasureT-loop
-μ-loop src size row col head out₀ map₀ bits₀ k₀ out map bits k = 16 - k
+μ-loop src at head out₀ map₀ bits₀ k₀ out map bits k = 16 - k
 
 -- Places that the answers look back at.
 abbrev at-start : tie.After-bits Inv-loop μ-loop → tie.Start Inv-loop μ-loop
@@ -40,7 +40,7 @@ loop-less c = omega arith
 loop-again : tie.Need-loop-again Inv-loop μ-loop
 loop-again c =
     let x = c .before .before .before .before in let s = after-stream-column x in let l = at-loop s in let a = at-start (l .before) .args in
-    sampling-on _ (a .size) _ _ (a .head) _ _ _ _ _ _ _ _ _ _ _ (omega arith) (s .stream-column .ensures .0) (x .decode-sample .ensures) (l .loop .inv)
+    sampling-on _ (a .at .size) _ _ (a .head) _ _ _ _ _ _ _ _ _ _ _ (omega arith) (s .stream-column .ensures .0) (x .decode-sample .ensures) (l .loop .inv)
 
 same-length : tie.Need-same-length Inv-loop μ-loop
 same-length c = search needs
@@ -49,7 +49,7 @@ same-length-2 : tie.Need-same-length-2 Inv-loop μ-loop
 same-length-2 c = search needs
 
 returns : tie.Need-returns Inv-loop μ-loop
-returns c = let a = at-start (c .before .before) .args in sampled _ (a .size) _ _ (a .head) _ _ _ _ _ _ _ (omega arith) (c .before .loop .inv)
+returns c = let a = at-start (c .before .before) .args in sampled _ (a .at .size) _ _ (a .head) _ _ _ _ _ _ _ (omega arith) (c .before .loop .inv)
 
 pub decode-samples-spec : {M : Type 1} → statement M
 decode-samples-spec =
