@@ -49,6 +49,7 @@ fn decode_late_rows(src: &[u8], offsets: &[u32], size: Size, out: &mut [u16], sc
     }
 }
 
+// Rows 0 and 1, the rows after them, and the exchange.
 pub fn decode_frame(src: &[u8], offsets: &[u32], size: Size, out: &mut [u16], scratch: &mut [u8])
     requires { ⌜ Lends size (now offsets) (now out) (now scratch) ⌝ }
     ensures samples { λ _. ⌜ now (out .exit) ≡ Phases.two-phase (now (src .entry)) (now (offsets .entry)) size (now (out .entry)) ⌝ }
