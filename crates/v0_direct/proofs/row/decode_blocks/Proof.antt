@@ -7,15 +7,18 @@ use Rattle.v0_direct.proofs.RowLaws.{block-after, ran-on}
 use Rattle.v0_direct.proofs.row.decode_blocks.Statement.{statement}
 use Rattle.v0_direct.proofs.row.decode_blocks.Tie as tie
 
--- Points on the way: the run, and the entry.
+-- Points on the way: the run, where the size is taken, and the entry.
 abbrev lent-again : tie.Else1 → tie.After-map
 lent-again c = c .before .before .before
 
 abbrev ran : tie.Else1 → tie.After-decode-run
 ran c = lent-again c .before .before .before
 
+abbrev sized : tie.After-decode-run → tie.After-size
+sized c = c .before .before .before
+
 abbrev start : tie.After-decode-run → tie.Start
-start c = c .before .before .before .before .before .before .before
+start c = sized c .before .before .before .before
 
 abbrev decoded : tie.After-bits → tie.After-decode-block
 decoded c = c .before .before .before .before .before

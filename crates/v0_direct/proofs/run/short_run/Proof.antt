@@ -17,9 +17,12 @@ Inv-loop src out₀ map₀ size row base last w q₀ lengths₀ col₀ out map q
 abbrev μ-loop : tie.MeasureT-loop
 μ-loop src out₀ map₀ size row base last w q₀ lengths₀ col₀ out map q lengths col = size .width + 16 - col
 
--- Points on the way: the entry, the turn's start, and the head.
+-- Points on the way: where the size is taken, the entry, the turn's start, and the head.
+abbrev sized : tie.After-last-start Inv-loop μ-loop → tie.After-size Inv-loop μ-loop
+sized c = c .before .before
+
 abbrev began : tie.After-last-start Inv-loop μ-loop → tie.Start Inv-loop μ-loop
-began c = c .before .before .before .before .before .before
+began c = sized c .before .before .before .before
 
 abbrev roomed : tie.At-loop Inv-loop μ-loop → tie.After-last-start Inv-loop μ-loop
 roomed c = c .before .before .before

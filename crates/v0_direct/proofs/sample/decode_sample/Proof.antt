@@ -13,8 +13,11 @@ use Rattle.v0_direct.proofs.sample.decode_sample.Statement.{statement}
 use Rattle.v0_direct.proofs.sample.decode_sample.Tie as tie
 
 -- Places that the answers look back at.
+abbrev sized : tie.After-lengths → tie.After-size
+sized c = c .before .before
+
 abbrev at-start : tie.After-lengths → tie.Start
-at-start c = c .before .before .before .before .before .before
+at-start c = sized c .before .before .before .before
 
 abbrev after-predict : tie.After-read-residual → tie.After-predict
 after-predict c = c .before .before .before
