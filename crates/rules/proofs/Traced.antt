@@ -10,7 +10,7 @@ use lib.ListN.{length, length-append}
 use Rattle.rules.specs.declared.reader.Bits.{Bits}
 use Rattle.rules.specs.Reader.{read, fields, four, read-signed, read-residual, signed, modulo}
 use Rattle.rules.proofs.Cells.{All, all-head, all-parts}
-use Rattle.rules.proofs.ReaderLaws.{read-pos, read-kept}
+use Rattle.rules.proofs.ReaderLaws.{read-pos, read-kept, fields-none, fields-more, four-fields, read-signed-is, read-residual-is}
 
 -- ── Fields one after another ──
 
@@ -97,22 +97,23 @@ module _ (s : List ℕ) where
   read-traced b n = record { parts = record { start = b; width = n } ∷ []; leads = next n arrived; few = omega arith; same = λ u a. all-head a }
 
   pub fields-traced : (ns : List ℕ) (b : Bits) → Traced s (length ns) (λ f. f .bits) b (λ u. fields u ns b)
-  unfolding fields
-  fields-traced [] b = traced-none _
+  fields-traced [] b = traced-as (λ u. sym (fields-none u b)) (traced-none (record { values = []; bits = b }))
   fields-traced (n ∷ ns) b =
-      wider (omega arith)
+      traced-as (λ u. sym (fields-more u n ns b))
+      (wider (omega arith)
       (traced-then (λ u g. let rest = fields u ns (g .bits) in record { values = g .value ∷ rest .values; bits = rest .bits })
       (read-traced b n)
-      (traced-map (λ f. record { values = read s b n .value ∷ f .values; bits = f .bits }) (fields-traced ns (read s b n .bits))))
+      (traced-map (λ f. record { values = read s b n .value ∷ f .values; bits = f .bits }) (fields-traced ns (read s b n .bits)))))
 
   pub four-traced : (n : ℕ) (b : Bits) → Traced s 4 (λ f. f .bits) b (λ u. four u n b)
-  unfolding four
-  four-traced n b = traced-map (λ f. record { values = f .values; bits = f .bits }) (fields-traced (n ∷ n ∷ n ∷ n ∷ []) b)
+  four-traced n b =
+      traced-as (λ u. sym (four-fields u n b)) (traced-map (λ f. record { values = f .values; bits = f .bits }) (fields-traced (n ∷ n ∷ n ∷ n ∷ []) b))
 
   pub read-signed-traced : (b : Bits) (n : ℕ) → Traced s 1 (λ g. g .bits) b (λ u. read-signed u b n)
-  unfolding read-signed
-  read-signed-traced b n = traced-map (λ g. record { value = signed (min n 32) (g .value); bits = g .bits }) (read-traced b n)
+  read-signed-traced b n =
+      traced-as (λ u. sym (read-signed-is u b n)) (traced-map (λ g. record { value = signed (min n 32) (g .value); bits = g .bits }) (read-traced b n))
 
   pub read-residual-traced : (b : Bits) (n : ℕ) → Traced s 1 (λ g. g .bits) b (λ u. read-residual u b n)
-  unfolding read-residual
-  read-residual-traced b n = traced-map (λ g. record { value = modulo (signed (min n 32) (g .value)); bits = g .bits }) (read-traced b n)
+  read-residual-traced b n =
+      traced-as (λ u. sym (read-residual-is u b n))
+      (traced-map (λ g. record { value = modulo (signed (min n 32) (g .value)); bits = g .bits }) (read-traced b n))

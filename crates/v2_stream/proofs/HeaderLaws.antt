@@ -16,7 +16,7 @@ use Rattle.rules.specs.declared.v2.V2Hdr.{V2Hdr}
 use Rattle.rules.specs.Reader.{fresh, read, fields}
 use Rattle.rules.specs.V2.{header, option-2, option-4, scale-steps, rescaled, read-scale, read-motion}
 use Rattle.rules.specs.Ranges.{Between}
-use Rattle.rules.proofs.ReaderLaws.{read-below}
+use Rattle.rules.proofs.ReaderLaws.{read-below, fields-none, fields-more}
 use Rattle.rules.proofs.V2Bounds.{between-abs, between-add, step-between, mag-abs}
 
 -- A value of n bits, as a call gave it.
@@ -28,9 +28,9 @@ pub header-is : (s : List ℕ) (b b0 b1 : Bits) (d : Got) (b3 b4 b5 b6 b7 : Bits
     → b3 ≡ read s (d .bits) 8 .bits → b4 ≡ read s b3 16 .bits → b5 ≡ read s b4 16 .bits → b6 ≡ read s b5 16 .bits → b7 ≡ read s b6 4 .bits
     → o ≡ read s b7 4 → b9 ≡ read s (o .bits) 16 .bits → b10 ≡ read s b9 8 .bits → b11 ≡ read s b10 2 .bits → i ≡ read s b11 14
     → record { hdr = record { depth = d .value + 1; options = o .value; initial = i .value }; bits = i .bits } ≡ header s
-unfolding header fields
+unfolding header
 header-is s b b0 b1 d b3 b4 b5 b6 b7 o b9 b10 b11 i e e0 e1 ed e3 e4 e5 e6 e7 eo e9 e10 e11 ei =
-    rw (← e, ← e0, ← e1, ← ed, ← e3, ← e4, ← e5, ← e6, ← e7, ← eo, ← e9, ← e10, ← e11, ← ei)
+    simp (fields-more s, fields-none s) rw (← e, ← e0, ← e1, ← ed, ← e3, ← e4, ← e5, ← e6, ← e7, ← eo, ← e9, ← e10, ← e11, ← ei)
 
 -- 1. Scale.
 pub step-fits : (scale : ℤ) (code : ℕ) → Between 512 4_605 scale → SFits w32 (scale +ℤ getD scale-steps code (pos 0))
