@@ -7,6 +7,7 @@ ghost use lib.ListN.{getD};
 ghost use Rattle.bands.specs.Call.{list-refusal};
 ghost use Rattle.bands.specs.Bands.{sized, cut, fits, blocks-per-band, good};
 use rules::Answer;
+use rules::V0Row;
 
 // The most bands that a frame may be cut into.
 pub const MOST_BANDS: usize = 64;
@@ -28,7 +29,7 @@ pub fn cut_fits(width: usize, height: usize, bands: usize, block_width: usize) -
     if block_width < 1 {
         return false;
     }
-    if block_width % 16 != 0 {
+    if block_width % V0Row::BLOCK != 0 {
         return false;
     }
     if bands < 1 {
@@ -62,7 +63,7 @@ pub fn blocks_in_band(width: usize, height: usize, bands: usize, block_width: us
 }
 
 // Whether a block is the next of its band, and the band above, if there is one, has done it.
-fn is_next(done: [u32; 64], band: usize, block: u32) -> bool
+fn is_next(done: [u32; MOST_BANDS], band: usize, block: u32) -> bool
     requires { ⌜ band < 64 ⌝ }
     ensures { λ r. ⌜ r ≡ eqb (getD done band 0) block && (eqb band 0 || ltb block (getD done (band - 1) 0)) ⌝ }
 {
@@ -85,7 +86,7 @@ pub fn is_good(width: usize, height: usize, bands: usize, block_width: usize, st
     if steps.len() != count {
         return false;
     }
-    let mut done: [u32; 64] = [0; 64];
+    let mut done = [0u32; MOST_BANDS];
     let mut i = 0;
     while i < steps.len() {
         let n = steps[i] as usize;

@@ -3,11 +3,15 @@ ghost use mathlib.Core.Path.{_≡_};
 ghost use Rattle.frame_writer.specs.Frames.{BlockLent, Whole, unit, block-numbers};
 use super::differences::differences_of;
 use super::residuals::residuals_of;
+use rules::V2Hdr;
 
 pub enum Format {
     V0,
     V2,
 }
+
+// The bytes of V2's header.
+pub const HEADER_BYTES: usize = V2Hdr::BITS as usize / 8;
 
 // The bytes that a row is padded to.
 pub fn unit_of(format: Format) -> usize

@@ -7,6 +7,7 @@ ghost use lib.Dec.{eqb, ltb};
 ghost use lib.ListN.{length, getD};
 ghost use Rattle.rules.specs.Frame.{tabulate};
 ghost use Rattle.frame_writer.specs.Frames.{by-halves};
+use rules::V0Row;
 
 // A sample less its prediction, modulo 65,536.
 pub fn less(a: u16, p: u16) -> u16
@@ -45,9 +46,9 @@ pub fn halves(samples: &[u16], first: usize, second: usize, p: u16, q: u16) -> [
     requires { ⌜ (first + 14 < length (now samples)) × (second + 14 < length (now samples)) ⌝ }
     ensures { λ r. ⌜ r ≡ tabulate 16 0 (by-halves (now (samples .entry)) first second p q) ⌝ }
 {
-    let mut d = [0u16; 16];
+    let mut d = [0u16; V0Row::BLOCK];
     let mut k: usize = 0;
-    while k < 16 {
+    while k < V0Row::BLOCK {
         let a = samples[half_start(k, first, second) + 2 * (k % 8)];
         d[k] = less(a, half_prediction(k, p, q));
         k += 1;

@@ -8,6 +8,7 @@ ghost use Rattle.writers.specs.Writer.{gap};
 ghost use Rattle.frame_writer.specs.Frames.{Writable, size, unit, row-of, rows-of};
 ghost use Rattle.frame_writer.specs.declared.format.Format.the-variants as Variants;
 use super::format::Format;
+use super::format::HEADER_BYTES;
 use super::format::numbers_of;
 use pack::block_length;
 use rules::V0Row;
@@ -65,5 +66,5 @@ pub fn v2_length(samples: &[u16], width: usize, height: usize) -> usize
     requires { ⌜ Writable Variants.V2 width height (now samples) ⌝ }
     ensures { λ r. ⌜ r ≡ length (V2.stream-for (size width height) (now (samples .entry))) ⌝ }
 {
-    16 + rows_length(samples, Format::V2, width, height)
+    HEADER_BYTES + rows_length(samples, Format::V2, width, height)
 }

@@ -91,7 +91,7 @@ fn edge_residuals(samples: &[u16], width: usize, height: usize, row: usize, col:
 {
     let mut d = [0u16; 16];
     let mut k: usize = 0;
-    while k < 16 {
+    while k < V0Row::BLOCK {
         d[k] = residual_at(samples, width, height, row, col, 2 * (k % 8) + k / 8);
         k += 1;
     }

@@ -9,6 +9,7 @@ ghost use Rattle.writers.specs.Writer.{bytes, offsets-from};
 ghost use Rattle.frame_writer.specs.Frames.{Writable, size, unit, coding, row-of, rows-of};
 ghost use Rattle.frame_writer.specs.declared.format.Format.the-variants as Variants;
 use super::format::Format;
+use super::format::HEADER_BYTES;
 use super::format::numbers_of;
 use super::format::unit_of;
 use pack::Pending;
@@ -105,5 +106,13 @@ pub fn write_v2(out: &mut [u8], samples: &[u16], width: usize, height: usize)
 {
     let mut no_offsets = [0u32; 0];
     write_header(out);
-    write_rows(out, 16, &mut no_offsets, samples, Format::V2, width, height);
+    write_rows(
+        out,
+        HEADER_BYTES,
+        &mut no_offsets,
+        samples,
+        Format::V2,
+        width,
+        height,
+    );
 }

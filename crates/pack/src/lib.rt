@@ -9,6 +9,7 @@ ghost use Rattle.writers.specs.Writer.{bits-of, gap, Unit, word-bytes, smallest
 ghost use Rattle.writers.specs.Weight.{weight, Short};
 ghost use Rattle.writers.specs.Pending.{joined, put-state, put-out, Wrote};
 ghost use Rattle.pack.specs.Block.{numbers, numbers-bits, opening-number, Shorts, Lengths};
+use rules::V0Row;
 pub use writers::Pending;
 
 // ── Words ──
@@ -188,7 +189,7 @@ fn put_numbers(out: &mut [u8], p: Pending, lengths: [u32; 4], d: [u16; 16]) -> P
 {
     let mut q = p;
     let mut k: usize = 0;
-    while k < 16 {
+    while k < V0Row::BLOCK {
         q = put_pair(out, q, lengths[k / 4], d[k], d[k + 1]);
         k += 2;
     }

@@ -11,6 +11,7 @@ use refusals::is_too_small;
 use refusals::refuse;
 use rules::Answer;
 use rules::Size;
+use rules::V2Row;
 use samsung::decode_v0_reference_map;
 use writers::Written;
 use writers::is_too_bright;
@@ -77,7 +78,7 @@ pub fn v0_to_v2(
     if refusal != 0 {
         return Written::refused(refusal);
     }
-    if width % 16 != 0 {
+    if width % V2Row::BLOCK != 0 {
         return Written::refused(Answer::BAD_WIDTH);
     }
     decode_v0_reference_map(src, offsets, width, height, samples, map);

@@ -73,7 +73,7 @@ fn sample_of(c: usize, even: u16, odd: u16) -> u16
 }
 
 // The samples of a block, once all are known.
-fn store_samples(out: &mut [u16], base: usize, values: [u16; 16])
+fn store_samples(out: &mut [u16], base: usize, values: [u16; V0Row::BLOCK])
     requires { ⌜ (base + 16 ≤ length (now out)) × Low base ⌝ }
     ensures { λ _. ⌜ Replaced sample-kind base 16 (λ c. getD values c 0) (now (out .entry)) (now (out .exit)) ⌝ }
 {
