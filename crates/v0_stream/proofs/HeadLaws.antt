@@ -175,19 +175,18 @@ within-more m n ls l w = record { each = λ j. omega (arith, w .each j) }
 -- A fresh row's lengths are near 0, and a block moves each by 1 at most, or sets it to at most 15.
 pub fresh-within : (row offset : ℕ) → Within 15 (fresh-row row offset .lengths)
 unfolding fresh-row
-fresh-within row offset = record { each = go (ltb row 2) }
+fresh-within row offset = record { each = go (cond (ltb row 2) (pos 7) (pos 4)) (near (ltb row 2)) }
   where
-    go : (t : Bool) (j : ℕ) → mag (getD (replicate 4 (cond t (pos 7) (pos 4))) j (pos 0)) ≤ 15
-    go true zero = omega arith
-    go true (suc zero) = omega arith
-    go true (suc (suc zero)) = omega arith
-    go true (suc (suc (suc zero))) = omega arith
-    go true (suc (suc (suc (suc j)))) = omega arith
-    go false zero = omega arith
-    go false (suc zero) = omega arith
-    go false (suc (suc zero)) = omega arith
-    go false (suc (suc (suc zero))) = omega arith
-    go false (suc (suc (suc (suc j)))) = omega arith
+    near : (t : Bool) → mag (cond t (pos 7) (pos 4)) ≤ 15
+    near true = omega arith
+    near false = omega arith
+
+    go : (l : ℤ) → mag l ≤ 15 → (j : ℕ) → mag (getD (replicate 4 l) j (pos 0)) ≤ 15
+    go l h zero = h
+    go l h (suc zero) = h
+    go l h (suc (suc zero)) = h
+    go l h (suc (suc (suc zero))) = h
+    go l h (suc (suc (suc (suc j)))) = omega arith
 
 pub head-within : (s : List ℕ) (st : V0Row) (n : ℕ) → 15 ≤ n → Within n (st .lengths) → Within (suc n) (head s st .row .lengths)
 unfolding head
