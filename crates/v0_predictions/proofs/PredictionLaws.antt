@@ -11,7 +11,7 @@ use lib.ListN.{length, getD, take, drop, length-drop}
 use lib.Seq.{drop-cons, take-append-le, drop-append-le}
 use borrow.Author.Tests.{lt-ltb, le-ltb, ne-eqb}
 use Rattle.rules.specs.V0.{put, apply, order, blocks-in, rows-up, columns-back}
-use Rattle.rules.specs.Phases.{Stage, upward, late-predictor, predict-samples, predict-blocks, phase-two}
+use Rattle.rules.specs.Phases.{Stage, sample-stage, upward, late-predictor, predict-samples, predict-blocks, phase-two}
 use Rattle.rules.specs.declared.v0.Predictor.{Predictor}
 use Rattle.rules.specs.declared.v0.Predictor.the-variants.{Constant, Sample}
 use Rattle.rules.proofs.Cells.{All, nil, more}
@@ -21,6 +21,7 @@ use Rattle.v0_cells.specs.Places.{Inside, Low}
 use Rattle.v0_cells.specs.Inner.{inner-ops}
 use Rattle.v0_cells.proofs.CellLaws.{product}
 use Rattle.v0_cells.proofs.InnerLaws.{late-source}
+use Rattle.v0_predictions.specs.Inner.{predict-inner}
 use Rattle.v0_predictions.specs.Lent.{LateRow}
 
 -- ── The predictor ──
@@ -81,9 +82,9 @@ module _ (g : Stage ℕ) (w row col : ℕ) (up : Bool) where
 -- ── An inner block ──
 
 -- A block after column 0 that lies within its row has two rows before it.
-pub late-inside : {w row : ℕ} {f : List ℕ} (col : ℕ) → LateRow w row f → 0 < col → col + 16 ≤ w
+pub late-inside : {w row col : ℕ} {f : List ℕ} → LateRow w row f → (0 < col) × (col + 16 ≤ w)
     → Inside w (row * w + col) f × Low (row * w + col)
-late-inside {w} {row} col l after within =
+late-inside {w} {row} l inner =
     let two : 2 * w ≤ row * w = mul-le-mul-right w (l .rows-above) in
     let most = product row w (omega (arith, l .row-below)) (omega (arith, l .width)) in
     (record { wide = omega arith; rows = omega arith; room = omega (arith, l .row-lent) }, omega (arith, l .width))
@@ -108,9 +109,14 @@ module _ (g : Stage ℕ) (w row col : ℕ) (up : Bool) (two : 2 ≤ row) (after 
       rw (lt-ltb (col + c) w (omega arith), late-source w row col up c two after, h)
       (inner-steps rest ls _ (others-stand c _ _ f away hs))
 
-  pub inner-block : predict-samples g w row col up order f₀
+  inner-block : predict-samples g w row col up order f₀
       ≡ apply (g .kind) (inner-ops w (row * w + col) up order (map (λ c. g .residual (at f₀ c)) order)) f₀
   inner-block = inner-steps order-apart (all-order (λ c. c < 16) (λ c l. l)) f₀ (all-order (λ c. at f₀ c ≡ at f₀ c) (λ c l. refl))
+
+-- So it does in the samples, of a direction t.
+pub inner-done : {w row col : ℕ} {up t : Bool} {f f′ : List ℕ} → LateRow w row f → (0 < col) × (col + 16 ≤ w) → up ≡ t
+    → f′ ≡ predict-inner w (row * w + col) t f → f′ ≡ predict-samples sample-stage w row col up order f
+inner-done l inner e q = rw e (q ∙ sym (inner-block sample-stage _ _ _ _ (l .rows-above) (inner .0) (inner .1) _))
 
 -- ── A row's blocks ──
 
