@@ -3,26 +3,26 @@ use mathlib.Core.Logic.{_⊎_, ⊎-elim}
 use mathlib.Core.Path.{_≡_, refl, sym, ap, subst, _∙_}
 use mathlib.Core.Bool.{Bool, true, false}
 use mathlib.Core.List.{List, [], _∷_}
-use Prim.Native.Nat.{ℕ, zero, suc, _+_, _*_, _-_, _/_, _%_, _^_, _≤_, _<_}
-use native.Mathlib.Nat.{mod-lt, mod-eq-of-lt, mod-add-mod, mul-add-mod-self-right}
+use Prim.Native.Nat.{ℕ, _+_, _*_, _-_, _/_, _%_, _^_, _≤_, _<_}
+use native.Mathlib.Nat.{mod-lt}
 use native.Mathlib.Omega.{arith}
-use native.Mathlib.Numerals.{add-one}
-use lib.Dec.{ltb, leb}
+use lib.Dec.{leb}
 use lib.IntN.{ℤ, pos, negsuc}
 use lib.ListN.{length, getD, set, replicate}
 use lib.Signed.{mag, leZ}
-use lib.Pow.{pow-pos, pow-mono, pow-add, mod-mod-pow}
+use lib.Pow.{pow-pos, pow-mono}
 use mir.Syntax.{w32}
 use mir.Val.{toZ, ofZ}
 use mir.ValLaws.{toZ-ofZ}
-use borrow.Author.Tests.{ltb-true, ltb-false, leb-true, leb-false}
-use Rattle.rules.specs.Reader.{word-at, four}
+use borrow.Author.Tests.{leb-true, leb-false}
+use Rattle.rules.specs.Reader.{word-at, four, modulo}
 use Rattle.rules.specs.V0.{length-bits, head}
 use Rattle.rules.specs.declared.reader.Bits.{Bits}
 use Rattle.rules.specs.declared.v0.V0Row.{V0Row}
-use Rattle.rules.proofs.ReaderLaws.{four-fields, sign-low, sign-high, residual-is}
+use Rattle.rules.proofs.ReaderLaws.{four-fields}
 use Rattle.window.specs.Window.{bits-from, state-at, values-at, span, none, also, Window, Standing}
-use Rattle.window.proofs.WindowLaws.{fields-at, fields-end, pair-top, three-at}
+use Rattle.window.proofs.WindowLaws.{fields-at, window-words, pair-top}
+use Rattle.window.proofs.SignLaws.{low-signed, modulo-minus}
 use Rattle.v0_stream.specs.Block.{with-residuals, whole-block}
 use Rattle.v0_windows.specs.ByWindow.{residual, Room, HeadAt, head-of, Ahead, Plans, Short, Group, joined, residuals-of, Ends}
 use Rattle.v0_windows.specs.declared.WindowHead.{WindowHead}
@@ -30,43 +30,6 @@ use Rattle.v0_windows.specs.declared.Plan.{Plan}
 use Rattle.v0_stream.proofs.BlockLaws.{bits-few-enough, Reading, reading-begun, reading-four, read-all}
 
 -- ── The sign ──
-
--- Adding half a turn and taking it off again, in a turn of 2^n.
-turned : (n v h : ℕ) → h ≡ 2 ^ n / 2 → n ≤ 32 → v < 2 ^ n → ((v + h) % 2 ^ n + 4_294_967_296 - h) % 65_536 ≡ residual n v
-turned zero v h eh few l =
-    let z : v ≡ 0 = omega arith in
-    let y : h ≡ 0 = eh in
-    rw (z, y, ← residual-is 0 0 (omega arith) (omega arith))
-turned (suc m) v h eh few l = go (ltb (v * 2) (2 ^ suc m)) refl
-  where
-    double : 2 ^ suc m ≡ 2 ^ m * 2
-    double = ap (λ (x : ℕ). 2 ^ x) (sym (add-one m)) ∙ pow-add 2 m 1
-
-    half : h * 2 ≡ 2 ^ suc m
-    half = omega (arith, double, eh)
-
-    most : 2 ^ suc m ≤ 4_294_967_296
-    most = pow-mono few
-
-    go : (t : Bool) → ltb (v * 2) (2 ^ suc m) ≡ t → ((v + h) % 2 ^ suc m + 4_294_967_296 - h) % 65_536 ≡ residual (suc m) v
-    go true e =
-        let q : v * 2 < 2 ^ suc m = ltb-true (v * 2) (2 ^ suc m) e in
-        let u : v + h < 2 ^ suc m = omega (arith, half) in
-        rw (mod-eq-of-lt u, ← residual-is (suc m) v l few, sign-low (suc m) v l q) (omega (arith, half, most))
-    go false e =
-        let q : 2 ^ suc m ≤ v * 2 = ltb-false (v * 2) (2 ^ suc m) e in
-        let s : v + h ≡ 1 * 2 ^ suc m + (v + h - 2 ^ suc m) = omega (arith, half) in
-        let u : v + h - 2 ^ suc m < 2 ^ suc m = omega (arith, half) in
-        let w : (v + h) % 2 ^ suc m ≡ v + h - 2 ^ suc m
-        = ap (λ (x : ℕ). x % 2 ^ suc m) s ∙ mul-add-mod-self-right 1 (2 ^ suc m) (v + h - 2 ^ suc m) ∙ mod-eq-of-lt u in
-        rw (w, ← residual-is (suc m) v l few, sign-high (suc m) v l q) (omega (arith, half, most))
-
-low-is : (x n h : ℕ) → n ≤ 32 → h ≡ 2 ^ n / 2 → ((x + h) % 2 ^ 64 % 2 ^ n + 4_294_967_296 - h) % 65_536 ≡ residual n (x % 2 ^ n)
-low-is x n h few eh =
-    let m : 64 ≡ 64 - n + n = omega arith in
-    let a : (x + h) % 2 ^ 64 % 2 ^ n ≡ (x + h) % 2 ^ n = ap (λ (y : ℕ). (x + h) % 2 ^ y % 2 ^ n) m ∙ mod-mod-pow (x + h) (64 - n) n in
-    let b : (x + h) % 2 ^ n ≡ (x % 2 ^ n + h) % 2 ^ n = sym (mod-add-mod x (2 ^ n) h) in
-    rw (a, b) (turned n (x % 2 ^ n) h eh few (mod-lt x (pow-pos n)))
 
 -- What `low` makes of p = 2^n and the sum w: it stays within 64 bits, and is the residual.
 pub record Low (x n p w : ℕ) : Type 0 where
@@ -80,25 +43,10 @@ low-made x n p w few ep ew =
     let some : 0 < 2 ^ n = pow-pos n in
     let most : 2 ^ n ≤ 4_294_967_296 = pow-mono few in
     let below : (x + 2 ^ n / 2) % 2 ^ 64 % 2 ^ n < 2 ^ n = mod-lt ((x + 2 ^ n / 2) % 2 ^ 64) some in
-    rw (ew, ep) (record { some = some; fits = omega arith; enough = omega arith; is = low-is x n (2 ^ n / 2) few refl })
+    let is = sym (modulo-minus ((x + 2 ^ n / 2) % 2 ^ 64 % 2 ^ n) (2 ^ n / 2) (omega arith)) ∙ ap modulo (low-signed x n few) in
+    rw (ew, ep) (record { some = some; fits = omega arith; enough = omega arith; is = is })
 
 -- ── Four of one length ──
-
--- The words that at most 64 bits of a window lie in.
-pub window-words : (s : List ℕ) (base q v : ℕ) → Window s base q v → (m : ℕ) → m ≤ 64 → (j : ℕ) → q ≤ j * 32 → j * 32 < q + m → word-at s (base + j * 4) < 2 ^ 32
-window-words s base q v w m few j l h = three-at s base (q / 32) j (w .words) (omega arith) (omega arith)
-
--- What `four_at` makes of the window that ends with them.
-pub four-made : (s : List ℕ) (base q n v p₁ p₂ p₃ r₀ r₁ r₂ r₃ : ℕ) → n ≤ 16 → 64 ≤ q → Window s base (q + 4 * n - 64) v → p₁ ≡ 2 ^ n → p₂ ≡ 2 ^ n → p₃ ≡ 2 ^ n
-    → r₀ ≡ residual n (v / p₁ / p₂ / p₃ % 2 ^ n) → r₁ ≡ residual n (v / p₁ / p₂ % 2 ^ n)
-    → r₂ ≡ residual n (v / p₁ % 2 ^ n) → r₃ ≡ residual n (v % 2 ^ n) → Group s base q n (r₀ ∷ r₁ ∷ r₂ ∷ r₃ ∷ [])
-four-made s base q n v p₁ p₂ p₃ r₀ r₁ r₂ r₃ few late w e₁ e₂ e₃ f₀ f₁ f₂ f₃ =
-    let start : q + 4 * n - 64 + (64 - 4 * n) ≡ q = omega arith in
-    let t = rw start at (fields-end s base (q + 4 * n - 64) v w n (64 - 4 * n) (omega arith)) in
-    record {
-      whole = λ j l h. window-words s base (q + 4 * n - 64) v w 64 (omega arith) j (omega arith) (omega arith);
-      are = rw (f₀, f₁, f₂, f₃, e₁, e₂, e₃, t .0, t .1 .0, t .1 .1 .0, t .1 .1 .1);
-    }
 
 -- What `four_long_at` makes of two.
 pub long-made : (s : List ℕ) (base q n v u p₀ p₁ p₂ p₃ r₀ r₁ r₂ r₃ : ℕ) → 16 < n → n ≤ 32 → Window s base q v → Window s base (q + 2 * n) u

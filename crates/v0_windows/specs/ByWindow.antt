@@ -8,10 +8,10 @@ use mathlib.Core.Path.{_≡_}
 use lib.Dec.{eqb}
 use lib.IntN.{ℤ, pos}
 use lib.ListN.{length, getD}
-use Rattle.rules.specs.Reader.{word-at, signed, modulo}
+use Rattle.rules.specs.Reader.{signed, modulo}
 use Rattle.rules.specs.V0.{head, length-bits}
 use Rattle.rules.specs.declared.v0.V0Head.{V0Head}
-use Rattle.window.specs.Window.{bits-from, state-at}
+use Rattle.window.specs.Window.{state-at, FourAt}
 use Rattle.v0_stream.specs.Block.{with-residuals}
 use Rattle.v0_stream.specs.Lengths.{stepped}
 use Rattle.v0_windows.specs.declared.WindowLength.{WindowLength}
@@ -76,15 +76,9 @@ pub record Short (ls : List ℤ) : Type 0 where
   pub third : length-bits (getD ls 2 (pos 0)) ≤ 16
   pub fourth : length-bits (getD ls 3 (pos 0)) ≤ 16
 
--- Four residuals of n bits from bit q on. The words that they lie in have 32 bits.
-pub record Group (s : List ℕ) (base q n : ℕ) (r : List ℕ) : Type 0 where
-  pub whole : (j : ℕ) → q ≤ j * 32 → j * 32 < q + 4 * n → word-at s (base + j * 4) < 2 ^ 32
-  pub are : r
-      ≡ residual n (bits-from s base q n)
-      ∷ residual n (bits-from s base (q + n) n)
-      ∷ residual n (bits-from s base (q + 2 * n) n)
-      ∷ residual n (bits-from s base (q + 3 * n) n)
-      ∷ []
+-- Four residuals of n bits from bit q on.
+abbrev pub Group : List ℕ → ℕ → ℕ → ℕ → List ℕ → Type 0
+Group s base q n r = FourAt (residual n) s base q n r
 
 -- Four groups in a row.
 abbrev pub joined : List ℕ → List ℕ → List ℕ → List ℕ → List ℕ

@@ -1,26 +1,25 @@
--- Differences by position are those that the reader's state reads: first the sign, then four out of a window, then the sixteen of a
--- block out of four.
-use mathlib.Core.Path.{_≡_, refl, sym, ap, _∙_}
+-- Differences by position are those that the reader's state reads: first the sign, then the sixteen of a block out of four windows.
+use mathlib.Core.Path.{_≡_, refl, sym, _∙_}
 use mathlib.Core.Bool.{Bool, true, false, cond, _&&_}
-use mathlib.Core.List.{List, [], _∷_}
+use mathlib.Core.List.{List}
 use Prim.Native.Nat.{ℕ, zero, suc, _+_, _*_, _-_, _/_, _%_, _^_, _≤_, _<_, min}
-use native.Mathlib.Nat.{mod-lt, mod-eq-of-lt, mod-add-mod, mul-add-mod-self-right}
+use native.Mathlib.Nat.{mod-lt}
 use native.Mathlib.Omega.{arith}
-use native.Mathlib.Numerals.{add-one}
-use lib.Dec.{ltb, leb, eqb}
-use lib.IntN.{ℤ, pos, _-ℤ_, +ℤ-negℤ-cancel}
+use lib.Dec.{leb, eqb}
+use lib.IntN.{ℤ, pos, _-ℤ_}
 use lib.ListN.{length, getD, set}
-use lib.Pow.{pow-pos, pow-mono, pow-add, mod-mod-pow}
+use lib.Pow.{pow-pos, pow-mono}
 use lib.Signed.{mag}
-use borrow.Author.Tests.{ltb-true, ltb-false, leb-true, le-leb}
+use borrow.Author.Tests.{leb-true, le-leb}
 use Rattle.rules.specs.Reader.{word-at, signed, read-signed}
 use Rattle.rules.specs.V2.{position, differences-from}
 use Rattle.rules.specs.declared.reader.Bits.{Bits}
-use Rattle.rules.proofs.ReaderLaws.{signed-low, signed-high, signed-mag, minus-more, read-signed-is}
+use Rattle.rules.proofs.ReaderLaws.{signed-mag, read-signed-is}
 use Rattle.rules.proofs.Tests.{both, by-test}
-use Rattle.window.specs.Window.{bits-from, state-at, Window, Standing}
-use Rattle.window.proofs.WindowLaws.{fields-end, read-at, three-at}
-use Rattle.v2_differences.specs.Four.{FourAt, Short, short}
+use Rattle.window.specs.Window.{bits-from, state-at, FourAt, Standing}
+use Rattle.window.proofs.WindowLaws.{read-at}
+use Rattle.window.proofs.SignLaws.{low-signed}
+use Rattle.v2_differences.specs.Four.{Short, short}
 use Rattle.v2_differences.proofs.DifferenceLaws.{difference-more, difference-end}
 
 -- ── Short lengths ──
@@ -46,44 +45,6 @@ short-last ls a b c = simp (le-leb _ _ a, le-leb _ _ b, le-leb _ _ c)
 
 -- ── The sign ──
 
--- Adding half a turn and taking it off again, in a turn of 2^n.
-turned : (n v h : ℕ) → h ≡ 2 ^ n / 2 → v < 2 ^ n → pos ((v + h) % 2 ^ n) -ℤ pos h ≡ signed n v
-turned zero v h eh l =
-    let z : v ≡ 0 = omega arith in
-    let y : h ≡ 0 = eh in
-    let l : 0 * 2 < 2 ^ 0 = omega arith in
-    rw (z, y, signed-low 0 0 l)
-turned (suc m) v h eh l = by-test (ltb (v * 2) (2 ^ suc m)) below above
-  where
-    double : 2 ^ suc m ≡ 2 ^ m * 2
-    double = ap (λ (x : ℕ). 2 ^ x) (sym (add-one m)) ∙ pow-add 2 m 1
-
-    half : h * 2 ≡ 2 ^ suc m
-    half = omega (arith, double, eh)
-
-    below : ltb (v * 2) (2 ^ suc m) ≡ true → pos ((v + h) % 2 ^ suc m) -ℤ pos h ≡ signed (suc m) v
-    below e =
-        let q : v * 2 < 2 ^ suc m = ltb-true (v * 2) (2 ^ suc m) e in
-        let u : v + h < 2 ^ suc m = omega (arith, half) in
-        rw (mod-eq-of-lt u, signed-low (suc m) v q) (+ℤ-negℤ-cancel (pos v) (pos h))
-
-    above : ltb (v * 2) (2 ^ suc m) ≡ false → pos ((v + h) % 2 ^ suc m) -ℤ pos h ≡ signed (suc m) v
-    above e =
-        let q : 2 ^ suc m ≤ v * 2 = ltb-false (v * 2) (2 ^ suc m) e in
-        let s : v + h ≡ 1 * 2 ^ suc m + (v - h) = omega (arith, half) in
-        let u : v - h < 2 ^ suc m = omega (arith, half) in
-        let w : (v + h) % 2 ^ suc m ≡ v - h
-        = ap (λ (x : ℕ). x % 2 ^ suc m) s ∙ mul-add-mod-self-right 1 (2 ^ suc m) (v - h) ∙ mod-eq-of-lt u in
-        let t : h - suc (v - h) ≡ 2 ^ suc m - suc v = omega (arith, half) in
-        rw (w, signed-high (suc m) v q l, minus-more (v - h) h (omega (arith, half)), t)
-
-low-is : (x n h : ℕ) → n ≤ 16 → h ≡ 2 ^ n / 2 → pos ((x + h) % 2 ^ 64 % 2 ^ n) -ℤ pos h ≡ signed n (x % 2 ^ n)
-low-is x n h few eh =
-    let m : 64 ≡ 64 - n + n = omega arith in
-    let a : (x + h) % 2 ^ 64 % 2 ^ n ≡ (x + h) % 2 ^ n = ap (λ (y : ℕ). (x + h) % 2 ^ y % 2 ^ n) m ∙ mod-mod-pow (x + h) (64 - n) n in
-    let b : (x + h) % 2 ^ n ≡ (x % 2 ^ n + h) % 2 ^ n = sym (mod-add-mod x (2 ^ n) h) in
-    rw (a, b) (turned n (x % 2 ^ n) h eh (mod-lt x (pow-pos n)))
-
 -- What `low` makes of p = 2^n and the sum w: it stays within 32 signed bits, and is the number.
 pub record Low (x n p w : ℕ) : Type 0 where
   pub some : 0 < p
@@ -98,21 +59,7 @@ low-made x n p w few ep ew =
     let most : 2 ^ n ≤ 65_536 = pow-mono few in
     let turn : (x + 2 ^ n / 2) % 2 ^ 64 % 2 ^ n < 2 ^ n = mod-lt ((x + 2 ^ n / 2) % 2 ^ 64) some in
     let bound : mag (signed n (x % 2 ^ n)) < 2 ^ 31 = signed-mag 31 n (x % 2 ^ n) (omega arith) (mod-lt x some) in
-    rw (ew, ep) (record { some = some; turn = omega arith; half = omega arith; is = low-is x n (2 ^ n / 2) few refl; bound = bound })
-
--- ── Four out of a window ──
-
--- What `four_at` makes of the window that ends with them.
-pub four-made : (s : List ℕ) (base q n v p₁ p₂ p₃ : ℕ) (r₀ r₁ r₂ r₃ : ℤ) → n ≤ 16 → 64 ≤ q → Window s base (q + 4 * n - 64) v → p₁ ≡ 2 ^ n → p₂ ≡ 2 ^ n → p₃ ≡ 2 ^ n
-    → r₀ ≡ signed n (v / p₁ / p₂ / p₃ % 2 ^ n) → r₁ ≡ signed n (v / p₁ / p₂ % 2 ^ n)
-    → r₂ ≡ signed n (v / p₁ % 2 ^ n) → r₃ ≡ signed n (v % 2 ^ n) → FourAt s base q n (r₀ ∷ r₁ ∷ r₂ ∷ r₃ ∷ [])
-four-made s base q n v p₁ p₂ p₃ r₀ r₁ r₂ r₃ few late w e₁ e₂ e₃ f₀ f₁ f₂ f₃ =
-    let start : q + 4 * n - 64 + (64 - 4 * n) ≡ q = omega arith in
-    let t = rw start at (fields-end s base (q + 4 * n - 64) v w n (64 - 4 * n) (omega arith)) in
-    record {
-      whole = λ j l h. three-at s base ((q + 4 * n - 64) / 32) j (w .words) (omega arith) (omega arith);
-      are = rw (f₀, f₁, f₂, f₃, e₁, e₂, e₃, t .0, t .1 .0, t .1 .1 .0, t .1 .1 .1);
-    }
+    rw (ew, ep) (record { some = some; turn = omega arith; half = omega arith; is = low-signed x n (omega arith); bound = bound })
 
 -- ── As the state reads them ──
 
@@ -188,7 +135,7 @@ pub reached-start : (s : List ℕ) (row : ℕ) (ls : List ℕ) (base f count : �
 reached-start s row ls base f count ds few = record { within = omega arith; late = omega arith; soon = omega arith; is = refl }
 
 module _ (s : List ℕ) (row : ℕ) (ls : List ℕ) (base f q₀ : ℕ) (ds₀ : List ℤ) where
-  pub reached-more : (j q n p : ℕ) (ds ds′ r : List ℤ) → j < 4 → n ≡ getD ls j 0 → n ≤ 16 → base + 48 ≤ length s → base + 48 < 2 ^ 64 → p ≡ position row (4 * j) → FourAt s base q n r
+  pub reached-more : (j q n p : ℕ) (ds ds′ r : List ℤ) → j < 4 → n ≡ getD ls j 0 → n ≤ 16 → base + 48 ≤ length s → base + 48 < 2 ^ 64 → p ≡ position row (4 * j) → FourAt (signed n) s base q n r
       → ds′ ≡ set (set (set (set ds p (getD r 0 (pos 0))) (p + 2) (getD r 1 (pos 0))) (p + 4) (getD r 2 (pos 0))) (p + 6) (getD r 3 (pos 0))
       → Reached s row ls base f q₀ ds₀ j q ds → Reached s row ls base f q₀ ds₀ (j + 1) (q + 4 * n) ds′
   reached-more j q n p ds ds′ r h en few there far ep x ed l =

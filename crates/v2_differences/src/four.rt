@@ -3,7 +3,7 @@ ghost use mathlib.Core.Path.{_≡_};
 ghost use Prim.Native.Nat.{_+_, _-_, _*_, _/_, _%_, _^_, _≤_, _<_};
 ghost use lib.ListN.{length};
 ghost use Rattle.rules.specs.Reader.{signed};
-ghost use Rattle.v2_differences.specs.Four.{FourAt};
+ghost use Rattle.window.specs.Window.{FourAt};
 use fields::power;
 use window::window;
 
@@ -21,7 +21,7 @@ fn low(x: u64, n: u32) -> i32
 // from the one after it, by the same number of bits: that takes fewer instructions than four cuts.
 pub fn four_at(src: &[u8], base: usize, q: usize, n: u32) -> [i32; 4]
     requires { ⌜ (n ≤ 16) × ((64 ≤ q) × ((q < 2 ^ 32) × (base + (q + 4 * n - 64) / 32 * 4 + 12 ≤ length (now src)))) ⌝ }
-    ensures { λ r. ⌜ FourAt (now (src .entry)) base q n r ⌝ }
+    ensures { λ r. ⌜ FourAt (signed n) (now (src .entry)) base q n r ⌝ }
 {
     let d = window(src, base, q + 4 * n as usize - 64);
     let c = d / power(n);

@@ -1,2 +1,3 @@
 pub mod WindowLaws
 pub mod Examples
+pub mod SignLaws

@@ -1,5 +1,5 @@
 -- Reading by position is reading by the record: `read-at` says so of one read, `leaves` of the record after one that need not be
--- known, `fields-at` of several. `cut-at` cuts fields out of more bits, `window-is` makes 64 bits of three words, and `fields-end`
+-- known, `fields-at` of several. `cut-at` cuts fields out of more bits, `window-is` makes 64 bits of three words, and `four-made`
 -- cuts these into four.
 use mathlib.Core.Path.{_≡_, sym, ap, subst, _∙_}
 use mathlib.Core.Bool.{true, false, _&&_}
@@ -17,7 +17,7 @@ use Rattle.rules.proofs.ReaderLaws.{fetched-there, counted-there, held-is, read
 use Rattle.rules.proofs.Tests.{both, by-test}
 use Rattle.rules.specs.declared.reader.Bits.{Bits}
 use Rattle.rules.specs.declared.reader.Got.{Got}
-use Rattle.window.specs.Window.{bit, bits-from, state-at, Three, Window, values-at, span, Narrow, none, also, stands-in, Stands}
+use Rattle.window.specs.Window.{bit, bits-from, state-at, Three, Window, FourAt, values-at, span, Narrow, none, also, stands-in, Stands}
 
 -- ── Bits ──
 
@@ -337,6 +337,35 @@ module _ (s : List ℕ) (base q v : ℕ) (w : Window s base q v) where
       let z : q + 0 ≡ q = omega arith in
       (rw one (in-window s base q v 0 n (c + n) w (omega arith) ∙ rw z), in-window s base q v n n c w (omega arith))
 
+-- The words of a window are the three from its own on.
+three-at : (s : List ℕ) (base i j : ℕ) → Three s (base + i * 4) → i ≤ j → j ≤ i + 2 → word-at s (base + j * 4) < 2 ^ 32
+three-at s base i j t l m = subst (λ (x : ℕ). word-at s (base + x * 4) < 2 ^ 32) e (go (j - i) (omega arith))
+  where
+    e : i + (j - i) ≡ j
+    e = omega arith
+
+    go : (k : ℕ) → k ≤ 2 → word-at s (base + (i + k) * 4) < 2 ^ 32
+    go zero h = let b : base + (i + 0) * 4 ≡ base + i * 4 = omega arith in rw b (t .first)
+    go (suc zero) h = let b : base + (i + 1) * 4 ≡ base + i * 4 + 4 = omega arith in rw b (t .second)
+    go (suc (suc zero)) h = let b : base + (i + 2) * 4 ≡ base + i * 4 + 8 = omega arith in rw b (t .third)
+    go (suc (suc (suc k))) h = absurd (omega arith)
+
+-- The words that at most 64 bits of a window lie in.
+pub window-words : (s : List ℕ) (base q v : ℕ) → Window s base q v → (m : ℕ) → m ≤ 64 → (j : ℕ) → q ≤ j * 32 → j * 32 < q + m → word-at s (base + j * 4) < 2 ^ 32
+window-words s base q v w m few j l h = three-at s base (q / 32) j (w .words) (omega arith) (omega arith)
+
+-- The four fields that a window ends with, each moved down from the one after it.
+pub four-made : {A : Type 0} (f : ℕ → A) (s : List ℕ) (base q n v p₁ p₂ p₃ : ℕ) {r₀ r₁ r₂ r₃ : A} → n ≤ 16 → 64 ≤ q → Window s base (q + 4 * n - 64) v
+    → p₁ ≡ 2 ^ n → p₂ ≡ 2 ^ n → p₃ ≡ 2 ^ n → r₀ ≡ f (v / p₁ / p₂ / p₃ % 2 ^ n) → r₁ ≡ f (v / p₁ / p₂ % 2 ^ n) → r₂ ≡ f (v / p₁ % 2 ^ n) → r₃ ≡ f (v % 2 ^ n)
+    → FourAt f s base q n (r₀ ∷ r₁ ∷ r₂ ∷ r₃ ∷ [])
+four-made f s base q n v p₁ p₂ p₃ few late w e₁ e₂ e₃ f₀ f₁ f₂ f₃ =
+    let start : q + 4 * n - 64 + (64 - 4 * n) ≡ q = omega arith in
+    let t = rw start at (fields-end s base (q + 4 * n - 64) v w n (64 - 4 * n) (omega arith)) in
+    record {
+      whole = λ j l h. window-words s base (q + 4 * n - 64) v w 64 (omega arith) j (omega arith) (omega arith);
+      are = rw (f₀, f₁, f₂, f₃, e₁, e₂, e₃, t .0, t .1 .0, t .1 .1 .0, t .1 .1 .1);
+    }
+
 -- ── States ──
 
 -- A state that stands in the stream is one by position.
@@ -379,16 +408,3 @@ module _ (s : List ℕ) (b : Bits) (more : ℕ) where
   pub stands-word : b .count < 32 → 4 ≤ b .pos → b .pos - 4 + more ≤ length s → stands-in s b more ≡ eqb (word-at s (b .pos - 4)) (b .word)
   unfolding stands-in
   stands-word few fetched h = simp (lt-ltb _ _ few, le-leb _ _ fetched, le-leb _ _ h)
-
--- The words of a window are the three from its own on.
-pub three-at : (s : List ℕ) (base i j : ℕ) → Three s (base + i * 4) → i ≤ j → j ≤ i + 2 → word-at s (base + j * 4) < 2 ^ 32
-three-at s base i j t l m = subst (λ (x : ℕ). word-at s (base + x * 4) < 2 ^ 32) e (go (j - i) (omega arith))
-  where
-    e : i + (j - i) ≡ j
-    e = omega arith
-
-    go : (k : ℕ) → k ≤ 2 → word-at s (base + (i + k) * 4) < 2 ^ 32
-    go zero h = let b : base + (i + 0) * 4 ≡ base + i * 4 = omega arith in rw b (t .first)
-    go (suc zero) h = let b : base + (i + 1) * 4 ≡ base + i * 4 + 4 = omega arith in rw b (t .second)
-    go (suc (suc zero)) h = let b : base + (i + 2) * 4 ≡ base + i * 4 + 8 = omega arith in rw b (t .third)
-    go (suc (suc (suc k))) h = absurd (omega arith)

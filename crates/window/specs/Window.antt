@@ -50,6 +50,16 @@ pub record Window (s : List ℕ) (base q v : ℕ) : Type 0 where
   pub is : v ≡ bits-from s base q 64
   pub words : Three s (base + q / 32 * 4)
 
+-- Four fields of n bits from bit q on, each taken as f takes it. The words that they lie in have 32 bits.
+pub record FourAt {A : Type 0} (f : ℕ → A) (s : List ℕ) (base q n : ℕ) (r : List A) : Type 0 where
+  pub whole : (j : ℕ) → q ≤ j * 32 → j * 32 < q + 4 * n → word-at s (base + j * 4) < 2 ^ 32
+  pub are : r
+      ≡ f (bits-from s base q n)
+      ∷ f (bits-from s base (q + n) n)
+      ∷ f (bits-from s base (q + 2 * n) n)
+      ∷ f (bits-from s base (q + 3 * n) n)
+      ∷ []
+
 -- ── States ──
 
 -- The reader's state before bit q, f words having been missing. The word that bit q − 1 lies in has been fetched, so q is not 0.

@@ -1,7 +1,8 @@
 -- Four fields up to the end of a window: each is cut after those behind it are moved out.
 use lib.Pow.{pow-pos}
 use denote.Ref.{now}
-use Rattle.v0_windows.proofs.GroupLaws.{four-made}
+use Rattle.window.proofs.WindowLaws.{four-made}
+use Rattle.v0_windows.specs.ByWindow.{residual}
 use borrow.Author.Needs.{needs}
 use Rattle.v0_windows.proofs.four_at.Statement.{statement}
 use Rattle.v0_windows.proofs.four_at.Tie as tie
@@ -51,7 +52,7 @@ low-requires-4 c κs = search needs
 returns : tie.Need-returns
 returns c =
     let third = c .before .before .before .before in let window = third .before .before .before in let a = window .before .before in
-    four-made (now (a .args .src)) (a .args .base) (a .args .q) (a .args .n) _ _ _ _ _ _ _ _ (a .pre .0) (a .pre .1 .0) (window .window .ensures)
+    four-made (residual (a .args .n)) (now (a .args .src)) (a .args .base) (a .args .q) (a .args .n) _ _ _ _ (a .pre .0) (a .pre .1 .0) (window .window .ensures)
     (third .before .before .power .ensures) (third .before .power2 .ensures) (third .power3 .ensures)
     (c .before .before .before .low .ensures) (c .before .before .low2 .ensures) (c .before .low3 .ensures) (c .low4 .ensures)
 

@@ -4,7 +4,8 @@ use mir.Syntax.{w32}
 use mir.ValLaws.{toZ-ofZ}
 use denote.Ref.{now}
 use borrow.Author.Needs.{needs}
-use Rattle.v2_differences.proofs.FourLaws.{four-made}
+use Rattle.rules.specs.Reader.{signed}
+use Rattle.window.proofs.WindowLaws.{four-made}
 use Rattle.v2_differences.proofs.four.four_at.Statement.{statement}
 use Rattle.v2_differences.proofs.four.four_at.Tie as tie
 
@@ -61,7 +62,7 @@ returns c =
       toZ-ofZ w32 (c .before .low3 .result) (record { sfits = c .before .low3 .ok }),
       toZ-ofZ w32 (c .low4 .result) (record { sfits = c .low4 .ok }),
     )
-    (four-made (now (a .args .src)) (a .args .base) (a .args .q) (a .args .n) _ _ _ _ _ _ _ _ (a .pre .0) (a .pre .1 .0) (w .window .ensures) (p .before .before .power .ensures) (p .before .power2 .ensures) (p .power3 .ensures)
+    (four-made (signed (a .args .n)) (now (a .args .src)) (a .args .base) (a .args .q) (a .args .n) _ _ _ _ (a .pre .0) (a .pre .1 .0) (w .window .ensures) (p .before .before .power .ensures) (p .before .power2 .ensures) (p .power3 .ensures)
     (c .before .before .before .low .ensures) (c .before .before .low2 .ensures) (c .before .low3 .ensures) (c .low4 .ensures))
 
 pub four-at-spec : {M : Type 1} → statement M
