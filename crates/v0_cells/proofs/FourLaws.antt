@@ -7,7 +7,10 @@ use native.Mathlib.Omega.{arith}
 use lib.ListN.{getD, set}
 use Rattle.rules.specs.V0.{Kind, put, apply, order, rows-up, columns-back}
 use Rattle.rules.specs.declared.v0.Predictor.the-variants.{Sample}
-use Rattle.v0_windows.specs.ByWindow.{joined}
+use Rattle.v0_windows.specs.ByWindow.{residuals-of}
+use Rattle.v0_windows.specs.declared.WindowHead.{WindowHead}
+use Rattle.v0_windows.specs.declared.Plan.{Plan}
+use Rattle.v0_windows.proofs.GroupLaws.{ByPosition, groups-are}
 use Rattle.v0_cells.specs.Inner.{source-of, inner-ops}
 use Rattle.v0_cells.proofs.InnerLaws.{rows-most}
 
@@ -67,12 +70,12 @@ module _ (k : Kind ℕ) (w base : ℕ) (up : Bool) where
       (put-one (c + 4) _ (p + 2 * s) v₂ f₂ f₃ (omega arith) (steps-on w base above up c 2 p s ep es) e₃)
       (put-one (c + 6) _ (p + 3 * s) v₃ f₃ f₄ (omega arith) (steps-on w base above up c 3 p s ep es) e₄)
 
-  -- Four groups in a row are the block.
-  pub fours-put : (a b c d f₀ f₁ f₂ f₃ f₄ : List ℕ)
+  -- The four groups of a block that was read by position, one after another, are the block.
+  pub groups-put : {s : List ℕ} {q : ℕ} {h : WindowHead} {p : Plan} {a b c d : List ℕ} → ByPosition s q h p a b c d → (f₀ f₁ f₂ f₃ f₄ : List ℕ)
       → f₁ ≡ apply k (inner-ops w base up (0 ∷ 2 ∷ 4 ∷ 6 ∷ []) (getD a 0 0 ∷ getD a 1 0 ∷ getD a 2 0 ∷ getD a 3 0 ∷ [])) f₀
       → f₂ ≡ apply k (inner-ops w base up (8 ∷ 10 ∷ 12 ∷ 14 ∷ []) (getD b 0 0 ∷ getD b 1 0 ∷ getD b 2 0 ∷ getD b 3 0 ∷ [])) f₁
       → f₃ ≡ apply k (inner-ops w base up (1 ∷ 3 ∷ 5 ∷ 7 ∷ []) (getD c 0 0 ∷ getD c 1 0 ∷ getD c 2 0 ∷ getD c 3 0 ∷ [])) f₂
       → f₄ ≡ apply k (inner-ops w base up (9 ∷ 11 ∷ 13 ∷ 15 ∷ []) (getD d 0 0 ∷ getD d 1 0 ∷ getD d 2 0 ∷ getD d 3 0 ∷ [])) f₃
-      → f₄ ≡ apply k (inner-ops w base up order (joined a b c d)) f₀
+      → f₄ ≡ apply k (inner-ops w base up order (residuals-of s q h)) f₀
   unfolding inner-ops apply
-  fours-put a b c d f₀ f₁ f₂ f₃ f₄ e₁ e₂ e₃ e₄ = rw (← e₁, ← e₂, ← e₃) e₄
+  groups-put x f₀ f₁ f₂ f₃ f₄ e₁ e₂ e₃ e₄ = rw (← groups-are x, ← e₁, ← e₂, ← e₃) e₄

@@ -16,9 +16,10 @@ use Rattle.rules.specs.declared.reader.Bits.{Bits}
 use Rattle.rules.specs.declared.v0.V0Row.{V0Row}
 use Rattle.v0_stream.specs.Block.{with-residuals, whole-block}
 use Rattle.window.specs.Window.{state-at}
-use Rattle.v0_windows.specs.ByWindow.{joined, HeadAt, Ends, residuals-of}
+use Rattle.v0_windows.specs.ByWindow.{HeadAt, Ends, residuals-of}
 use Rattle.v0_windows.specs.declared.WindowHead.{WindowHead}
-use Rattle.v0_windows.proofs.GroupLaws.{block-read}
+use Rattle.v0_windows.specs.declared.Plan.{Plan}
+use Rattle.v0_windows.proofs.GroupLaws.{ByPosition, groups-are, block-read}
 use Rattle.v0_stream.specs.Lengths.{Within, furthest}
 use Rattle.v0_stream.specs.declared.block.ReadBlock.{ReadBlock}
 use Rattle.v0_stream.proofs.BlockLaws.{block-within}
@@ -85,16 +86,17 @@ module _ (w col : ℕ) where
       ∙ store-one (c + 6) (i + 6) _ _ _ _ (omega arith) l
       ∙ ap (store-samples 0 w col cs vs) (sym stored)
 
-  -- Four groups in a row are the block's.
-  pub fours-stored : (a b c d f₀ f₁ f₂ f₃ f₄ : List ℕ) → col + 16 ≤ w
+  -- The four groups of a block that was read by position, one after another, are the block's.
+  pub groups-stored : {s : List ℕ} {q : ℕ} {h : WindowHead} {p : Plan} {a b c d : List ℕ} → ByPosition s q h p a b c d → (f₀ f₁ f₂ f₃ f₄ : List ℕ) → col + 16 ≤ w
       → f₁ ≡ set (set (set (set f₀ col (getD a 0 0)) (col + 2) (getD a 1 0)) (col + 4) (getD a 2 0)) (col + 6) (getD a 3 0)
       → f₂ ≡ set (set (set (set f₁ (col + 8) (getD b 0 0)) (col + 8 + 2) (getD b 1 0)) (col + 8 + 4) (getD b 2 0)) (col + 8 + 6) (getD b 3 0)
       → f₃ ≡ set (set (set (set f₂ (col + 1) (getD c 0 0)) (col + 1 + 2) (getD c 1 0)) (col + 1 + 4) (getD c 2 0)) (col + 1 + 6) (getD c 3 0)
       → f₄ ≡ set (set (set (set f₃ (col + 9) (getD d 0 0)) (col + 9 + 2) (getD d 1 0)) (col + 9 + 4) (getD d 2 0)) (col + 9 + 6) (getD d 3 0)
-      → f₄ ≡ store-samples 0 w col order (joined a b c d) f₀
-  fours-stored a b c d f₀ f₁ f₂ f₃ f₄ l e₁ e₂ e₃ e₄ =
+      → f₄ ≡ store-samples 0 w col order (residuals-of s q h) f₀
+  groups-stored {a = a} {b = b} {c = c} {d = d} x f₀ f₁ f₂ f₃ f₄ l e₁ e₂ e₃ e₄ =
       sym
-      (store-fours 0 col a _ _ f₀ f₁ (omega arith) (omega arith) e₁
+      (ap (λ r. store-samples 0 w col order r f₀) (sym (groups-are x))
+      ∙ store-fours 0 col a _ _ f₀ f₁ (omega arith) (omega arith) e₁
       ∙ store-fours 8 (col + 8) b _ _ f₁ f₂ refl (omega arith) e₂
       ∙ store-fours 1 (col + 1) c _ _ f₂ f₃ refl (omega arith) e₃
       ∙ store-fours 9 (col + 9) d _ _ f₃ f₄ refl (omega arith) e₄

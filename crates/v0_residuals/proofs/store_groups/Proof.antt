@@ -1,13 +1,10 @@
 -- The head tells the bits of each residual, so each group is the one that the record would read from there on; stored one after another
 -- they are the block's.
-use mathlib.Core.Path.{ap, _∙_}
 use native.Mathlib.Omega.{arith}
 use denote.Ref.{now}
 use borrow.Author.Needs.{needs}
-use Rattle.rules.specs.V0.{order}
-use Rattle.rules.specs.Phases.{store-samples}
-use Rattle.v0_windows.proofs.GroupLaws.{first-in, second-in, third-in, fourth-in, ByPosition, either-way, groups-are, groups-end}
-use Rattle.v0_residuals.proofs.ResidualLaws.{fours-stored}
+use Rattle.v0_windows.proofs.GroupLaws.{first-in, second-in, third-in, fourth-in, ByPosition, either-way, groups-end}
+use Rattle.v0_residuals.proofs.ResidualLaws.{groups-stored}
 use Rattle.v0_residuals.proofs.store_groups.Statement.{statement}
 use Rattle.v0_residuals.proofs.store_groups.Tie as tie
 
@@ -95,9 +92,8 @@ returns c =
       fourth = either-way (s₃ .if4 .came) (λ _ y. y .ensures) (λ _ y. y .ensures);
     } in (
       groups-end x,
-      fours-stored (a .width) (a .col) (s₀ .if1 .a) (s₁ .if2 .b) (s₂ .if3 .c) (s₃ .if4 .d) _ _ _ _ _ (entry plan .pre .1 .1 .0)
-          (s₁ .before .before .before .before .store-four .ensures) (s₂ .before .before .before .before .store-four2 .ensures) (s₃ .before .before .before .before .store-four3 .ensures) (c .before .before .store-four4 .ensures)
-          ∙ ap (λ r. store-samples 0 (a .width) (a .col) order r (now (a .out))) (groups-are x),
+      groups-stored _ _ x _ _ _ _ _ (entry plan .pre .1 .1 .0)
+          (s₁ .before .before .before .before .store-four .ensures) (s₂ .before .before .before .before .store-four2 .ensures) (s₃ .before .before .before .before .store-four3 .ensures) (c .before .before .store-four4 .ensures),
     )
 
 pub store-groups-spec : {M : Type 1} → statement M

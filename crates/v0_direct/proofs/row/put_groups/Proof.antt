@@ -1,14 +1,12 @@
 -- Four groups by position are the residuals that the record reads whole; put one after another, they are the whole block.
-use mathlib.Core.Path.{ap, _∙_}
-use Prim.Native.Nat.{_+_, _*_}
+use mathlib.Core.Path.{_∙_}
 use native.Mathlib.Omega.{arith}
 use denote.Ref.{now}
 use borrow.Author.Needs.{needs}
-use Rattle.rules.specs.V0.{sample-kind, apply, order}
-use Rattle.v0_windows.proofs.GroupLaws.{first-in, second-in, third-in, fourth-in, ByPosition, either-way, groups-are, groups-end}
-use Rattle.v0_cells.specs.Inner.{inner-ops}
+use Rattle.rules.specs.V0.{sample-kind}
+use Rattle.v0_windows.proofs.GroupLaws.{first-in, second-in, third-in, fourth-in, ByPosition, either-way, groups-end}
 use Rattle.v0_cells.proofs.InnerLaws.{inner-fits, inner-inside}
-use Rattle.v0_cells.proofs.FourLaws.{fours-put}
+use Rattle.v0_cells.proofs.FourLaws.{groups-put}
 use Rattle.v0_direct.proofs.row.put_groups.Statement.{statement}
 use Rattle.v0_direct.proofs.row.put_groups.Tie as tie
 
@@ -108,9 +106,7 @@ returns c =
       fourth = either-way (g₄ .if4 .came) (λ _ y. y .ensures) (λ _ y. y .ensures);
     } in (
       groups-end x,
-      fours-put sample-kind (a .at .size .width) (a .at .row * a .at .size .width + a .at .col) (a .head .up) (g₁ .if1 .a) (g₂ .if2 .b) (g₃ .if3 .c) (g₄ .if4 .d)
-          (now (a .out)) (p₁ .put-four .last .0) (p₂ .put-four2 .last .0) (p₃ .put-four3 .last .0) (p₄ .put-four4 .last .0) (p₁ .put-four .ensures) (p₂ .put-four2 .ensures) (p₃ .put-four3 .ensures) (p₄ .put-four4 .ensures)
-          ∙ ap (λ r. apply sample-kind (inner-ops (a .at .size .width) (a .at .row * a .at .size .width + a .at .col) (a .head .up) order r) (now (a .out))) (groups-are x),
+      groups-put sample-kind _ _ _ x _ _ _ _ _ (p₁ .put-four .ensures) (p₂ .put-four2 .ensures) (p₃ .put-four3 .ensures) (p₄ .put-four4 .ensures),
     )
 
 pub put-groups-spec : {M : Type 1} → statement M

@@ -1,14 +1,13 @@
 -- As `put_groups`, each group out of one window.
-use mathlib.Core.Path.{ap, _∙_}
-use Prim.Native.Nat.{_+_, _*_, _≤_}
+use mathlib.Core.Path.{_∙_}
+use Prim.Native.Nat.{_≤_}
 use native.Mathlib.Omega.{arith}
 use denote.Ref.{now}
 use borrow.Author.Needs.{needs}
-use Rattle.rules.specs.V0.{sample-kind, apply, order}
-use Rattle.v0_windows.proofs.GroupLaws.{short-plan, first-in, second-in, third-in, fourth-in, ByPosition, groups-are, groups-end}
-use Rattle.v0_cells.specs.Inner.{inner-ops}
+use Rattle.rules.specs.V0.{sample-kind}
+use Rattle.v0_windows.proofs.GroupLaws.{short-plan, first-in, second-in, third-in, fourth-in, ByPosition, groups-end}
 use Rattle.v0_cells.proofs.InnerLaws.{inner-fits, inner-inside}
-use Rattle.v0_cells.proofs.FourLaws.{fours-put}
+use Rattle.v0_cells.proofs.FourLaws.{groups-put}
 use Rattle.v0_direct.proofs.run.put_short.Statement.{statement}
 use Rattle.v0_direct.proofs.run.put_short.Tie as tie
 
@@ -83,9 +82,7 @@ returns c =
     let x : ByPosition (now (a .src)) (a .base) (a .head) (plan .plan-of .result) (g₁ .four-at .result) (g₂ .four-at2 .result) (g₃ .four-at3 .result) (g₄ .four-at4 .result)
     = record { ahead = start plan .pre .1 .0; plans = plan .plan-of .ensures; first = g₁ .four-at .ensures; second = g₂ .four-at2 .ensures; third = g₃ .four-at3 .ensures; fourth = g₄ .four-at4 .ensures } in (
       groups-end x,
-      fours-put sample-kind (a .at .size .width) (a .at .row * a .at .size .width + a .at .col) (a .head .up) (g₁ .four-at .result) (g₂ .four-at2 .result) (g₃ .four-at3 .result) (g₄ .four-at4 .result)
-          (now (a .out)) (p₁ .put-four .last .0) (p₂ .put-four2 .last .0) (p₃ .put-four3 .last .0) (p₄ .put-four4 .last .0) (p₁ .put-four .ensures) (p₂ .put-four2 .ensures) (p₃ .put-four3 .ensures) (p₄ .put-four4 .ensures)
-          ∙ ap (λ r. apply sample-kind (inner-ops (a .at .size .width) (a .at .row * a .at .size .width + a .at .col) (a .head .up) order r) (now (a .out))) (groups-are x),
+      groups-put sample-kind _ _ _ x _ _ _ _ _ (p₁ .put-four .ensures) (p₂ .put-four2 .ensures) (p₃ .put-four3 .ensures) (p₄ .put-four4 .ensures),
     )
 
 pub put-short-spec : {M : Type 1} → statement M

@@ -1,14 +1,11 @@
 -- As in store_groups, each group is the one that the record would read from there on. The lengths are short, so that each lies in one
 -- window.
-use mathlib.Core.Path.{ap, _∙_}
 use Prim.Native.Nat.{_≤_}
 use native.Mathlib.Omega.{arith}
 use denote.Ref.{now}
 use borrow.Author.Needs.{needs}
-use Rattle.rules.specs.V0.{order}
-use Rattle.rules.specs.Phases.{store-samples}
-use Rattle.v0_windows.proofs.GroupLaws.{short-plan, first-in, second-in, third-in, fourth-in, ByPosition, groups-are, groups-end}
-use Rattle.v0_residuals.proofs.ResidualLaws.{fours-stored}
+use Rattle.v0_windows.proofs.GroupLaws.{short-plan, first-in, second-in, third-in, fourth-in, ByPosition, groups-end}
+use Rattle.v0_residuals.proofs.ResidualLaws.{groups-stored}
 use Rattle.v0_residuals.proofs.run.store_short.Statement.{statement}
 use Rattle.v0_residuals.proofs.run.store_short.Tie as tie
 
@@ -102,9 +99,8 @@ returns c =
       fourth = s₃ .four-at4 .ensures;
     } in (
       groups-end x,
-      fours-stored (a .width) (a .col) (s₀ .four-at .result) (s₁ .four-at2 .result) (s₂ .four-at3 .result) (s₃ .four-at4 .result) _ _ _ _ _ (entry (all-stored c) .pre .1 .1 .1 .0)
-          (s₁ .before .before .before .store-four .ensures) (s₂ .before .before .before .store-four2 .ensures) (s₃ .before .before .before .store-four3 .ensures) (c .before .before .store-four4 .ensures)
-          ∙ ap (λ r. store-samples 0 (a .width) (a .col) order r (now (a .out))) (groups-are x),
+      groups-stored _ _ x _ _ _ _ _ (entry (all-stored c) .pre .1 .1 .1 .0)
+          (s₁ .before .before .before .store-four .ensures) (s₂ .before .before .before .store-four2 .ensures) (s₃ .before .before .before .store-four3 .ensures) (c .before .before .store-four4 .ensures),
     )
 
 pub store-short-spec : {M : Type 1} → statement M
