@@ -9,18 +9,17 @@ use native.Mathlib.Omega.{arith}
 use native.Mathlib.Nat.{mul-assoc, mul-le-mul-right, suc-mul, zero-mul, le-div-iff-mul-le}
 use native.Mathlib.Decide.{ℕ-discrete, decLt}
 use lib.Dec.{eqb}
-use lib.ListN.{length, getD, set}
-use lib.Seq.{getD-set-same, getD-set-other}
+use lib.ListN.{length, getD}
 use borrow.Author.Tests.{lt-ltb, le-ltb, eq-eqb, ne-eqb}
 use Rattle.rules.specs.V0.{blocks-in, exchange, sample-kind}
 use Rattle.rules.specs.Phases.{sample-stage}
 use Rattle.rules.proofs.V0Cells.{exchange-length}
-use Rattle.bands.specs.Bands.{Cut, late-rows, fits, band-start, blocks-per-band, step-count, step-band, step-block, after, in-turn, none-done, good, predict-band, do-step, do-steps}
+use Rattle.bands.specs.Bands.{Cut, late-rows, fits, band-start, blocks-per-band, step-count, step-band, step-block, step-from, step-to, after, in-turn, none-done, good, do-step, do-steps}
 use Rattle.bands.proofs.Finished.{still}
-use Rattle.bands.proofs.Counters.{zeros, Stands, stands, done-after, Turns, end, next, turns, good-full}
-use Rattle.bands.proofs.AnySequence.{same-cells, Band-ready, Band-left, band-left, Fitting, fitting, start-zero, start-last, start-up, band-end, Bands-done, step-ready, step-done, none-done-yet, reach, good-done}
-use Rattle.v0_bands.specs.Freed.{exchange-part, freed-rows, freed-columns, exchange-freed, steps-freed}
-use Rattle.v0_bands.proofs.PartLaws.{Partner, near, at, one-row, one-column, Exchanged, part-exchanged, whole-exchanged}
+use Rattle.bands.proofs.Counters.{zeros, Stands, stands, Counts, after-own, after-other, done-after, Turns, end, next, turns, good-full}
+use Rattle.bands.proofs.AnySequence.{same-cells, Fitting, fitting, start-zero, start-last, start-up, Of-step, Bands-done, Step-ready, Step-left, step-left, elsewhere, step-ready, step-done, none-done-yet, reach, good-done}
+use Rattle.v0_bands.specs.Freed.{freed-rows, freed-columns, exchange-freed, steps-freed}
+use Rattle.v0_bands.proofs.PartLaws.{Partner, near, at, Exchanged, part-exchanged, whole-exchanged}
 use Rattle.v0_bands.proofs.PartLaws as Part
 use Rattle.rules.proofs.Tests.{by-test, both}
 
@@ -174,16 +173,10 @@ module _ (c : Cut) (fit : Fitting c) where
       abbrev j : ℕ
       j = step-block c n
 
-      abbrev from : ℕ
-      from = band-start c k
-
-      abbrev to : ℕ
-      to = band-start c (suc k)
-
       -- ── A step ──
 
       -- What it reads or changes is not freed.
-      not-freed : {v f : List ℕ} → Mirrors done v f → (r d k′ : ℕ) → Frees k′ r → from ≤ r → j * b ≤ d + 2
+      not-freed : {v f : List ℕ} → Mirrors done v f → (r d k′ : ℕ) → Frees k′ r → step-from c n ≤ r → j * b ≤ d + 2
           → freed-columns c (getD done k′ 0) ≤ d
       not-freed m r d k′ p lr ld =
           let lb = s .band in
@@ -193,79 +186,71 @@ module _ (c : Cut) (fit : Fitting c) where
           let col = columns-up (getD done k′ 0) j (omega (arith, s .next)) in
           omega (arith, columns-is j (begins j (s .block)))
 
-      -- Whether a cell is of its block.
-      decide : {X : Type 0} (r d : ℕ) → (2 + from ≤ r → r < 2 + from + (to - from) → j * b ≤ d → d < suc j * b → X)
-          → ((2 + from ≤ r → r < 2 + from + (to - from) → j * b ≤ d → d < suc j * b → ⊥) → X) → X
-      decide {X} r d in-it out-of-it = go (decLt r (2 + from)) (decLt r (2 + from + (to - from))) (decLt d (j * b)) (decLt d (suc j * b))
+      of-step : (r d : ℕ) → Dec (Of-step c n r d)
+      of-step r d = go (decLt r (2 + step-from c n)) (decLt r (2 + step-to c n)) (decLt d (j * b)) (decLt d (suc j * b))
         where
-          go : Dec (r < 2 + from) → Dec (r < 2 + from + (to - from)) → Dec (d < j * b) → Dec (d < suc j * b) → X
-          go (yes a) q x y = out-of-it (λ a′ _ _ _. omega arith)
-          go (no a) (no q) x y = out-of-it (λ _ q′ _ _. omega arith)
-          go (no a) (yes q) (yes x) y = out-of-it (λ _ _ x′ _. omega arith)
-          go (no a) (yes q) (no x) (no y) = out-of-it (λ _ _ _ y′. omega arith)
-          go (no a) (yes q) (no x) (yes y) = in-it (omega arith) q (omega arith) y
+          go : Dec (r < 2 + step-from c n) → Dec (r < 2 + step-to c n) → Dec (d < j * b) → Dec (d < suc j * b) → Dec (Of-step c n r d)
+          go (yes a) t x y = no (λ o. omega arith)
+          go (no a) (no t) x y = no (λ o. omega arith)
+          go (no a) (yes t) (yes x) y = no (λ o. omega arith)
+          go (no a) (yes t) (no x) (no y) = no (λ o. omega arith)
+          go (no a) (yes t) (no x) (yes y) = yes (record { from = omega arith; to = t; left = omega arith; right = y })
 
       abbrev Left-by : List ℕ → List ℕ → Type 0
-      Left-by x y = Band-left sample-stage w h ds start bytes b (fit .blocks-16) j x y (2 + from) (to - from)
+      Left-by = Step-left sample-stage c fit ds start bytes n
 
-      -- Elsewhere it changes nothing.
-      elsewhere : {x y : List ℕ} → Left-by x y → (r d : ℕ) → d < w
-          → (2 + from ≤ r → r < 2 + from + (to - from) → j * b ≤ d → d < suc j * b → ⊥) → at w y r d ≡ at w x r d
-      elsewhere p r d lw out = p .same (r * w + d) (λ r′ d′ a q x y lw′ e.
-          let er = one-row w r r′ d d′ lw lw′ e in
-          let ed = one-column w r r′ d d′ lw lw′ e in
-          out (omega arith) (omega arith) (omega arith) (omega arith))
+      same-cell : {x y : List ℕ} → Left-by x y → (r d : ℕ) → d < w → (Of-step c n r d → ⊥) → at w y r d ≡ at w x r d
+      same-cell = elsewhere sample-stage c fit ds start bytes n
 
       step-mirrors : (v f : List ℕ) → Bands-done sample-stage c fit ds start bytes done v → Mirrors done v f
           → Mirrors done (do-step sample-stage c ds n v) (do-step sample-stage c ds n f)
-      unfolding do-step
       step-mirrors v f q m = record {
         room = pf .room ∙ m .room;
         falls = m .falls;
-        stays = λ r d lw out. decide r d
-            (λ a t x y. sym (pf .new r d a t x y lw (suc (r * w + d)) (omega arith)) ∙ pv .new r d a t x y lw (suc (r * w + d)) (omega arith))
-            (λ o. elsewhere pf r d lw o ∙ m .stays r d lw out ∙ sym (elsewhere pv r d lw o));
+        stays = λ r d lw out. by-cases (of-step r d)
+            (λ o. sym (pf .new r d (o .from) (omega arith) (o .left) (o .right) lw (suc (r * w + d)) (omega arith)) ∙ pv .new r d (o .from) (omega arith) (o .left) (o .right) lw (suc (r * w + d)) (omega arith))
+            (λ o. same-cell pf r d lw o ∙ m .stays r d lw out ∙ sym (same-cell pv r d lw o));
         moved = moved;
       }
         where
-          agrees : (r d : ℕ) → from ≤ r → j * b ≤ d + 2 → d < w → at w f r d ≡ at w v r d
+          agrees : (r d : ℕ) → step-from c n ≤ r → j * b ≤ d + 2 → d < w → at w f r d ≡ at w v r d
           agrees r d lr ld lw = m .stays r d lw (λ k′ p. not-freed m r d k′ p lr ld)
 
-          ready-v : Band-ready sample-stage w h ds start bytes b (fit .blocks-16) j v (2 + from) (to - from)
+          ready-v : Step-ready sample-stage c fit ds start bytes n v
           ready-v = step-ready sample-stage c fit ds start bytes done n s v q
 
-          ready-f : Band-ready sample-stage w h ds start bytes b (fit .blocks-16) j f (2 + from) (to - from)
+          ready-f : Step-ready sample-stage c fit ds start bytes n f
           ready-f = record {
             room = m .room;
-            above = λ u d one l2 la lb lw. still sample-stage w ds start v f (2 + from - u) d (ready-v .above u d one l2 la lb lw)
-                (agrees (2 + from - u) d (omega arith) (omega arith) lw);
+            above = λ u d one l2 la lb lw. still sample-stage w ds start v f (2 + step-from c n - u) d (ready-v .above u d one l2 la lb lw)
+                (agrees (2 + step-from c n - u) d (omega arith) (omega arith) lw);
             left = λ r d lr lt la lb lw. still sample-stage w ds start v f r d (ready-v .left r d lr lt la lb lw) (agrees r d (omega arith) la lw);
             kept = λ r d lr lt la lw. agrees r d (omega arith) (omega arith) lw ∙ ready-v .kept r d lr lt la lw;
           }
 
-          pv : Left-by v (predict-band sample-stage w b j (to - from) (2 + from) ds v)
-          pv = band-left sample-stage w h ds start bytes b (fit .blocks-16) j (to - from) (2 + from) (omega arith) (omega (arith, band-end c fit k (s .band))) v ready-v
+          pv : Left-by v (do-step sample-stage c ds n v)
+          pv = step-left sample-stage c fit ds start bytes n (s .band) v ready-v
 
-          pf : Left-by f (predict-band sample-stage w b j (to - from) (2 + from) ds f)
-          pf = band-left sample-stage w h ds start bytes b (fit .blocks-16) j (to - from) (2 + from) (omega arith) (omega (arith, band-end c fit k (s .band))) f ready-f
+          pf : Left-by f (do-step sample-stage c ds n f)
+          pf = step-left sample-stage c fit ds start bytes n (s .band) f ready-f
 
           moved : (k′ r d r′ d′ : ℕ) → Frees k′ r → d < freed-columns c (getD done k′ 0) → Partner r d r′ d′
-              → at w (predict-band sample-stage w b j (to - from) (2 + from) ds f) r d ≡ at w (predict-band sample-stage w b j (to - from) (2 + from) ds v) r′ d′
+              → at w (do-step sample-stage c ds n f) r d ≡ at w (do-step sample-stage c ds n v) r′ d′
           moved k′ r d r′ d′ p l t =
               let most = columns-most (getD done k′ 0) in
               let even = columns-even (getD done k′ 0) in
               let nr = near t .0 in
               let nd = near t .1 in
               let p′ = frees-pair k′ r r′ nr p in
-              elsewhere pf r d (omega arith) (λ a _ x _. let z = not-freed m r d k′ p (omega arith) (omega arith) in omega arith)
+              same-cell pf r d (omega arith) (λ o. let z = not-freed m r d k′ p (omega arith) (omega arith) in omega arith)
               ∙ m .moved k′ r d r′ d′ p l t
-              ∙ sym (elsewhere pv r′ d′ (omega arith) (λ a _ x _. let z = not-freed m r′ d′ k′ p′ (omega arith) (omega arith) in omega arith))
+              ∙ sym (same-cell pv r′ d′ (omega arith) (λ o. let z = not-freed m r′ d′ k′ p′ (omega arith) (omega arith) in omega arith))
 
       -- ── What it frees ──
 
-      freed-mirrors : (v f : List ℕ) → length done ≡ c .bands → Mirrors done v f → Mirrors (after c done n) v (exchange-freed c n f)
-      unfolding after exchange-freed
-      freed-mirrors v f len m = record {
+      freed-mirrors : (v f : List ℕ) → Counts c done → Mirrors done v f → Mirrors (after c done n) v (exchange-freed c n f)
+      unfolding exchange-freed
+      freed-mirrors v f counts m = record {
         room = e .room ∙ m .room;
         falls = λ i l. falls i l (ℕ-discrete i k) (ℕ-discrete (suc i) k);
         stays = λ r d lw out. e .same r d lw
@@ -275,13 +260,13 @@ module _ (c : Cut) (fit : Fitting c) where
       }
         where
           done′ : List ℕ
-          done′ = set done k (suc j)
+          done′ = after c done n
 
           own : getD done′ k 0 ≡ suc j
-          own = getD-set-same done k (suc j) 0 (let z = s .band in rw len z)
+          own = after-own c done n counts s
 
           other : (i : ℕ) → i ≢ k → getD done′ i 0 ≡ getD done i 0
-          other i ne = getD-set-other done k i (suc j) 0 ne
+          other = after-other c done n
 
           lb : k < c .bands
           lb = s .band
@@ -293,7 +278,7 @@ module _ (c : Cut) (fit : Fitting c) where
           evens = (rows-even k (omega (arith, lb)), rows-even (suc k) lb)
 
           e : Exchanged w (freed-rows c k) ((freed-rows c (suc k) - freed-rows c k) / 2) (freed-columns c j) ((freed-columns c (suc j) - freed-columns c j) / 2) f
-              (exchange-part w ((freed-columns c (suc j) - freed-columns c j) / 2) (freed-columns c j) ((freed-rows c (suc k) - freed-rows c k) / 2) (freed-rows c k) f)
+              (exchange-freed c n f)
           e =
               let z : (freed-rows c k + 2 * ((freed-rows c (suc k) - freed-rows c k) / 2)) * w ≤ h * w =
               mul-le-mul-right w (omega (arith, up, rows-most (suc k) lb)) in
@@ -320,16 +305,14 @@ module _ (c : Cut) (fit : Fitting c) where
           falls i l (no q) (no q′) = rw (other i q, other (suc i) q′) (m .falls i l)
 
           moved : (i r d r′ d′ : ℕ) → Frees i r → d < freed-columns c (getD done′ i 0) → Partner r d r′ d′ → Dec (i ≡ k)
-              → at w (exchange-part w ((freed-columns c (suc j) - freed-columns c j) / 2) (freed-columns c j) ((freed-rows c (suc k) - freed-rows c k) / 2) (freed-rows c k) f) r d
-              ≡ at w v r′ d′
+              → at w (exchange-freed c n f) r d ≡ at w v r′ d′
           moved i r d r′ d′ p l t (no ne) =
               e .same r d (omega (arith, columns-most (getD done′ i 0))) (λ a u _ _. ne (frees-one k i r (freed-by r a u) p))
               ∙ m .moved i r d r′ d′ p (rw (other i ne) at l) t
           moved i r d r′ d′ p l t (yes q) = go (rw q at p) (rw own at (rw q at l)) (decLt d (freed-columns c j))
             where
               go : Frees k r → d < freed-columns c (suc j) → Dec (d < freed-columns c j)
-                  → at w (exchange-part w ((freed-columns c (suc j) - freed-columns c j) / 2) (freed-columns c j) ((freed-rows c (suc k) - freed-rows c k) / 2) (freed-rows c k) f) r d
-                  ≡ at w v r′ d′
+                  → at w (exchange-freed c n f) r d ≡ at w v r′ d′
               go p l (yes x) =
                   e .same r d (omega (arith, columns-most j)) (λ _ _ x′ _. omega arith)
                   ∙ m .moved k r d r′ d′ p (rw (s .next) x) t
@@ -351,7 +334,7 @@ module _ (c : Cut) (fit : Fitting c) where
     steps-mirror (next {done = done} {n = n} e rest) v f q m =
         let s = stands c done n e in
         steps-mirror rest (do-step sample-stage c ds n v) (exchange-freed c n (do-step sample-stage c ds n f)) (step-done sample-stage c fit ds start bytes done n s v q)
-        (freed-mirrors done n s (do-step sample-stage c ds n v) (do-step sample-stage c ds n f) (q .counts .bands) (step-mirrors done n s v f q m))
+        (freed-mirrors done n s (do-step sample-stage c ds n v) (do-step sample-stage c ds n f) (q .counts) (step-mirrors done n s v f q m))
 
 -- A good list of steps that frees its blocks leaves what the whole exchange leaves after it.
 pub steps-exchanged : (c : Cut) → fits c ≡ true → late-rows (c .size) ≢ 0 → (ds : List ℕ) → blocks-in (c .size .width) * (c .size .height - 2) ≤ length ds

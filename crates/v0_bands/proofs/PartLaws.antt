@@ -1,18 +1,18 @@
 -- The exchange of a part of a frame, cell by cell: inside it each cell comes from its partner's place, and all else stays.
 use Prim.Native.Nat.{ℕ, zero, suc, _+_, _*_, _/_, _%_, _≤_, _<_}
 use mathlib.Core.Path.{_≡_, refl, ap, _∙_}
-use mathlib.Core.Logic.{_≢_, by-cases}
+use mathlib.Core.Logic.{_≢_}
 use mathlib.Core.List.{List}
 use native.Mathlib.Omega.{arith}
 use native.Mathlib.Nat.{mul-le-mul-right, suc-mul}
 use native.Mathlib.Numerals.{add-one}
-use native.Mathlib.Decide.{ℕ-discrete, decLt}
+use native.Mathlib.Decide.{decLt}
 use lib.ListN.{length, set, length-set}
 use lib.Seq.{getD-set-same, getD-set-other}
 use Rattle.rules.specs.declared.answer.Size.{Size}
 use Rattle.rules.specs.V0.{swap, exchange-columns, exchange-rows, exchange, sample-kind}
 use Rattle.rules.proofs.Spill.{cell}
-use Rattle.bands.proofs.AnySequence.{apart}
+use Rattle.bands.proofs.AnySequence.{one-row, one-column}
 use Rattle.v0_bands.specs.Freed.{exchange-part}
 
 -- The place whose cell comes to a place: of an even row and odd column the one below and before it, of an odd row and even
@@ -37,13 +37,6 @@ columns-length w row (suc m) col f = columns-length w row m (col + 2) _ ∙ simp
 module _ (w : ℕ) where
   abbrev pub at : List ℕ → ℕ → ℕ → ℕ
   at f r d = cell sample-kind f (r * w + d)
-
-  -- A place has one row and one column.
-  pub one-row : (r s d e : ℕ) → d < w → e < w → r * w + d ≡ s * w + e → r ≡ s
-  one-row r s d e ld le q = by-cases (ℕ-discrete r s) (λ z. z) (λ z. absurd (apart w r s d e z ld le q))
-
-  pub one-column : (r s d e : ℕ) → d < w → e < w → r * w + d ≡ s * w + e → d ≡ e
-  one-column r s d e ld le q = let z : r * w ≡ s * w = ap (λ x. x * w) (one-row r s d e ld le q) in omega arith
 
   -- What the exchange leaves of n pairs of rows from a row on, and m pairs of columns from a column on.
   pub record Exchanged (row n col m : ℕ) (f f′ : List ℕ) : Type 0 where
@@ -91,14 +84,14 @@ module _ (w : ℕ) where
         first : r * w + d ≡ row * w + col + 1 → ⊥
         first q =
             let q′ : r * w + d ≡ row * w + (col + 1) = omega arith in
-            let a = one-row r row d (col + 1) (omega arith) (omega arith) q′ in
-            let b = one-column r row d (col + 1) (omega arith) (omega arith) q′ in
+            let a = one-row w r row d (col + 1) (omega arith) (omega arith) q′ in
+            let b = one-column w r row d (col + 1) (omega arith) (omega arith) q′ in
             omega arith
 
         second : r * w + d ≡ (row + 1) * w + col → ⊥
         second q =
-            let a = one-row r (row + 1) d col (omega arith) (omega arith) q in
-            let b = one-column r (row + 1) d col (omega arith) (omega arith) q in
+            let a = one-row w r (row + 1) d col (omega arith) (omega arith) q in
+            let b = one-column w r (row + 1) d col (omega arith) (omega arith) q in
             omega arith
     pair-moved r d r′ d′ lr lr′ ld ld′ (below e e′ er ed) =
         let a : r ≡ row = omega arith in
@@ -123,11 +116,11 @@ module _ (w : ℕ) where
       moved = pair-moved;
       same = λ r d lw out. at-other (r * w + d)
           (λ q. let q′ : r * w + d ≡ row * w + (col + 1) = omega arith in
-          let a = one-row r row d (col + 1) lw (omega arith) q′ in
-          let b = one-column r row d (col + 1) lw (omega arith) q′ in
+          let a = one-row w r row d (col + 1) lw (omega arith) q′ in
+          let b = one-column w r row d (col + 1) lw (omega arith) q′ in
           out (omega arith) (omega arith) (omega arith) (omega arith))
-          (λ q. let a = one-row r (row + 1) d col lw (omega arith) q in
-          let b = one-column r (row + 1) d col lw (omega arith) q in
+          (λ q. let a = one-row w r (row + 1) d col lw (omega arith) q in
+          let b = one-column w r (row + 1) d col lw (omega arith) q in
           out (omega arith) (omega arith) (omega arith) (omega arith));
     }
 
