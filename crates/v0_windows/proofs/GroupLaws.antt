@@ -1,50 +1,30 @@
--- Residuals by position are those that the record reads: first the sign, then four of one length out of windows, then the block.
+-- Residuals by position are those that the record reads: first four of one length out of windows, then the block.
 use mathlib.Core.Logic.{_⊎_, ⊎-elim}
 use mathlib.Core.Path.{_≡_, refl, sym, ap, subst, _∙_}
 use mathlib.Core.Bool.{Bool, true, false}
 use mathlib.Core.List.{List, [], _∷_}
 use Prim.Native.Nat.{ℕ, _+_, _*_, _-_, _/_, _%_, _^_, _≤_, _<_}
-use native.Mathlib.Nat.{mod-lt}
 use native.Mathlib.Omega.{arith}
 use lib.Dec.{leb}
 use lib.IntN.{ℤ, pos, negsuc}
 use lib.ListN.{length, getD, set, replicate}
 use lib.Signed.{mag, leZ}
-use lib.Pow.{pow-pos, pow-mono}
 use mir.Syntax.{w32}
 use mir.Val.{toZ, ofZ}
 use mir.ValLaws.{toZ-ofZ}
 use borrow.Author.Tests.{leb-true, leb-false}
-use Rattle.rules.specs.Reader.{word-at, four, modulo}
+use Rattle.rules.specs.Reader.{word-at, four}
 use Rattle.rules.specs.V0.{length-bits, head}
 use Rattle.rules.specs.declared.reader.Bits.{Bits}
 use Rattle.rules.specs.declared.v0.V0Row.{V0Row}
 use Rattle.rules.proofs.ReaderLaws.{four-fields}
 use Rattle.window.specs.Window.{bits-from, state-at, values-at, span, none, also, Window, Standing}
 use Rattle.window.proofs.WindowLaws.{fields-at, window-words, pair-top}
-use Rattle.window.proofs.SignLaws.{low-signed, modulo-minus}
 use Rattle.v0_stream.specs.Block.{with-residuals, whole-block}
 use Rattle.v0_windows.specs.ByWindow.{residual, Room, HeadAt, head-of, Ahead, Plans, Short, Group, joined, residuals-of, Ends}
 use Rattle.v0_windows.specs.declared.WindowHead.{WindowHead}
 use Rattle.v0_windows.specs.declared.Plan.{Plan}
 use Rattle.v0_stream.proofs.BlockLaws.{bits-few-enough, Reading, reading-begun, reading-four, read-all}
-
--- ── The sign ──
-
--- What `low` makes of p = 2^n and the sum w: it stays within 64 bits, and is the residual.
-pub record Low (x n p w : ℕ) : Type 0 where
-  pub some : 0 < p
-  pub fits : w % p + 4_294_967_296 < 2 ^ 64
-  pub enough : p / 2 ≤ w % p + 4_294_967_296
-  pub is : (w % p + 4_294_967_296 - p / 2) % 65_536 ≡ residual n (x % 2 ^ n)
-
-pub low-made : (x n p w : ℕ) → n ≤ 32 → p ≡ 2 ^ n → w ≡ (x + p / 2) % 2 ^ 64 → Low x n p w
-low-made x n p w few ep ew =
-    let some : 0 < 2 ^ n = pow-pos n in
-    let most : 2 ^ n ≤ 4_294_967_296 = pow-mono few in
-    let below : (x + 2 ^ n / 2) % 2 ^ 64 % 2 ^ n < 2 ^ n = mod-lt ((x + 2 ^ n / 2) % 2 ^ 64) some in
-    let is = sym (modulo-minus ((x + 2 ^ n / 2) % 2 ^ 64 % 2 ^ n) (2 ^ n / 2) (omega arith)) ∙ ap modulo (low-signed x n few) in
-    rw (ew, ep) (record { some = some; fits = omega arith; enough = omega arith; is = is })
 
 -- ── Four of one length ──
 

@@ -1,24 +1,20 @@
--- Differences by position are those that the reader's state reads: first the sign, then the sixteen of a block out of four windows.
+-- Differences by position are those that the reader's state reads: the sixteen of a block out of four windows.
 use mathlib.Core.Path.{_≡_, refl, sym, _∙_}
 use mathlib.Core.Bool.{Bool, true, false, cond, _&&_}
 use mathlib.Core.List.{List}
 use Prim.Native.Nat.{ℕ, zero, suc, _+_, _*_, _-_, _/_, _%_, _^_, _≤_, _<_, min}
-use native.Mathlib.Nat.{mod-lt}
 use native.Mathlib.Omega.{arith}
 use lib.Dec.{leb, eqb}
-use lib.IntN.{ℤ, pos, _-ℤ_}
+use lib.IntN.{ℤ, pos}
 use lib.ListN.{length, getD, set}
-use lib.Pow.{pow-pos, pow-mono}
-use lib.Signed.{mag}
 use borrow.Author.Tests.{leb-true, le-leb}
 use Rattle.rules.specs.Reader.{word-at, signed, read-signed}
 use Rattle.rules.specs.V2.{position, differences-from}
 use Rattle.rules.specs.declared.reader.Bits.{Bits}
-use Rattle.rules.proofs.ReaderLaws.{signed-mag, read-signed-is}
+use Rattle.rules.proofs.ReaderLaws.{read-signed-is}
 use Rattle.rules.proofs.Tests.{both, by-test}
 use Rattle.window.specs.Window.{bits-from, state-at, FourAt, Standing}
 use Rattle.window.proofs.WindowLaws.{read-at}
-use Rattle.window.proofs.SignLaws.{low-signed}
 use Rattle.v2_differences.specs.Four.{Short, short}
 use Rattle.v2_differences.proofs.DifferenceLaws.{difference-more, difference-end}
 
@@ -42,24 +38,6 @@ short-is ls e =
 pub short-last : (ls : List ℕ) → getD ls 0 0 ≤ 16 → getD ls 1 0 ≤ 16 → getD ls 2 0 ≤ 16 → leb (getD ls 3 0) 16 ≡ short ls
 unfolding short
 short-last ls a b c = simp (le-leb _ _ a, le-leb _ _ b, le-leb _ _ c)
-
--- ── The sign ──
-
--- What `low` makes of p = 2^n and the sum w: it stays within 32 signed bits, and is the number.
-pub record Low (x n p w : ℕ) : Type 0 where
-  pub some : 0 < p
-  pub turn : w % p < 2 ^ 31
-  pub half : p / 2 < 2 ^ 31
-  pub is : pos (w % p) -ℤ pos (p / 2) ≡ signed n (x % 2 ^ n)
-  pub bound : mag (signed n (x % 2 ^ n)) < 2 ^ 31
-
-pub low-made : (x n p w : ℕ) → n ≤ 16 → p ≡ 2 ^ n → w ≡ (x + p / 2) % 2 ^ 64 → Low x n p w
-low-made x n p w few ep ew =
-    let some : 0 < 2 ^ n = pow-pos n in
-    let most : 2 ^ n ≤ 65_536 = pow-mono few in
-    let turn : (x + 2 ^ n / 2) % 2 ^ 64 % 2 ^ n < 2 ^ n = mod-lt ((x + 2 ^ n / 2) % 2 ^ 64) some in
-    let bound : mag (signed n (x % 2 ^ n)) < 2 ^ 31 = signed-mag 31 n (x % 2 ^ n) (omega arith) (mod-lt x some) in
-    rw (ew, ep) (record { some = some; turn = omega arith; half = omega arith; is = low-signed x n (omega arith); bound = bound })
 
 -- ── As the state reads them ──
 

@@ -10,7 +10,7 @@ use native.Mathlib.Decide.{decLt}
 use native.Mathlib.Numerals.{add-one}
 use lib.Dec.{ltb}
 use lib.IntN.{pos, _-ℤ_, +ℤ-negℤ-cancel}
-use lib.Pow.{pow-pos, pow-add, mod-mod-pow}
+use lib.Pow.{pow-pos, pow-mono, pow-add, mod-mod-pow}
 use borrow.Author.Tests.{ltb-true, ltb-false}
 use Rattle.rules.specs.Reader.{signed, modulo}
 use Rattle.rules.proofs.ReaderLaws.{signed-low, signed-high, minus-more}
@@ -46,13 +46,21 @@ turned (suc m) v h eh l = by-test (ltb (v * 2) (2 ^ suc m)) below above
         let t : h - suc (v - h) ≡ 2 ^ suc m - suc v = omega (arith, half) in
         rw (w, signed-high (suc m) v q l, minus-more (v - h) h (omega (arith, half)), t)
 
--- The sum may have lost what 64 bits don't hold.
-pub low-signed : (x n : ℕ) → n ≤ 32 → pos ((x + 2 ^ n / 2) % 2 ^ 64 % 2 ^ n) -ℤ pos (2 ^ n / 2) ≡ signed n (x % 2 ^ n)
-low-signed x n few =
-    let h = 2 ^ n / 2 in
-    let m : 64 ≡ 64 - n + n = omega arith in
-    let a : (x + h) % 2 ^ 64 % 2 ^ n ≡ (x + h) % 2 ^ n = ap (λ (y : ℕ). (x + h) % 2 ^ y % 2 ^ n) m ∙ mod-mod-pow (x + h) (64 - n) n in
-    rw (a, ← mod-add-mod x (2 ^ n) h) (turned n (x % 2 ^ n) h refl (mod-lt x (pow-pos n)))
+-- What is made of the low n bits of x, m at most, with p = 2^n and the sum w, which may have lost what 64 bits don't hold.
+pub record Low (m x n p w : ℕ) : Type 0 where
+  pub some : 0 < p
+  pub most : p ≤ 2 ^ m
+  pub below : w % p < p
+  pub is : pos (w % p) -ℤ pos (p / 2) ≡ signed n (x % 2 ^ n)
+
+pub low-made : (m x n p w : ℕ) → m ≤ 32 → n ≤ m → p ≡ 2 ^ n → w ≡ (x + p / 2) % 2 ^ 64 → Low m x n p w
+low-made m x n p w few l ep ew =
+    let h : ℕ = 2 ^ n / 2 in
+    let e : 64 ≡ 64 - n + n = omega arith in
+    let a : (x + h) % 2 ^ 64 % 2 ^ n ≡ (x + h) % 2 ^ n = ap (λ (y : ℕ). (x + h) % 2 ^ y % 2 ^ n) e ∙ mod-mod-pow (x + h) (64 - n) n in
+    let is : pos ((x + h) % 2 ^ 64 % 2 ^ n) -ℤ pos h ≡ signed n (x % 2 ^ n)
+    = rw (a, ← mod-add-mod x (2 ^ n) h) (turned n (x % 2 ^ n) h refl (mod-lt x (pow-pos n))) in
+    rw (ew, ep) (record { some = pow-pos n; most = pow-mono l; below = mod-lt _ (pow-pos n); is = is })
 
 -- A difference modulo 65,536.
 pub modulo-minus : (a h : ℕ) → h ≤ 4_294_967_296 → modulo (pos a -ℤ pos h) ≡ (a + 4_294_967_296 - h) % 65_536
