@@ -37,22 +37,13 @@ ones-split a b =
     pow-grows a b = let l : b ≤ a + b = omega arith in pow-mono l
 
 -- Some of them are ones.
-cut-ones : (a n c : ℕ) → (2 ^ (a + (n + c)) - 1) / 2 ^ c % 2 ^ n ≡ 2 ^ n - 1
-cut-ones a n c =
-    let e : a + (n + c) ≡ a + n + c = omega arith in
+cut-ones : (m n c : ℕ) → n + c ≤ m → (2 ^ m - 1) / 2 ^ c % 2 ^ n ≡ 2 ^ n - 1
+cut-ones m n c h =
+    let a : ℕ = m - (n + c) in
+    let e : m ≡ a + n + c = omega arith in
     let lc : 2 ^ c - 1 < 2 ^ c = omega (arith, pow-pos c) in
     let ln : 2 ^ n - 1 < 2 ^ n = omega (arith, pow-pos n) in
     rw (e, ones-split (a + n) c, high (2 ^ (a + n) - 1) c lc, ones-split a n, low (2 ^ a - 1) n ln)
-
-cut-32 : (n c : ℕ) → n + c ≤ 32 → 0xffff_ffff / 2 ^ c % 2 ^ n ≡ 2 ^ n - 1
-cut-32 n c h =
-    let e : 32 - (n + c) + (n + c) ≡ 32 = omega arith in
-    ap (λ (x : ℕ). (2 ^ x - 1) / 2 ^ c % 2 ^ n) (sym e) ∙ cut-ones (32 - (n + c)) n c
-
-cut-64 : (n c : ℕ) → n + c ≤ 64 → 0xffff_ffff_ffff_ffff / 2 ^ c % 2 ^ n ≡ 2 ^ n - 1
-cut-64 n c h =
-    let e : 64 - (n + c) + (n + c) ≡ 64 = omega arith in
-    ap (λ (x : ℕ). (2 ^ x - 1) / 2 ^ c % 2 ^ n) (sym e) ∙ cut-ones (64 - (n + c)) n c
 
 -- How many words k bits take, c being held, and how many with n bits more.
 abbrev words-of : ℕ → ℕ → ℕ
@@ -128,7 +119,7 @@ module _ (s : List ℕ) (b : Bits) (x : PastEnd s b) where
           let e = words-enough (b .count) k in
           let w : (k + n - b .count + 31) / 32 ≡ words = same-words (b .count) k n (x .few) (omega arith) in
           let c : count - n ≡ b .count + 32 * words - (k + n) = omega arith in
-          rw (read-held s state n (omega (arith, holds)), cap, holds, cut-32 n (count - n) (omega (arith, less)), w, c)
+          rw (read-held s state n (omega (arith, holds)), cap, holds, cut-ones 32 n (count - n) (omega (arith, less)), w, c)
 
       by-next : count < n → read s state n ≡ record { value = 2 ^ n - 1; bits = ones-after b (k + n) }
       by-next h =
@@ -137,7 +128,7 @@ module _ (s : List ℕ) (b : Bits) (x : PastEnd s b) where
           let c : count + 32 - n ≡ b .count + 32 * (words + 1) - (k + n) = count-next (b .count) k n words (words-enough (b .count) k) in
           let p : (b .pos + 4 * words + 4) % 2 ^ 64 ≡ b .pos + 4 * (words + 1) = place-next (b .pos) words (x .far) (rw w at (nine-words (b .count) (k + n) near)) in
           let m : min (min (b .filler + words) most-filler + 1) most-filler ≡ min (b .filler + (words + 1)) most-filler = one-more (b .filler) words most-filler in
-          rw (read-next s state n fetches, cap, holds, missing, counted-more (min (b .filler + words) most-filler), cut-64 n (count + 32 - n) (cut-fits n count few less), w, c, p, m)
+          rw (read-next s state n fetches, cap, holds, missing, counted-more (min (b .filler + words) most-filler), cut-ones 64 n (count + 32 - n) (cut-fits n count few less), w, c, p, m)
 
   -- ── A block ──
 
