@@ -70,9 +70,6 @@ module _ (s : List ℕ) (base q v : ℕ) (room : Room s base q) (w : Window s ba
   -- n of the first bits of the window, by the record.
   reads : (f a n : ℕ) → n ≤ 4 → a + n ≤ 25 → Reads s base f (q + a) n
   reads f a n few near =
-      let some : 0 < q = room .some in
-      let there : base + q / 32 * 4 + 12 ≤ length s = room .there in
-      let far : base + q / 32 * 4 + 12 < 2 ^ 64 = room .far in
       read-at s base (q + a) n f (omega arith) (omega arith) (omega arith) (omega arith)
       (λ h. window-words s base q v w 64 (omega arith) ((q + a + 31) / 32) (omega arith) (omega arith))
 
@@ -105,9 +102,6 @@ module _ (s : List ℕ) (base q v : ℕ) (room : Room s base q) (w : Window s ba
   operations : (f : ℕ) → four s 2 (state-at s base (q + 1) f)
       ≡ record { values = v / 2 ^ 61 % 4 ∷ v / 2 ^ 59 % 4 ∷ v / 2 ^ 57 % 4 ∷ v / 2 ^ 55 % 4 ∷ []; bits = state-at s base (q + 9) f }
   operations f =
-      let some : 0 < q = room .some in
-      let there : base + q / 32 * 4 + 12 ≤ length s = room .there in
-      let far : base + q / 32 * 4 + 12 < 2 ^ 64 = room .far in
       let e : q + 1 + 4 * 2 ≡ q + 9 = omega arith in
       let e₁ : q + 1 + 2 ≡ q + 3 = omega arith in
       let e₂ : q + 1 + 2 * 2 ≡ q + 5 = omega arith in
