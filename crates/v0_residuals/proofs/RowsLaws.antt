@@ -109,7 +109,7 @@ module _ (s offsets : List ℕ) (w h : ℕ) where
     pub dirs-are : take (r * n) ds ++ directions s offsets w (h - 2 - r) (r + 2) ≡ directions s offsets w (h - 2) 2
     pub rest-is : drop (n * (h - 2)) ds ≡ drop (n * (h - 2)) ds₀
 
-  pub filled-begun : (ds : List ℕ) → Filled ds ds 0
+  filled-begun : (ds : List ℕ) → Filled ds ds 0
   filled-begun ds =
       let z : h - 2 - 0 ≡ h - 2 = omega arith in
       let first : 0 + 2 ≡ 2 = omega arith in
@@ -144,7 +144,7 @@ module _ (s offsets : List ℕ) (w h : ℕ) where
         ∙ drop-drop (n * (h - 2) - (r * n + n)) (r * n + n) ds
         ∙ ap (λ k. drop k ds) e′
 
-    pub filled-on : (ds₀ ds′ : List ℕ) → length ds′ ≡ length ds → ds′ ≡ front ++ drop (r * n + n) ds → Filled ds₀ ds r → Filled ds₀ ds′ (r + 1)
+    filled-on : (ds₀ ds′ : List ℕ) → length ds′ ≡ length ds → ds′ ≡ front ++ drop (r * n + n) ds → Filled ds₀ ds r → Filled ds₀ ds′ (r + 1)
     filled-on ds₀ ds′ same q p =
         let start : (r + 1) * n ≡ r * n + n = omega arith in
         record {
@@ -157,7 +157,7 @@ module _ (s offsets : List ℕ) (w h : ℕ) where
           rest-is = ap (drop (n * (h - 2))) q ∙ rest-kept ∙ p .rest-is;
         }
 
-  pub filled-done : (ds₀ ds : List ℕ) (r : ℕ) → h ≤ r + 2 → Filled ds₀ ds r → ds ≡ directions s offsets w (h - 2) 2 ++ drop (n * (h - 2)) ds₀
+  filled-done : (ds₀ ds : List ℕ) (r : ℕ) → h ≤ r + 2 → Filled ds₀ ds r → ds ≡ directions s offsets w (h - 2) 2 ++ drop (n * (h - 2)) ds₀
   unfolding directions
   filled-done ds₀ ds r l p =
       let none : h - 2 - r ≡ 0 = omega arith in
@@ -168,50 +168,51 @@ module _ (s offsets : List ℕ) (w h : ℕ) where
 
   -- ── Rows ──
 
-  pub record Rows (f₀ f ds₀ ds : List ℕ) (r : ℕ) : Type 0 where
-    pub filled : Filled ds₀ ds r
-    pub same-samples : length f ≡ length f₀
-    pub cells-are : phase-one s offsets w (h - 2 - r) (r + 2) f ≡ phase-one s offsets w (h - 2) 2 f₀
+  -- What so many rows from a row on leave of the samples, phase one alone or both: what is left from here comes to all of them.
+  module _ (leave : ℕ → ℕ → List ℕ → List ℕ) where
+    pub record Rows (f₀ f ds₀ ds : List ℕ) (r : ℕ) : Type 0 where
+      pub filled : Filled ds₀ ds r
+      pub same-samples : length f ≡ length f₀
+      pub cells-are : leave (h - 2 - r) (r + 2) f ≡ leave (h - 2) 2 f₀
 
-  pub rows-begun : (f ds : List ℕ) → Rows f f ds ds 0
-  rows-begun f ds =
-      let z : h - 2 - 0 ≡ h - 2 = omega arith in
-      let first : 0 + 2 ≡ 2 = omega arith in
-      record { filled = filled-begun ds; same-samples = refl; cells-are = rw (z, first) }
+    pub rows-begun : (f ds : List ℕ) → Rows f f ds ds 0
+    rows-begun f ds =
+        let z : h - 2 - 0 ≡ h - 2 = omega arith in
+        let first : 0 + 2 ≡ 2 = omega arith in
+        record { filled = filled-begun ds; same-samples = refl; cells-are = rw (z, first) }
 
+    pub rows-on : (f₀ f f′ ds₀ ds ds′ : List ℕ) (r : ℕ) → r + 2 < h → n * (h - 2) ≤ length ds → length f′ ≡ length f → length ds′ ≡ length ds
+        → ((m : ℕ) → leave (suc m) (r + 2) f ≡ leave m (suc (r + 2)) f′)
+        → ds′ ≡ (take (r * n) ds ++ map direction (records r)) ++ drop (r * n + n) ds → Rows f₀ f ds₀ ds r → Rows f₀ f′ ds₀ ds′ (r + 1)
+    rows-on f₀ f f′ ds₀ ds ds′ r l enough sf sd ef ed p =
+        let more : h - 2 - r ≡ suc (h - 2 - (r + 1)) = omega arith in
+        let next-row : r + 1 + 2 ≡ suc (r + 2) = omega arith in
+        let left : leave (h - 2 - r) (r + 2) f ≡ leave (h - 2 - (r + 1)) (r + 1 + 2) f′ = rw (more, next-row) (ef (h - 2 - (r + 1))) in
+        record { filled = filled-on ds r l enough ds₀ ds′ sd ed (p .filled); same-samples = sf ∙ p .same-samples; cells-are = sym left ∙ p .cells-are }
+
+    pub rows-done : ((row : ℕ) (f : List ℕ) → leave 0 row f ≡ f) → (f₀ f ds₀ ds : List ℕ) (r : ℕ) → h ≤ r + 2 → Rows f₀ f ds₀ ds r
+        → (f ≡ leave (h - 2) 2 f₀) × (ds ≡ directions s offsets w (h - 2) 2 ++ drop (n * (h - 2)) ds₀)
+    rows-done none f₀ f ds₀ ds r l p =
+        let z : h - 2 - r ≡ 0 = omega arith in
+        (sym (none (r + 2) f) ∙ (rw z at (p .cells-are)), filled-done ds₀ ds r l (p .filled))
+
+  -- Phase one of a row that is lent as parts.
   module _ (f ds : List ℕ) (r : ℕ) (l : r + 2 < h) (enough : n * (h - 2) ≤ length ds) where
     abbrev first : ℕ
     first = (r + 2) * w
 
-    samples-left : (f′ : List ℕ) → f′ ≡ store-blocks first w 0 (records r) f
-        → phase-one s offsets w (h - 2 - r) (r + 2) f ≡ phase-one s offsets w (h - 2 - (r + 1)) (r + 1 + 2) f′
-    unfolding phase-one
-    samples-left f′ q =
-        let more : h - 2 - r ≡ suc (h - 2 - (r + 1)) = omega arith in
-        let next-row : r + 1 + 2 ≡ suc (r + 2) = omega arith in
-        rw (more, next-row, q)
-
-    pub rows-on : (f₀ ds₀ ys zs : List ℕ)
+    pub parts-on : (f₀ ds₀ ys zs : List ℕ)
         → length (putMid first (length f - first) f ys) ≡ length f
         → length (putMid (r * n) (length ds - r * n) ds zs) ≡ length ds
         → ys ≡ store-blocks 0 w 0 (row-records s w 2 (getD offsets (r + 2) 0)) (midOf first (length f - first) f)
         → zs ≡ map direction (row-records s w 2 (getD offsets (r + 2) 0)) ++ drop n (midOf (r * n) (length ds - r * n) ds)
-        → Rows f₀ f ds₀ ds r
-        → Rows f₀ (putMid first (length f - first) f ys) ds₀ (putMid (r * n) (length ds - r * n) ds zs) (r + 1)
-    rows-on f₀ ds₀ ys zs sf sd qy qz p =
+        → Rows (phase-one s offsets w) f₀ f ds₀ ds r
+        → Rows (phase-one s offsets w) f₀ (putMid first (length f - first) f ys) ds₀ (putMid (r * n) (length ds - r * n) ds zs) (r + 1)
+    unfolding phase-one
+    parts-on f₀ ds₀ ys zs sf sd qy qz p =
         let offset = getD offsets (r + 2) 0 in
-        record {
-          filled = filled-on ds r l enough ds₀ _ sd (row-directed s w r offset n ds zs qz) (p .filled);
-          same-samples = sf ∙ p .same-samples;
-          cells-are = sym (samples-left _ (row-stored s w r offset f ys qy)) ∙ p .cells-are;
-        }
-
-  pub rows-done : (f₀ f ds₀ ds : List ℕ) (r : ℕ) → h ≤ r + 2 → Rows f₀ f ds₀ ds r
-      → (f ≡ phase-one s offsets w (h - 2) 2 f₀) × (ds ≡ directions s offsets w (h - 2) 2 ++ drop (n * (h - 2)) ds₀)
-  unfolding phase-one
-  rows-done f₀ f ds₀ ds r l p =
-      let none : h - 2 - r ≡ 0 = omega arith in
-      (rw none at (p .cells-are), filled-done ds₀ ds r l (p .filled))
+        rows-on (phase-one s offsets w) f₀ f _ ds₀ ds _ r l enough sf sd
+        (λ m. ap (phase-one s offsets w m (suc (r + 2))) (sym (row-stored s w r offset f ys qy))) (row-directed s w r offset n ds zs qz) p
 
 -- The bytes that the directions take are as many as there are directions.
 pub directions-done : (s offsets : List ℕ) (z : Size) (ds₀ ds : List ℕ) → ds ≡ scratch s offsets z ++ drop (scratch-bytes z) ds₀

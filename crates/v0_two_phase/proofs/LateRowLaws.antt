@@ -1,21 +1,18 @@
--- Rows 2 on, one after another: a row that is lent as parts is finished where it lies, and what is left from here comes to the
--- whole from the start.
-use mathlib.Core.Path.{_≡_, refl, sym, ap, _∙_}
+-- A row from row 2 on that is lent as parts is finished where it lies, before the rows after it.
+use mathlib.Core.Path.{_≡_, sym, ap, _∙_}
 use mathlib.Core.List.{List, _++_, map, append-assoc}
-use Prim.Native.Nat.{ℕ, suc, _+_, _-_, _*_, _≤_, _<_}
+use Prim.Native.Nat.{ℕ, suc, _+_, _-_, _*_, _≤_}
 use native.Mathlib.Omega.{arith}
 use lib.ListN.{length, getD, take, drop}
 use lib.Seq.{length-take-le, take-at, drop-at}
 use borrow.Rule.Slice.PartMut.{midOf, putMid}
 use Rattle.rules.specs.V0.{blocks-in}
-use Rattle.rules.specs.Phases.{row-records, store-blocks, phase-one, direction, directions, predict-blocks, phase-two, sample-stage}
+use Rattle.rules.specs.Phases.{row-records, store-blocks, direction, predict-blocks, sample-stage}
 use Rattle.rules.proofs.TwoPhase.{row-directions-length}
-use Rattle.v0_residuals.proofs.RowsLaws.{row-stored, row-directed, Filled, filled-begun, filled-on, filled-done}
+use Rattle.v0_residuals.proofs.RowsLaws.{row-stored, row-directed}
 use Rattle.v0_predictions.proofs.PredictionLaws.{whole-row}
 use Rattle.v0_two_phase.specs.LateRow.{late-row}
 use Rattle.v0_two_phase.proofs.RowByRow.{two-phases, row-first}
-
--- ── A row ──
 
 module _ (s : List ℕ) (w r offset : ℕ) where
   abbrev n : ℕ
@@ -57,41 +54,7 @@ module _ (s : List ℕ) (w r offset : ℕ) where
       let added = whole-row sample-stage w (r + 2) (r * n) n _ _ _ (rw ek at e₂) in
       (row-finished ds _ f _ f₂ room directed (row-stored s w r offset f ys ey) added, rw ek directed)
 
--- ── Rows ──
-
-module _ (s offsets : List ℕ) (w h : ℕ) where
-  pub record ByRow (f₀ f ds₀ ds : List ℕ) (r : ℕ) : Type 0 where
-    pub filled : Filled s offsets w h ds₀ ds r
-    pub same-samples : length f ≡ length f₀
-    pub cells-are : two-phases sample-stage s offsets w (h - 2 - r) (r + 2) f ≡ two-phases sample-stage s offsets w (h - 2) 2 f₀
-
-  pub by-row-begun : (f ds : List ℕ) → ByRow f f ds ds 0
-  by-row-begun f ds =
-      let z : h - 2 - 0 ≡ h - 2 = omega arith in
-      let first : 0 + 2 ≡ 2 = omega arith in
-      record { filled = filled-begun s offsets w h ds; same-samples = refl; cells-are = rw (z, first) }
-
-  pub by-row-on : (f₀ f f′ ds₀ ds ds′ : List ℕ) (r : ℕ) → r + 2 < h → blocks-in w * (h - 2) ≤ length ds
-      → length f′ ≡ length f → length ds′ ≡ length ds
-      → f′ ≡ late-row s w (r + 2) (getD offsets (r + 2) 0) f
-      → ds′ ≡ (take (r * blocks-in w) ds ++ map direction (row-records s w (r + 2) (getD offsets (r + 2) 0))) ++ drop (r * blocks-in w + blocks-in w) ds
-      → ByRow f₀ f ds₀ ds r → ByRow f₀ f′ ds₀ ds′ (r + 1)
-  by-row-on f₀ f f′ ds₀ ds ds′ r l enough sf sd ef ed p = record {
-    filled = filled-on s offsets w h ds r l enough ds₀ ds′ sd ed (p .filled);
-    same-samples = sf ∙ p .same-samples;
-    cells-are = sym left ∙ p .cells-are;
-  }
-    where
-      left : two-phases sample-stage s offsets w (h - 2 - r) (r + 2) f ≡ two-phases sample-stage s offsets w (h - 2 - (r + 1)) (r + 1 + 2) f′
-      left =
-          let more : h - 2 - r ≡ suc (h - 2 - (r + 1)) = omega arith in
-          let next-row : r + 1 + 2 ≡ suc (r + 2) = omega arith in
-          rw (more, next-row, ef) (row-first sample-stage s offsets w (h - 2 - (r + 1)) (r + 2) f)
-
-  pub by-row-done : (f₀ f ds₀ ds : List ℕ) (r : ℕ) → h ≤ r + 2 → ByRow f₀ f ds₀ ds r
-      → (f ≡ two-phases sample-stage s offsets w (h - 2) 2 f₀)
-      × (ds ≡ directions s offsets w (h - 2) 2 ++ drop (blocks-in w * (h - 2)) ds₀)
-  unfolding phase-one phase-two
-  by-row-done f₀ f ds₀ ds r l p =
-      let none : h - 2 - r ≡ 0 = omega arith in
-      (rw none at (p .cells-are), filled-done s offsets w h ds₀ ds r l (p .filled))
+-- It is the first of what is left.
+pub row-on : (s offsets : List ℕ) (w row : ℕ) (f f′ : List ℕ) → f′ ≡ late-row s w row (getD offsets row 0) f
+    → (m : ℕ) → two-phases sample-stage s offsets w (suc m) row f ≡ two-phases sample-stage s offsets w m (suc row) f′
+row-on s offsets w row f f′ e m = row-first sample-stage s offsets w m row f ∙ ap (two-phases sample-stage s offsets w m (suc row)) (sym e)

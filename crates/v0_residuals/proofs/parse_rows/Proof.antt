@@ -1,20 +1,20 @@
 -- What is left from row r + 2 on comes to all rows; a row's two parts lie within what is lent.
-use mathlib.Core.Path.{_∙_}
+use mathlib.Core.Path.{refl, _∙_}
 use Prim.Native.Nat.{ℕ, _+_, _-_, _*_, _≤_}
 use native.Mathlib.Omega.{arith}
 use lib.ListN.{length, length-drop}
 use borrow.Rule.Slice.PartMut.{same-len-mid}
 use borrow.Author.Needs.{needs}
-use Rattle.rules.specs.Phases.{scratch}
+use Rattle.rules.specs.Phases.{phase-one, scratch}
 use Rattle.rules.specs.V0.{blocks-in}
 use Rattle.v0_cells.proofs.CellLaws.{product}
-use Rattle.v0_residuals.proofs.RowsLaws.{Rows, rows-begun, rows-on, rows-done, tail-lent}
+use Rattle.v0_residuals.proofs.RowsLaws.{Rows, rows-begun, parts-on, rows-done, tail-lent}
 use Rattle.v0_cells.proofs.RoomLaws.{row-within, directions-within}
 use Rattle.v0_residuals.proofs.parse_rows.Statement.{statement}
 use Rattle.v0_residuals.proofs.parse_rows.Tie as tie
 
 abbrev Inv-loop : tie.InvT-loop
-Inv-loop src offsets out₀ dirs₀ w h blocks r₀ out dirs r = Rows src offsets w h out₀ out dirs₀ dirs r
+Inv-loop src offsets out₀ dirs₀ w h blocks r₀ out dirs r = Rows src offsets w h (phase-one src offsets w) out₀ out dirs₀ dirs r
 
 abbrev μ-loop : tie.MeasureT-loop
 μ-loop src offsets out₀ dirs₀ w h blocks r₀ out dirs r = h - r
@@ -46,7 +46,7 @@ blocks-in-requires : tie.Need-blocks-in-requires Inv-loop μ-loop
 blocks-in-requires c κs = search needs
 
 loop-holds : tie.Need-loop-holds Inv-loop μ-loop
-loop-holds c = rows-begun _ _ _ _ _ _
+loop-holds c = rows-begun _ _ _ _ _ _ _
 
 add-loop : tie.Need-add-loop Inv-loop μ-loop
 add-loop c = search needs
@@ -118,7 +118,7 @@ loop-again c =
     let p = c .before .before .before .before .parse-v0-residuals in
     let enough : n * (z .height - 2) ≤ length (l .dirs) = omega (arith, l .inv .filled .same-dirs, at-start x .pre .0 .directions-lent) in
     rw (b .ensures)
-    (rows-on _ _ _ _ _ _ _ (omega arith) enough _ _ _ _
+    (parts-on _ _ _ _ _ _ _ (omega arith) enough _ _ _ _
     (same-len-mid {X = ℕ} first (length (l .out) - first) (l .out) (p .last .1 .1 .1 .0) (p .kept .1 .1 .1 .0))
     (same-len-mid {X = ℕ} (l .r * n) (length (l .dirs) - l .r * n) (l .dirs) (p .last .1 .1 .1 .1 .0) (rw (b .ensures) at (p .kept .1 .1 .1 .1 .0)))
     (p .ensures .0) (rw (b .ensures) at (p .ensures .1)) (l .inv))
@@ -130,8 +130,8 @@ same-length-2 : tie.Need-same-length-2 Inv-loop μ-loop
 same-length-2 c = search needs
 
 returns : tie.Need-returns Inv-loop μ-loop
-unfolding scratch
-returns c = rows-done _ _ _ _ _ _ _ _ _ (omega arith) (c .before .loop .inv)
+unfolding scratch phase-one
+returns c = rows-done _ _ _ _ _ (λ _ _. refl) _ _ _ _ _ (omega arith) (c .before .loop .inv)
 
 pub parse-rows-spec : {M : Type 1} → statement M
 parse-rows-spec =

@@ -1,18 +1,20 @@
 -- Both phases of what is left from row r + 2 on come to both phases of all rows.
-use mathlib.Core.Path.{_∙_}
+use mathlib.Core.Path.{refl, _∙_}
 use Prim.Native.Nat.{_-_, _*_, _≤_}
 use native.Mathlib.Omega.{arith}
 use lib.ListN.{length}
 use borrow.Author.Needs.{needs}
-use Rattle.rules.specs.Phases.{scratch}
+use Rattle.rules.specs.Phases.{phase-one, phase-two, sample-stage, scratch}
 use Rattle.rules.specs.V0.{blocks-in}
 use Rattle.v0_cells.proofs.RoomLaws.{row-within, directions-within}
-use Rattle.v0_two_phase.proofs.LateRowLaws.{ByRow, by-row-begun, by-row-on, by-row-done}
+use Rattle.v0_residuals.proofs.RowsLaws.{Rows, rows-begun, rows-on, rows-done}
+use Rattle.v0_two_phase.proofs.RowByRow.{two-phases}
+use Rattle.v0_two_phase.proofs.LateRowLaws.{row-on}
 use Rattle.v0_two_phase.proofs.frame.decode_late_rows.Statement.{statement}
 use Rattle.v0_two_phase.proofs.frame.decode_late_rows.Tie as tie
 
 abbrev Inv-loop : tie.InvT-loop
-Inv-loop src offsets out₀ scratch₀ w h r₀ out scratch r = ByRow src offsets w h out₀ out scratch₀ scratch r
+Inv-loop src offsets out₀ scratch₀ w h r₀ out scratch r = Rows src offsets w h (two-phases sample-stage src offsets w) out₀ out scratch₀ scratch r
 
 abbrev μ-loop : tie.MeasureT-loop
 μ-loop src offsets out₀ scratch₀ w h r₀ out scratch r = h - r
@@ -29,7 +31,7 @@ enough : (c : tie.At-loop Inv-loop μ-loop) → blocks-in (at-start c .args .siz
 enough c = omega (arith, c .loop .inv .filled .same-dirs, at-start c .pre .0 .directions-lent)
 
 loop-holds : tie.Need-loop-holds Inv-loop μ-loop
-loop-holds c = by-row-begun _ _ _ _ _ _
+loop-holds c = rows-begun _ _ _ _ _ _ _
 
 add-loop : tie.Need-add-loop Inv-loop μ-loop
 add-loop c = search needs
@@ -69,8 +71,8 @@ loop-again c =
     let d = c .before .before .before .before in
     let x = at-loop d in
     let e = d .decode-late-row .ensures in
-    by-row-on _ _ _ _ _ _ _ _ _ _ (x .loop .r) (omega arith) (enough x) (d .decode-late-row .kept .1 .1 .1 .1 .0) (d .decode-late-row .kept .1 .1 .1 .1 .1 .0)
-    (e .0) (e .1) (x .loop .inv)
+    rows-on _ _ _ _ _ _ _ _ _ _ _ (x .loop .r) (omega arith) (enough x) (d .decode-late-row .kept .1 .1 .1 .1 .0) (d .decode-late-row .kept .1 .1 .1 .1 .1 .0)
+    (row-on _ _ _ _ _ _ (e .0)) (e .1) (x .loop .inv)
 
 same-length : tie.Need-same-length Inv-loop μ-loop
 same-length c = search needs
@@ -79,8 +81,8 @@ same-length-2 : tie.Need-same-length-2 Inv-loop μ-loop
 same-length-2 c = search needs
 
 returns : tie.Need-returns Inv-loop μ-loop
-unfolding scratch
-returns c = by-row-done _ _ _ _ _ _ _ _ _ (omega arith) (c .before .loop .inv)
+unfolding scratch phase-one phase-two
+returns c = rows-done _ _ _ _ _ (λ _ _. refl) _ _ _ _ _ (omega arith) (c .before .loop .inv)
 
 pub decode-late-rows-spec : {M : Type 1} → statement M
 decode-late-rows-spec =
