@@ -6,7 +6,7 @@ use mathlib.Core.Path.{_≡_, refl, sym, ap, _∙_}
 use mathlib.Core.Logic.{_≢_, by-cases}
 use mathlib.Core.List.{List}
 use native.Mathlib.Omega.{arith}
-use native.Mathlib.Nat.{mul-assoc, mul-le-mul-right, suc-mul, zero-mul, le-div-iff-mul-le}
+use native.Mathlib.Nat.{mul-le-mul-right, suc-mul, zero-mul, le-div-iff-mul-le}
 use native.Mathlib.Decide.{ℕ-discrete, decLt}
 use lib.Dec.{eqb}
 use lib.ListN.{length, getD}
@@ -17,7 +17,7 @@ use Rattle.rules.proofs.V0Cells.{exchange-length}
 use Rattle.bands.specs.Bands.{Cut, late-rows, fits, band-start, blocks-per-band, step-count, step-band, step-block, step-from, step-to, after, in-turn, none-done, good, do-step, do-steps}
 use Rattle.bands.proofs.Finished.{still}
 use Rattle.bands.proofs.Counters.{zeros, Stands, stands, Counts, after-own, after-other, done-after, Turns, end, next, turns, good-full}
-use Rattle.bands.proofs.AnySequence.{same-cells, Fitting, fitting, start-zero, start-last, start-up, Of-step, Bands-done, Step-ready, Step-left, step-left, elsewhere, step-ready, step-done, none-done-yet, reach, good-done}
+use Rattle.bands.proofs.AnySequence.{column-of, same-cells, Fitting, fitting, start-zero, start-last, start-up, Of-step, Bands-done, Step-ready, Step-left, step-left, elsewhere, step-ready, step-done, none-done-yet, reach, good-done}
 use Rattle.v0_bands.specs.Freed.{freed-rows, freed-columns, exchange-freed, steps-freed}
 use Rattle.v0_bands.proofs.PartLaws.{Partner, near, at, Exchanged, part-exchanged, whole-exchanged}
 use Rattle.v0_bands.proofs.PartLaws as Part
@@ -92,11 +92,7 @@ module _ (c : Cut) (fit : Fitting c) where
       by-cases (decLt r (freed-rows c n)) (λ m. freeing n r (omega arith) m) (λ m. (n, record { low = l; from = omega arith; to = q }))
 
   multiple : (j : ℕ) → j * b % 2 ≡ 0
-  multiple j =
-      let m = fit .blocks-16 in
-      let e : b / 16 * 16 ≡ b = omega arith in
-      let q : j * (b / 16) * 16 ≡ j * b = mul-assoc j (b / 16) 16 ∙ ap (λ x. j * x) e in
-      omega arith
+  multiple j = omega (arith, column-of b j (fit .blocks-16))
 
   pub columns-is : (j : ℕ) → j * b < w → freed-columns c j ≡ j * b - 2
   unfolding freed-columns

@@ -3,7 +3,7 @@ use Prim.Native.Nat.{ℕ, zero, suc, _+_, _-_, _*_, _/_, _%_, _≤_, _<_, min}
 use mathlib.Core.Path.{_≡_, refl, sym, ap, _∙_}
 use mathlib.Core.List.{List}
 use native.Mathlib.Omega.{arith}
-use native.Mathlib.Nat.{mul-assoc, mul-le-mul, mul-le-mul-right, suc-mul, div-lt-iff-lt-mul, mod-lt}
+use native.Mathlib.Nat.{mul-le-mul, mul-le-mul-right, suc-mul, div-lt-iff-lt-mul, mod-lt}
 use mathlib.Core.Logic.{_≢_}
 use native.Mathlib.Numerals.{add-one}
 use lib.Dec.{eqb}
@@ -12,7 +12,7 @@ use lib.Seq.{drop-cons, getD-take, getD-drop, ext-getD}
 use Rattle.rules.specs.V0.{blocks-in}
 use Rattle.rules.specs.Phases.{Stage, sample-stage, predict-blocks}
 use Rattle.bands.specs.Bands.{Cut, cut, sized, late-rows, blocks-per-band, step-count, in-turn, none-done, good, block-directions, predict-band, do-step}
-use Rattle.bands.proofs.AnySequence.{Fitting, fitting, start-up, start-last}
+use Rattle.bands.proofs.AnySequence.{column-of, Fitting, fitting, start-up, start-last}
 use Rattle.bands.proofs.CheckLaws.{bands-most}
 use Rattle.bands.proofs.Counters.{some-block, stands, Turns, end, next, turns}
 use Rattle.v0_predictions.specs.Lent.{LateRow}
@@ -64,12 +64,9 @@ module _ (g : Stage ℕ) (w b block n row : ℕ) (ds : List ℕ) where
       i : ℕ
       i = block * (b / 16)
 
-      col : i * 16 ≡ block * b
-      col = mul-assoc block (b / 16) 16 ∙ ap (λ x. block * x) (omega arith)
-
       is : f′ ≡ predict-blocks g w (row + r) (block * b) (block-directions w b block (row + r) ds) f
       is = q
-          ∙ ap (λ x. predict-blocks g w (row + r) x (take (to - i) (drop ((row + r - 2) * blocks-in w + i) ds)) f) col
+          ∙ ap (λ x. predict-blocks g w (row + r) x (take (to - i) (drop ((row + r - 2) * blocks-in w + i) ds)) f) (column-of b block b16)
           ∙ ap (λ x. predict-blocks g w (row + r) (block * b) x f)
           (ap (λ x. take (x - i) (drop ((row + r - 2) * blocks-in w + i) ds)) et ∙ sym (part-of ds ((row + r - 2) * blocks-in w) (blocks-in w) i (b / 16) lent))
 
@@ -90,11 +87,7 @@ small-product x y p q = let m : x * y ≤ 16_384 * 1_024 = mul-le-mul p q in ome
 module _ {w b block row n : ℕ} {f dirs : List ℕ} (p : BandLent w b block row n f dirs) where
   -- A block of a band begins at so many blocks of 16.
   pub from-low : block * (b / 16) * 16 < w
-  from-low =
-      let m = p .multiple in
-      let e : b / 16 * 16 ≡ b = omega arith in
-      let q = p .begins in
-      omega (arith, mul-assoc block (b / 16) 16 ∙ ap (λ x. block * x) e)
+  from-low = omega (arith, p .begins, column-of b block (p .multiple))
 
   pub directions-within : (r : ℕ) → r < n → (row + r - 2) * blocks-in w + blocks-in w ≤ length dirs
   directions-within r l =
