@@ -83,14 +83,29 @@ module _ {s : List ℕ} {z : Size} {row col : ℕ} {st : V0Row} {out map : List 
 
 -- ── The blocks of a row ──
 
+-- A row's state at a column where a block may begin: a block moves each length by 1 at most, or sets it to at most 15.
+pub record Along (z : Size) (st : V0Row) (col : ℕ) : Type 0 where
+  pub whole : col % 16 ≡ 0
+  pub below : col ≤ z .width + 15
+  pub near : Within (15 + col / 16) (st .lengths)
+
+module _ {z : Size} {st : V0Row} where
+  pub along-begun : (row offset : ℕ) → st ≡ fresh-row row offset → Along z st 0
+  along-begun row offset e = record { whole = refl; below = omega arith; near = rw e (fresh-within row offset) }
+
+  pub along-on : {st′ : V0Row} {col : ℕ} (s : List ℕ) → col < z .width → st′ .lengths ≡ head s st .row .lengths → Along z st col → Along z st′ (col + 16)
+  along-on {col = col} s l e a = record {
+    whole = omega arith;
+    below = omega arith;
+    near = rw e (within-more (suc (15 + col / 16)) (15 + (col + 16) / 16) (head s st .row .lengths) (omega arith) (head-within s st (15 + col / 16) (omega arith) (a .near)));
+  }
+
 -- What is left of a row from a column on.
 abbrev pub rest-of : List ℕ → Size → ℕ → ℕ → V0Row → Blocks
 rest-of s z row col st = blocks s (row * z .width) (predictor z row) ((z .width + 15 - col) / 16) col st
 
 pub record Rowing (s : List ℕ) (z : Size) (row offset : ℕ) (out₀ out map₀ map : List ℕ) (st : V0Row) (col : ℕ) : Type 0 where
-  pub whole : col % 16 ≡ 0
-  pub below : col ≤ z .width + 15
-  pub near : Within (15 + col / 16) (st .lengths)
+  pub along : Along z st col
   pub samples-left : Left (blocks-walk sample-kind) (rest-of s z row col st .blocks) (row-blocks s z row offset .blocks) out₀ out
   pub marks-left : Left (blocks-walk v0-marks) (rest-of s z row col st .blocks) (row-blocks s z row offset .blocks) map₀ map
   pub reader-left : rest-of s z row col st .bits ≡ row-blocks s z row offset .bits
@@ -100,9 +115,7 @@ module _ (s : List ℕ) (z : Size) (row offset : ℕ) (out₀ map₀ : List ℕ)
   unfolding row-blocks
   rowing-begun st e =
       record {
-        whole = refl;
-        below = omega arith;
-        near = rw e (fresh-within row offset);
+        along = along-begun row offset e;
         samples-left = left-begun (blocks-walk sample-kind) _ _ out₀ (ap (λ x. x .blocks) all);
         marks-left = left-begun (blocks-walk v0-marks) _ _ map₀ (ap (λ x. x .blocks) all);
         reader-left = ap (λ x. x .bits) all;
@@ -119,8 +132,8 @@ module _ (s : List ℕ) (z : Size) (row offset : ℕ) (out₀ map₀ : List ℕ)
   pub row-block : (out map : List ℕ) (st : V0Row) (col : ℕ) → col < z .width → InRow z row out₀ map₀ → Rowing s z row offset out₀ out map₀ map st col
       → InFrame z row col × RunLent z col (st .lengths) out map
   row-block out map st col l i r = (
-    record { width = i .width; height = i .height; row-in = i .row-in; col-in = l; block = r .whole },
-    record { near = r .near; samples-lent = r .samples-left .same-length ∙ i .samples-lent; map-lent = rw (r .marks-left .same-length) (i .map-lent) },
+    record { width = i .width; height = i .height; row-in = i .row-in; col-in = l; block = r .along .whole },
+    record { near = r .along .near; samples-lent = r .samples-left .same-length ∙ i .samples-lent; map-lent = rw (r .marks-left .same-length) (i .map-lent) },
   )
 
   pub rowing-on : (out out′ map marked map′ : List ℕ) (st st′ : V0Row) (col : ℕ) → col < z .width → Decoded s z row col st out map st′ out′ marked
@@ -129,9 +142,7 @@ module _ (s : List ℕ) (z : Size) (row offset : ℕ) (out₀ map₀ : List ℕ)
   unfolding blocks block-ops after-block
   rowing-on out out′ map marked map′ st st′ col l d ee r =
       record {
-        whole = omega (arith, r .whole);
-        below = omega arith;
-        near = rw (d .state) (within-more (suc (15 + col / 16)) (15 + (col + 16) / 16) (head s st .row .lengths) (omega arith) (head-within s st (15 + col / 16) (omega arith) (r .near)));
+        along = along-on s l (ap (λ x. x .lengths) (d .state)) (r .along);
         samples-left = left-on (blocks-walk sample-kind) (this ∷ []) _ _ _ out₀ out out′ first (samples-written s z row col st out out′ (d .samples)) (r .samples-left);
         marks-left = left-on (blocks-walk v0-marks) (this ∷ []) _ _ _ map₀ map map′ first (marks-written s z row col st st′ map marked map′ (d .state) (d .marks) ee) (r .marks-left);
         reader-left = sym on ∙ r .reader-left;

@@ -1,6 +1,6 @@
 -- A row: what is left of its blocks has the row's first fault, as long as no block had one.
-use Prim.Native.Nat.{ℕ, suc, _+_, _-_, _*_, _/_, _%_, _≤_, _<_}
-use mathlib.Core.Path.{_≡_, refl, sym, ap, ap₂, _∙_}
+use Prim.Native.Nat.{ℕ, suc, _+_, _-_, _*_, _/_, _≤_, _<_}
+use mathlib.Core.Path.{_≡_, sym, ap, ap₂, _∙_}
 use mathlib.Core.Logic.{_≢_}
 use mathlib.Core.List.{List}
 use native.Mathlib.Omega.{arith}
@@ -8,12 +8,13 @@ use borrow.Author.Tests.{ne-eqb}
 use Rattle.rules.specs.declared.answer.Size.{Size}
 use Rattle.rules.specs.declared.v0.V0Row.{V0Row}
 use Rattle.rules.specs.declared.v0.V0Head.{V0Head}
-use Rattle.rules.specs.V0.{head, fresh-row}
+use Rattle.rules.specs.V0.{fresh-row}
 use Rattle.profile.specs.Profile.{or-next, block-fault, blocks-fault, row-fault}
 use Rattle.v0_stream.specs.Lengths.{Within, furthest}
-use Rattle.v0_stream.proofs.HeadLaws.{within-more, fresh-within, head-within}
+use Rattle.v0_stream.proofs.HeadLaws.{within-more}
 use Rattle.v0_cells.specs.Places.{InFrame}
 use Rattle.v0_direct.specs.Block.{block-ops, after-block}
+use Rattle.v0_direct.proofs.RowLaws.{Along, along-begun, along-on}
 use Rattle.v0_profile.specs.Lent.{InRow}
 use Rattle.v0_profile.specs.Block.{seen}
 
@@ -22,9 +23,7 @@ abbrev rest-of : List ℕ → Size → ℕ → ℕ → V0Row → ℕ
 rest-of s z row col st = blocks-fault s z row ((z .width + 15 - col) / 16) col st
 
 pub record Checking (s : List ℕ) (z : Size) (row offset : ℕ) (st : V0Row) (col : ℕ) : Type 0 where
-  pub whole : col % 16 ≡ 0
-  pub below : col ≤ z .width + 15
-  pub near : Within (15 + col / 16) (st .lengths)
+  pub along : Along z st col
   pub left : rest-of s z row col st ≡ row-fault s z row offset
 
 module _ (s : List ℕ) (z : Size) (row offset : ℕ) where
@@ -32,19 +31,14 @@ module _ (s : List ℕ) (z : Size) (row offset : ℕ) where
   unfolding row-fault
   checking-begun st e =
       let q : z .width + 15 - 0 ≡ z .width + 15 = omega arith in
-      record {
-        whole = refl;
-        below = omega arith;
-        near = rw e (fresh-within row offset);
-        left = ap₂ (λ n x. blocks-fault s z row (n / 16) 0 x) q e;
-      }
+      record { along = along-begun row offset e; left = ap₂ (λ n x. blocks-fault s z row (n / 16) 0 x) q e }
 
   module _ (st : V0Row) (col : ℕ) (l : col < z .width) where
     -- A block that the row still has lies in the frame, its lengths near enough to 0.
     pub check-block : InRow z row → Checking s z row offset st col → InFrame z row col × Within furthest (st .lengths)
     check-block i c = (
-      record { width = i .width; height = i .height; row-in = i .row-in; col-in = l; block = c .whole },
-      within-more (15 + col / 16) furthest (st .lengths) (omega (arith, i .width)) (c .near),
+      record { width = i .width; height = i .height; row-in = i .row-in; col-in = l; block = c .along .whole },
+      within-more (15 + col / 16) furthest (st .lengths) (omega (arith, i .width)) (c .along .near),
     )
 
     more : (z .width + 15 - col) / 16 ≡ suc ((z .width + 15 - (col + 16)) / 16)
@@ -66,12 +60,7 @@ module _ (s : List ℕ) (z : Size) (row offset : ℕ) where
       pub checking-on : k ≡ 0 → Checking s z row offset st col → Checking s z row offset (h .row) (col + 16)
       unfolding seen after-block
       checking-on none c =
-          record {
-            whole = omega (arith, c .whole);
-            below = omega arith;
-            near = rw eh (within-more (suc (15 + col / 16)) (15 + (col + 16) / 16) (head s st .row .lengths) (omega arith) (head-within s st (15 + col / 16) (omega arith) (c .near)));
-            left = sym (rest-here ∙ rw none) ∙ c .left;
-          }
+          record { along = along-on s l (ap (λ x. x .row .lengths) eh) (c .along); left = sym (rest-here ∙ rw none) ∙ c .left }
 
   -- No block is left.
   pub checked : (st : V0Row) (col : ℕ) → z .width ≤ col → Checking s z row offset st col → 0 ≡ row-fault s z row offset
