@@ -182,6 +182,7 @@ module _ (c : Cut) (fit : Fitting c) where
           let col = columns-up (getD done k′ 0) j (omega (arith, s .next)) in
           omega (arith, columns-is j (begins j (s .block)))
 
+      -- Whether a cell is of its block.
       of-step : (r d : ℕ) → Dec (Of-step c n r d)
       of-step r d = go (decLt r (2 + step-from c n)) (decLt r (2 + step-to c n)) (decLt d (j * b)) (decLt d (suc j * b))
         where
