@@ -22,7 +22,6 @@ use mathlib.Core.Option.{some}
 use lib.ListN.{getD}
 use Rattle.rules.proofs.Isolation.{Returned}
 use Rattle.samsung.proofs.Isolation.{ended}
-use Rattle.razvolk.proofs.Isolation.{final}
 use Rattle.late.specs.Late.{Above, whole-pairs, first-past}
 use Rattle.late.proofs.Calls.{LateOffsets, LateStream, SameAbove, SameBelow, calls-late-offsets, calls-late-stream}
 
@@ -32,16 +31,9 @@ pub record LateFault {L : Type 0} (call : L → Returned) : Type 0 where
   pub v2 : (p : ℕ) (c d : L) → LateStream p (call c) (call d)
       → SameBelow (first-past p (call c .ask .stream) (call c .ask .size)) (call c) (call d)
 
-late-fault : {L : Type 0} (call : L → Returned) → LateFault call
-late-fault call = record { v0 = λ r c d. calls-late-offsets r (call c) (call d); v2 = λ p c d. calls-late-stream p (call c) (call d) }
-
--- Of the entry points ..
-pub of-entries : LateFault ended
-of-entries = late-fault ended
-
--- .. and of the exports.
-pub of-exports : LateFault final
-of-exports = late-fault final
+-- Of the entry points, and so of the exports, whose calls are calls of the entry points (`razvolk/proofs/Isolation.antt`).
+pub late-fault : LateFault ended
+late-fault = record { v0 = λ r c d. calls-late-offsets r (ended c) (ended d); v2 = λ p c d. calls-late-stream p (ended c) (ended d) }
 
 -- At work: where both calls are lent a map, a sample that is released goes with its byte.
 pub released : (n : ℕ) (c d : Returned) → SameAbove n c d → (m m′ : List ℕ) → c .left .map ≡ some m → d .left .map ≡ some m′

@@ -22,9 +22,8 @@ use Rattle.profile.specs.Clean as Profile
 use Rattle.profile.proofs.Lists as Clean-lists
 use Rattle.rules.proofs.Cells.{nil, more}
 use Rattle.rules.proofs.Isolation.{Calls, start, call, Samples, Same, is-direct, position-of, amount-of}
-use Rattle.samsung.proofs.Isolation.{returned, ended}
-use Rattle.samsung.proofs.Isolation as Entries
-use Rattle.razvolk.proofs.Isolation.{Export, Banded, Cleaned, Any, entry, exported, cleaned, plain, in-bands, for-clean, step, last, last-in-bands, last-clean, final, isolation}
+use Rattle.samsung.proofs.Isolation.{Banded, Cleaned, Entry, returned, checked, plain, in-bands, for-clean, step, last, last-in-bands, last-clean, ended, isolation}
+use Rattle.razvolk.proofs.Isolation.{Export}
 use Rattle.razvolk.proofs.Isolation as Exports
 
 -- ── A call for every input ──
@@ -136,54 +135,54 @@ module _ (s offsets : List ℕ) (w h : ℕ) (samples : List ℕ) where
       })
 
   -- They ask and find what they are given.
-  pub direct-finds : (exported direct-call .ask ≡ direct-ask) × (exported direct-call .found ≡ buffers samples none none)
-  unfolding returned entry
+  pub direct-finds : (returned direct-call .ask ≡ direct-ask) × (returned direct-call .found ≡ buffers samples none none)
+  unfolding returned
   direct-finds = (refl, refl)
 
-  pub direct-map-finds : (m : List ℕ) → (exported (direct-map-call m) .ask ≡ direct-ask) × (exported (direct-map-call m) .found ≡ buffers samples (some m) none)
-  unfolding returned entry
+  pub direct-map-finds : (m : List ℕ) → (returned (direct-map-call m) .ask ≡ direct-ask) × (returned (direct-map-call m) .found ≡ buffers samples (some m) none)
+  unfolding returned
   direct-map-finds m = (refl, refl)
 
-  pub two-phase-finds : (c : List ℕ) → (exported (two-phase-call c) .ask ≡ two-phase-ask) × (exported (two-phase-call c) .found ≡ buffers samples none (some c))
-  unfolding returned entry
+  pub two-phase-finds : (c : List ℕ) → (returned (two-phase-call c) .ask ≡ two-phase-ask) × (returned (two-phase-call c) .found ≡ buffers samples none (some c))
+  unfolding returned
   two-phase-finds c = (refl, refl)
 
-  pub v2-finds : (exported v2-call .ask ≡ v2-ask) × (exported v2-call .found ≡ buffers samples none none)
-  unfolding returned entry
+  pub v2-finds : (returned v2-call .ask ≡ v2-ask) × (returned v2-call .found ≡ buffers samples none none)
+  unfolding returned
   v2-finds = (refl, refl)
 
-  pub v2-map-finds : (m : List ℕ) → (exported (v2-map-call m) .ask ≡ v2-ask) × (exported (v2-map-call m) .found ≡ buffers samples (some m) none)
-  unfolding returned entry
+  pub v2-map-finds : (m : List ℕ) → (returned (v2-map-call m) .ask ≡ v2-ask) × (returned (v2-map-call m) .found ≡ buffers samples (some m) none)
+  unfolding returned
   v2-map-finds m = (refl, refl)
 
   pub in-bands-finds : (scratch : List ℕ) (k n : ℕ) (steps : List ℕ)
       → (step (in-bands (in-bands-call scratch k n steps)) .found ≡ samples)
       × (step (in-bands (in-bands-call scratch k n steps)) .left ≡ Bands.samples-after (in-bands-asked scratch k n steps))
-  unfolding step Entries.step Bands-lists.step
+  unfolding step Bands-lists.step
   in-bands-finds scratch k n steps = (refl, refl)
 
   -- At a list's end, done, it is the two-phase call.
   pub in-bands-ends : (scratch : List ℕ) (k n : ℕ) (steps : List ℕ) (done : in-bands-call scratch k n steps .result .number ≡ 0)
-      → (final (last-in-bands (in-bands-call scratch k n steps) done) .ask ≡ two-phase-ask)
-      × (final (last-in-bands (in-bands-call scratch k n steps) done) .found ≡ buffers samples none (some scratch))
-  unfolding final ended Bands-lists.returned Bands-lists.passed-returned
+      → (ended (last-in-bands (in-bands-call scratch k n steps) done) .ask ≡ two-phase-ask)
+      × (ended (last-in-bands (in-bands-call scratch k n steps) done) .found ≡ buffers samples none (some scratch))
+  unfolding ended Bands-lists.returned Bands-lists.passed-returned
   in-bands-ends scratch k n steps done = (refl, refl)
 
   pub clean-finds : (step (for-clean clean-call) .found ≡ samples)
       × (step (for-clean clean-call) .left ≡ Profile.samples-after direct-ask (lengths (buffers samples none none)) samples)
-  unfolding step Entries.step Clean-lists.step Entries.checked cleaned
+  unfolding step Clean-lists.step checked
   clean-finds = (refl, refl)
 
   -- At a list's end, done, it is the direct call.
-  pub clean-ends : (m : List ℕ) (done : Entries.checked (cleaned (clean-map-call m)) .answered .number ≡ 0)
-      → (final (last-clean (clean-map-call m) done) .ask ≡ direct-ask) × (final (last-clean (clean-map-call m) done) .found ≡ buffers samples (some m) none)
-  unfolding final ended Clean-lists.returned Entries.checked cleaned
+  pub clean-ends : (m : List ℕ) (done : checked (clean-map-call m) .answered .number ≡ 0)
+      → (ended (last-clean (clean-map-call m) done) .ask ≡ direct-ask) × (ended (last-clean (clean-map-call m) done) .found ≡ buffers samples (some m) none)
+  unfolding ended Clean-lists.returned checked
   clean-ends m done = (refl, refl)
 
 -- ── A list, and one call more ──
 
 -- After every list of calls each call may follow that is lent the first k samples of the buffer as it is now; the others stay.
-pub one-more : {b x : List ℕ} → Calls step b x → (k : ℕ) (c : Any) → step c .found ≡ take k x → Calls step b (step c .left ++ drop k x)
+pub one-more : {b x : List ℕ} → Calls step b x → (k : ℕ) (c : Entry) → step c .found ≡ take k x → Calls step b (step c .left ++ drop k x)
 one-more {x = x} cs k c e = call cs c (drop k x) (sym (rw e (take-append-drop k x)))
 
 -- ── Document 01's frame of 2 by 2 ──
@@ -195,8 +194,8 @@ abbrev pub two-by-two : List ℕ → Export
 two-by-two old = direct-call frame-stream (0 ∷ 4 ∷ []) 2 2 old
 
 -- Over four samples it is done, and no word was missing.
-pub two-by-two-done : (old : List ℕ) → length old ≡ 4 → exported (two-by-two old) .answered ≡ Answer.done
-unfolding returned entry Answer.answer Answer.refusal Answer.too-large Answer.too-small Answer.short-samples Answer.short-offsets Answer.short-map Answer.short-scratch Answer.first-of Answer.stream-answer Reader.fetched Reader.counted Reader.held Reader.read Reader.fields Reader.four Reader.signed Reader.modulo Reader.read-residual V0.fresh-row V0.operated V0.operate V0.head V0.bounded V0.predictor V0.length-of V0.length-bits V0.residual-bits V0.sample V0.samples V0.blocks V0.row-blocks V0.rows-filler V0.frame-filler
+pub two-by-two-done : (old : List ℕ) → length old ≡ 4 → returned (two-by-two old) .answered ≡ Answer.done
+unfolding returned Answer.answer Answer.refusal Answer.too-large Answer.too-small Answer.short-samples Answer.short-offsets Answer.short-map Answer.short-scratch Answer.first-of Answer.stream-answer Reader.fetched Reader.counted Reader.held Reader.read Reader.fields Reader.four Reader.signed Reader.modulo Reader.read-residual V0.fresh-row V0.operated V0.operate V0.head V0.bounded V0.predictor V0.length-of V0.length-bits V0.residual-bits V0.sample V0.samples V0.blocks V0.row-blocks V0.rows-filler V0.frame-filler
 two-by-two-done old e = rw e
 
 -- Its second and fourth sample are marked 0. Its third is marked 1: it is the old second one.
@@ -211,22 +210,22 @@ two-by-two-marks = (refl, (refl, refl))
 -- What the claim says of two such calls, at the end of every two lists of calls.
 module _ (b b′ x y : List ℕ) (h : Samples b) (h′ : Samples b′) (cs : Calls step b x) (ds : Calls step b′ y)
     (old old′ rest rest′ : List ℕ) (four : length old ≡ 4) (four′ : length old′ ≡ 4) (e : x ≡ old ++ rest) (e′ : y ≡ old′ ++ rest′) where
-  same : Same (exported (two-by-two old)) (exported (two-by-two old′))
-  unfolding returned entry final ended
+  same : Same (returned (two-by-two old)) (returned (two-by-two old′))
+  unfolding returned ended
   same =
       isolation b b′ x y h h′ cs ds (last (two-by-two old)) (last (two-by-two old′)) rest rest′ e e′
       (record { ask = refl; samples = four ∙ sym four′; scratch = refl; map = λ m n p q. absurd (Option·none-ne-some m p) })
       (inl (ap (λ a. a .number) (two-by-two-done old four))) (inl (ap (λ a. a .number) (two-by-two-done old′ four′)))
 
   -- The second and fourth sample are the same in both buffers, whatever came before.
-  pub unmarked-same : (getD (exported (two-by-two old) .left .samples) 1 0 ≡ getD (exported (two-by-two old′) .left .samples) 1 0)
-      × (getD (exported (two-by-two old) .left .samples) 3 0 ≡ getD (exported (two-by-two old′) .left .samples) 3 0)
-  unfolding returned entry
+  pub unmarked-same : (getD (returned (two-by-two old) .left .samples) 1 0 ≡ getD (returned (two-by-two old′) .left .samples) 1 0)
+      × (getD (returned (two-by-two old) .left .samples) 3 0 ≡ getD (returned (two-by-two old′) .left .samples) 3 0)
+  unfolding returned
   unmarked-same = (same .samples 1 (lit≤ tt) (ap (λ l. Map.old-part (getD l 1 0)) (two-by-two-marks .0)), same .samples 3 (lit≤ tt) (ap (λ l. Map.old-part (getD l 3 0)) (two-by-two-marks .0)))
 
   -- The third is what its buffer held at the second place.
-  pub marked-old : getD (exported (two-by-two old) .left .samples) 2 0 ≡ (getD old 1 0 + 0) % 65_536
-  unfolding returned entry
+  pub marked-old : getD (returned (two-by-two old) .left .samples) 2 0 ≡ (getD old 1 0 + 0) % 65_536
+  unfolding returned
   marked-old =
       same .marks-c .old is-direct 2 (lit≤ tt) (ap (λ l. Map.old-part (getD l 2 0)) (two-by-two-marks .0)) .1
       ∙ (λ i. (getD old (two-by-two-marks .1 .0 i) 0 + two-by-two-marks .1 .1 i) % 65_536)
@@ -241,16 +240,16 @@ abbrev refused-first : Export
 refused-first = v2-call [] [] 1 1 six
 
 abbrev six-after-one : List ℕ
-six-after-one = exported refused-first .left .samples ++ drop 6 six
+six-after-one = returned refused-first .left .samples ++ drop 6 six
 
 abbrev in-phases-next : Export
 in-phases-next = two-phase-call frame-stream (0 ∷ 4 ∷ []) 2 2 (take 4 six-after-one) []
 
 abbrev six-after-two : List ℕ
-six-after-two = exported in-phases-next .left .samples ++ drop 4 six-after-one
+six-after-two = returned in-phases-next .left .samples ++ drop 4 six-after-one
 
 pub two-calls : Calls step six six-after-two
-unfolding returned entry step Entries.step
+unfolding returned step
 two-calls = one-more (one-more start 6 (plain refused-first) refl) 4 (plain in-phases-next) refl
 
 -- On a buffer of four zeros: nothing before.
@@ -258,11 +257,11 @@ abbrev zeros : List ℕ
 zeros = 0 ∷ 0 ∷ 0 ∷ 0 ∷ []
 
 six-long : length (take 4 six-after-two) ≡ 4
-unfolding returned entry Reader.fetched Reader.counted Reader.held Reader.read Reader.fields Reader.four Reader.signed Reader.read-signed Reader.modulo Reader.read-residual Frame.tabulate V0.fresh-row V0.operated V0.operate V0.head V0.bounded V0.predictor V0.length-of V0.length-bits V0.residual-bits V0.sample V0.samples V0.blocks V0.row-blocks V0.rows V0.rows-filler V0.frame-filler V0.put V0.apply V0.write V0.write-all V0.swap V0.exchange-columns V0.exchange-rows V0.exchange V0.frame Phases.first-rows Phases.phase-one Phases.phase-two Phases.directions Phases.scratch Phases.two-phase Answer.too-large Answer.too-small Answer.short-offsets Answer.short-samples Answer.short-map Answer.short-scratch Answer.first-of Answer.refusal Answer.frame-samples Answer.unless-refused Answer.samples-after
+unfolding returned Reader.fetched Reader.counted Reader.held Reader.read Reader.fields Reader.four Reader.signed Reader.read-signed Reader.modulo Reader.read-residual Frame.tabulate V0.fresh-row V0.operated V0.operate V0.head V0.bounded V0.predictor V0.length-of V0.length-bits V0.residual-bits V0.sample V0.samples V0.blocks V0.row-blocks V0.rows V0.rows-filler V0.frame-filler V0.put V0.apply V0.write V0.write-all V0.swap V0.exchange-columns V0.exchange-rows V0.exchange V0.frame Phases.first-rows Phases.phase-one Phases.phase-two Phases.directions Phases.scratch Phases.two-phase Answer.too-large Answer.too-small Answer.short-offsets Answer.short-samples Answer.short-map Answer.short-scratch Answer.first-of Answer.refusal Answer.frame-samples Answer.unless-refused Answer.samples-after
 six-long = refl
 
 -- The frame that follows leaves the same second sample in both.
-pub shown : getD (exported (two-by-two (take 4 six-after-two)) .left .samples) 1 0 ≡ getD (exported (two-by-two zeros) .left .samples) 1 0
+pub shown : getD (returned (two-by-two (take 4 six-after-two)) .left .samples) 1 0 ≡ getD (returned (two-by-two zeros) .left .samples) 1 0
 shown =
     unmarked-same six zeros six-after-two zeros (more (lit≤ tt) (more (lit≤ tt) (more (lit≤ tt) (more (lit≤ tt) (more (lit≤ tt) (more (lit≤ tt) nil))))))
     (more (lit≤ tt) (more (lit≤ tt) (more (lit≤ tt) (more (lit≤ tt) nil)))) two-calls start (take 4 six-after-two) zeros (drop 4 six-after-two) [] six-long refl

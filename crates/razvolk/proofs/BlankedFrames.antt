@@ -12,7 +12,7 @@ use denote.Ref.{now}
 use lib.Dec.{lit<}
 use Rattle.rules.proofs.Isolation.{Step}
 use Rattle.rules.proofs.Isolation as Rules
-use Rattle.samsung.proofs.Isolation.{Made}
+use Rattle.samsung.proofs.Isolation.{Made, Entry, step, ended}
 use Rattle.blanking.specs.Blanking.{stated, unstated}
 use Rattle.blanking.specs.Calls.{Call, call}
 use Rattle.blanking.proofs.EachSample.{Clean, Fits, stated-clean, unstated-clean, stated-fits, unstated-fits}
@@ -22,8 +22,7 @@ use Rattle.frames.specs.Export.{export}
 use Rattle.frames.proofs.ExportedFrames.{Exports, exported-isolation}
 use Rattle.frames.proofs.ExportedFrames as Exported
 use Rattle.packed.proofs.Returned.{step as packed-step}
-use Rattle.razvolk.proofs.Isolation.{Any, step, Final, final}
-use Rattle.razvolk.proofs.Proposed.{Checks, checks}
+use Rattle.transcode.proofs.Proposed.{Checks, checks}
 use Rattle.razvolk.proofs.blanks.razvolk_blank_with.Kinds as with-kinds
 use Rattle.razvolk.proofs.blanks.razvolk_blank_with.Reads as with-reads
 use Rattle.razvolk.proofs.blanks.razvolk_blank_with.Statement as with-stated
@@ -98,7 +97,7 @@ export-fill c = refl
 -- ── Lists of calls, those that blank, export and check what was packed among them ──
 
 pub data Many : Type 0 where
-  decoding : Any → Many
+  decoding : Entry → Many
   blanking : Blanking → Many
   exporting : Exporting → Many
   checking : Checks → Many
@@ -112,25 +111,25 @@ steps (checking c) = packed-step (checks c)
 
 -- Demand 3 holds of such lists, too.
 abbrev pub Isolation : Type 0
-Isolation = Rules.Isolation steps final
+Isolation = Rules.Isolation steps ended
 
 pub isolation : Isolation
-isolation = Rules.isolation steps final
+isolation = Rules.isolation steps ended
 
 -- ── The claim ──
 
 abbrev pub BlankedFrames : Type 0
-BlankedFrames = Blanked.Isolation steps final blanks
+BlankedFrames = Blanked.Isolation steps ended blanks
 
 pub blanked-frames : BlankedFrames
-blanked-frames = blanked-isolation steps final blanks clean
+blanked-frames = blanked-isolation steps ended blanks clean
 
 -- The same of what is exported.
 abbrev pub ExportedFrames : Type 0
-ExportedFrames = Exported.Isolation steps final exports
+ExportedFrames = Exported.Isolation steps ended exports
 
 pub exported-frames : ExportedFrames
-exported-frames = exported-isolation steps final exports export-fill
+exported-frames = exported-isolation steps ended exports export-fill
 
 -- The claims, beside each export's theorem that its code meets the contract that they speak of.
 pub record OfTheCode (M : Type 1) : Type 2 where

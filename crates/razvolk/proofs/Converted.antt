@@ -10,10 +10,10 @@ use lib.ListN.{length, getD, drop}
 use Rattle.rules.specs.Answer.{Ask, ask, v2, done, refusal, marks, map-after, lengths}
 use Rattle.rules.proofs.Cells.{All}
 use Rattle.rules.proofs.Isolation.{Returned}
-use Rattle.samsung.proofs.Isolation.{Made}
+use Rattle.samsung.proofs.Isolation.{Made, returned}
 use Rattle.transcode.specs.Convert.{Call, call, frame-of, if-decoded}
 use Rattle.transcode.proofs.Converted.{Passed, passed, again, answered-done, samples-back, no-marks-back}
-use Rattle.razvolk.proofs.Isolation.{Export, exported}
+use Rattle.razvolk.proofs.Isolation.{Export}
 use Rattle.razvolk.proofs.convert.razvolk_v0_to_v2.Kinds as convert-kinds
 use Rattle.razvolk.proofs.convert.razvolk_v0_to_v2.Reads as convert-reads
 
@@ -59,9 +59,9 @@ module _ (x : Converts) where
     pub unmarked : (i : ℕ) → i < w * h → getD (marks (r .ask)) i 0 ≡ 0
 
   pub round-trip : (e : Export) → All (λ b. b < 256) stream → length stream < 2 ^ 64 → x .result .answer .number ≡ 0
-      → exported e .ask ≡ read-again → refusal (exported e .ask) (lengths (exported e .found)) ≡ 0 → Back (exported e)
+      → returned e .ask ≡ read-again → refusal (returned e .ask) (lengths (returned e .found)) ≡ 0 → Back (returned e)
   unfolding if-decoded
-  round-trip e below fewer zero same lends = of-returned (exported e) same lends
+  round-trip e below fewer zero same lends = of-returned (returned e) same lends
     where
       p : Passed source offsets w h samples map stream
       p = passed source offsets w h samples map stream _ _ _ _ (x .learnt) zero

@@ -12,10 +12,10 @@ use borrow.Author.Tests.{eqb-true}
 use Rattle.rules.specs.Answer.{Decoder, Ask, ask, Lent, done, refusal, answer, marks, map-after, lengths}
 use Rattle.rules.proofs.Cells.{All}
 use Rattle.rules.proofs.Isolation.{Returned}
-use Rattle.samsung.proofs.Isolation.{Made}
+use Rattle.samsung.proofs.Isolation.{Made, returned}
 use Rattle.writers.specs.Calls.{Call, call, frame-of, write-refusal}
 use Rattle.writers.proofs.Decoded.{OfV0, again, done-passed, answered-done, samples-back, no-marks-back}
-use Rattle.razvolk.proofs.Isolation.{Export, exported}
+use Rattle.razvolk.proofs.Isolation.{Export}
 use Rattle.razvolk.proofs.writer.razvolk_write_v0.Kinds as writer-kinds
 use Rattle.razvolk.proofs.writer.razvolk_write_v0.Reads as writer-reads
 use Rattle.rules.proofs.Tests.{by-test}
@@ -45,9 +45,9 @@ pub record Back (w : Writes) (r : Returned) : Type 0 where
 
 pub round-trip : (w : Writes) (e : Export) (d : Decoder) → OfV0 d
     → All (λ b. b < 256) (now (w .args .1 .1 .1 .0)) → length (now (w .args .1 .1 .1 .0)) < 2 ^ 64 → w .result .answer .number ≡ 0
-    → exported e .ask ≡ read-again w d → exported e .answered .number ≡ 0
-    → Back w (exported e)
-round-trip w e d v0 below fewer zero same again-zero = of-returned (exported e) same again-zero
+    → returned e .ask ≡ read-again w d → returned e .answered .number ≡ 0
+    → Back w (returned e)
+round-trip w e d v0 below fewer zero same again-zero = of-returned (returned e) same again-zero
   where
     ok : write-refusal (asked w) ≡ 0
     ok = done-passed (asked w) (sym (ap (λ x. x .answer .number) (w .learnt .answered)) ∙ zero)

@@ -15,7 +15,8 @@
 -- nothing.
 --
 -- A call that has returned is what was handed in, what came out, and what the function's own contract, as `src/` states it, says of
--- them (`Learnt`); that the code meets those contracts is each function's theorem `met`, and `of-the-code` holds all of it together.
+-- them (`Learnt`); that the code meets those contracts is each function's theorem `met`. `of-the-code` in `razvolk`'s file of this name
+-- holds the claim beside those of the exports, whose calls are calls of the entry points.
 use mathlib.Core.Path.{_≡_, refl}
 use mathlib.Core.List.{List, []}
 use mathlib.Core.Option.{none, some}
@@ -30,39 +31,23 @@ use Rattle.rules.proofs.Isolation.{Returned, Step, decodes}
 use Rattle.rules.proofs.Isolation as Rules
 use Rattle.samsung.proofs.direct.decode_v0_reference.Kinds as direct-kinds
 use Rattle.samsung.proofs.direct.decode_v0_reference.Reads as direct-reads
-use Rattle.samsung.proofs.direct.decode_v0_reference.Statement as direct-stated
-use Rattle.samsung.proofs.direct.decode_v0_reference.Met as direct-thm
 use Rattle.samsung.proofs.direct.decode_v0_reference_map.Kinds as direct-map-kinds
 use Rattle.samsung.proofs.direct.decode_v0_reference_map.Reads as direct-map-reads
-use Rattle.samsung.proofs.direct.decode_v0_reference_map.Statement as direct-map-stated
-use Rattle.samsung.proofs.direct.decode_v0_reference_map.Met as direct-map-thm
 use Rattle.samsung.proofs.two_phase.decode_v0.Kinds as phases-kinds
 use Rattle.samsung.proofs.two_phase.decode_v0.Reads as phases-reads
-use Rattle.samsung.proofs.two_phase.decode_v0.Statement as phases-stated
-use Rattle.samsung.proofs.two_phase.decode_v0.Met as phases-thm
 use Rattle.bands.specs.Call as Bands
 use Rattle.bands.proofs.Lists as Bands-lists
 use Rattle.samsung.proofs.in_bands.decode_v0_bands.Kinds as bands-kinds
 use Rattle.samsung.proofs.in_bands.decode_v0_bands.Reads as bands-reads
-use Rattle.samsung.proofs.in_bands.decode_v0_bands.Statement as bands-stated
-use Rattle.samsung.proofs.in_bands.decode_v0_bands.Met as bands-thm
 use Rattle.profile.proofs.Lists as Clean-lists
 use Rattle.samsung.proofs.clean.decode_v0_clean.Kinds as clean-kinds
 use Rattle.samsung.proofs.clean.decode_v0_clean.Reads as clean-reads
-use Rattle.samsung.proofs.clean.decode_v0_clean.Statement as clean-stated
-use Rattle.samsung.proofs.clean.decode_v0_clean.Met as clean-thm
 use Rattle.samsung.proofs.clean.decode_v0_clean_map.Kinds as clean-map-kinds
 use Rattle.samsung.proofs.clean.decode_v0_clean_map.Reads as clean-map-reads
-use Rattle.samsung.proofs.clean.decode_v0_clean_map.Statement as clean-map-stated
-use Rattle.samsung.proofs.clean.decode_v0_clean_map.Met as clean-map-thm
 use Rattle.samsung.proofs.v2_entries.decode_v2.Kinds as v2-kinds
 use Rattle.samsung.proofs.v2_entries.decode_v2.Reads as v2-reads
-use Rattle.samsung.proofs.v2_entries.decode_v2.Statement as v2-stated
-use Rattle.samsung.proofs.v2_entries.decode_v2.Met as v2-thm
 use Rattle.samsung.proofs.v2_entries.decode_v2_map.Kinds as v2-map-kinds
 use Rattle.samsung.proofs.v2_entries.decode_v2_map.Reads as v2-map-reads
-use Rattle.samsung.proofs.v2_entries.decode_v2_map.Statement as v2-map-stated
-use Rattle.samsung.proofs.v2_entries.decode_v2_map.Met as v2-map-thm
 
 -- ── The statement ──
 
@@ -195,29 +180,3 @@ Isolation = Rules.Isolation step ended
 
 pub isolation : Isolation
 isolation = Rules.isolation step ended
-
--- The claim, beside each entry point's theorem that its code meets the contract that the claim speaks of.
-pub record OfTheCode (M : Type 1) : Type 2 where
-  pub decode-v0-reference : direct-stated.statement M
-  pub decode-v0-reference-map : direct-map-stated.statement M
-  pub decode-v0 : phases-stated.statement M
-  pub decode-v0-bands : bands-stated.statement M
-  pub decode-v0-clean : clean-stated.statement M
-  pub decode-v0-clean-map : clean-map-stated.statement M
-  pub decode-v2 : v2-stated.statement M
-  pub decode-v2-map : v2-map-stated.statement M
-  pub claim : Isolation
-
-pub of-the-code : {M : Type 1} → OfTheCode M
-of-the-code =
-    record {
-      decode-v0-reference = direct-thm.met;
-      decode-v0-reference-map = direct-map-thm.met;
-      decode-v0 = phases-thm.met;
-      decode-v0-bands = bands-thm.met;
-      decode-v0-clean = clean-thm.met;
-      decode-v0-clean-map = clean-map-thm.met;
-      decode-v2 = v2-thm.met;
-      decode-v2-map = v2-map-thm.met;
-      claim = isolation;
-    }

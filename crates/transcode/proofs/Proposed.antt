@@ -7,12 +7,8 @@ use Rattle.packed.specs.Proposal.{proposal}
 use Rattle.packed.proofs.Returned.{Checked, Wrote, Claim, claim}
 use Rattle.transcode.proofs.proposal.check_packed.Kinds as check-kinds
 use Rattle.transcode.proofs.proposal.check_packed.Reads as check-reads
-use Rattle.transcode.proofs.proposal.check_packed.Statement as check-stated
-use Rattle.transcode.proofs.proposal.check_packed.Met as check-thm
 use Rattle.frames.proofs.writer.write_v0.Kinds as write-kinds
 use Rattle.frames.proofs.writer.write_v0.Reads as write-reads
-use Rattle.frames.proofs.writer.write_v0.Statement as write-stated
-use Rattle.frames.proofs.writer.write_v0.Met as write-thm
 
 -- A call of the check, and one of the writer, each by its arguments, its result and what it left.
 abbrev pub Checks : Type 0
@@ -46,12 +42,3 @@ Packed = Claim checks writes ended checked
 
 pub packed : Packed
 packed = claim checks writes ended checked
-
--- The claim, beside both entries' theorems that their code meets the contracts that it speaks of.
-pub record OfTheCode (M : Type 1) : Type 2 where
-  pub check-packed : check-stated.statement M
-  pub write-v0 : write-stated.statement M
-  pub packed : Packed
-
-pub of-the-code : {M : Type 1} → OfTheCode M
-of-the-code = record { check-packed = check-thm.met; write-v0 = write-thm.met; packed = packed }
