@@ -9,6 +9,8 @@ use mathlib.Core.Option.{none, some, Option·none-ne-some}
 use lib.ListN.{length, getD, take, drop, take-append-drop}
 use lib.Dec.{lit≤}
 use denote.Ref.{RefT}
+use borrow.Fn.Kinds.{Out}
+use Rattle.rules.specs.declared.answer.Answer.{Answer}
 use Rattle.rules.specs.Answer.{Ask, ask, buffers, lengths, answer, samples-after, map-after, scratch-after}
 use Rattle.rules.specs.Answer as Answer
 use Rattle.rules.specs.Reader as Reader
@@ -22,7 +24,9 @@ use Rattle.profile.specs.Clean as Profile
 use Rattle.profile.proofs.Lists as Clean-lists
 use Rattle.rules.proofs.Cells.{nil, more}
 use Rattle.rules.proofs.Isolation.{Calls, start, call, Samples, Same, is-direct, position-of, amount-of}
-use Rattle.samsung.proofs.Isolation.{Banded, Cleaned, Entry, returned, checked, plain, in-bands, for-clean, step, last, last-in-bands, last-clean, ended, isolation}
+use Rattle.samsung.proofs.Isolation.{Made, Banded, Cleaned, Entry, returned, checked, plain, in-bands, for-clean, step, last, last-in-bands, last-clean, ended, isolation}
+use Rattle.razvolk.proofs.direct.razvolk_decode_v0_reference.Kinds as direct-kinds
+use Rattle.razvolk.proofs.direct.razvolk_decode_v0_reference_map.Kinds as direct-map-kinds
 use Rattle.razvolk.proofs.Isolation.{Export}
 use Rattle.razvolk.proofs.Isolation as Exports
 
@@ -42,38 +46,38 @@ module _ (s offsets : List ℕ) (w h : ℕ) (samples : List ℕ) where
   abbrev v2-ask : Ask
   v2-ask = ask Answer.v2 s [] w h
 
+  -- What a V0 decoder is lent, and leaves: stream, offsets and size, samples, and what else its parameters are.
+  abbrev lent : {X : Type 0} → List ℕ → X → RefT (List ℕ) × (RefT (List ℕ) × (ℕ × (ℕ × (RefT (List ℕ) × X))))
+  lent samples others = (slice s, (slice offsets, (w, (h, (slice samples, others)))))
+
+  -- A call that is lent samples alone, and one that is lent bytes, too, for a map or scratch: by what it answers and leaves.
+  abbrev alone : {L : Out 3 direct-kinds.ps direct-kinds.r} (told : Answer) (left : List ℕ)
+      → L ([], ([], ([], tt))) (lent samples tt) told (lent left tt) → Made direct-kinds.ps direct-kinds.r L
+  alone told left learnt = record { κs = ([], ([], ([], tt))); args = lent samples tt; result = told; exit = lent left tt; learnt = learnt }
+
+  abbrev with-bytes : {L : Out 4 direct-map-kinds.ps direct-map-kinds.r} (bytes : List ℕ) (told : Answer) (left bytes-left : List ℕ)
+      → L ([], ([], ([], ([], tt)))) (lent samples (slice bytes, tt)) told (lent left (slice bytes-left, tt)) → Made direct-map-kinds.ps direct-map-kinds.r L
+  with-bytes bytes told left bytes-left learnt =
+      record { κs = ([], ([], ([], ([], tt)))); args = lent samples (slice bytes, tt); result = told; exit = lent left (slice bytes-left, tt); learnt = learnt }
+
   abbrev pub direct-call : Export
   direct-call =
-      Exports.direct
-      (record {
-        κs = ([], ([], ([], tt)));
-        args = (slice s, (slice offsets, (w, (h, (slice samples, tt)))));
-        result = answer direct-ask (lengths (buffers samples none none));
-        exit = (slice s, (slice offsets, (w, (h, (slice (samples-after direct-ask (lengths (buffers samples none none)) samples), tt)))));
-        learnt = record { answered = refl; samples = refl; map = refl; scratch = refl };
-      })
+      let l = lengths (buffers samples none none) in
+      Exports.direct (alone (answer direct-ask l) (samples-after direct-ask l samples) (record { answered = refl; samples = refl; map = refl; scratch = refl }))
 
   abbrev pub direct-map-call : List ℕ → Export
   direct-map-call map =
+      let l = lengths (buffers samples (some map) none) in
       Exports.direct-map
-      (record {
-        κs = ([], ([], ([], ([], tt))));
-        args = (slice s, (slice offsets, (w, (h, (slice samples, (slice map, tt))))));
-        result = answer direct-ask (lengths (buffers samples (some map) none));
-        exit = (slice s, (slice offsets, (w, (h, (slice (samples-after direct-ask (lengths (buffers samples (some map) none)) samples), (slice (map-after direct-ask (lengths (buffers samples (some map) none)) map), tt))))));
-        learnt = record { answered = refl; samples = refl; map = refl; scratch = refl };
-      })
+      (with-bytes map (answer direct-ask l) (samples-after direct-ask l samples) (map-after direct-ask l map)
+      (record { answered = refl; samples = refl; map = refl; scratch = refl }))
 
   abbrev pub two-phase-call : List ℕ → Export
   two-phase-call scratch =
+      let l = lengths (buffers samples none (some scratch)) in
       Exports.two-phase
-      (record {
-        κs = ([], ([], ([], ([], tt))));
-        args = (slice s, (slice offsets, (w, (h, (slice samples, (slice scratch, tt))))));
-        result = answer two-phase-ask (lengths (buffers samples none (some scratch)));
-        exit = (slice s, (slice offsets, (w, (h, (slice (samples-after two-phase-ask (lengths (buffers samples none (some scratch))) samples), (slice (scratch-after two-phase-ask (lengths (buffers samples none (some scratch))) scratch), tt))))));
-        learnt = record { answered = refl; samples = refl; map = refl; scratch = refl };
-      })
+      (with-bytes scratch (answer two-phase-ask l) (samples-after two-phase-ask l samples) (scratch-after two-phase-ask l scratch)
+      (record { answered = refl; samples = refl; map = refl; scratch = refl }))
 
   abbrev pub v2-call : Export
   v2-call =
@@ -103,36 +107,28 @@ module _ (s offsets : List ℕ) (w h : ℕ) (samples : List ℕ) where
 
   abbrev pub in-bands-call : List ℕ → ℕ → ℕ → List ℕ → Banded
   in-bands-call scratch bands block-width steps =
-      record {
+      let asked = in-bands-asked scratch bands block-width steps in
+      Exports.banded
+      (record {
         κs = ([], ([], ([], ([], ([], tt)))));
-        args = (slice s, (slice offsets, (w, (h, (slice samples, (slice scratch, (bands, (block-width, (slice steps, tt)))))))));
-        result = Bands.answer (in-bands-asked scratch bands block-width steps);
-        exit = (slice s, (slice offsets, (w, (h, (slice (Bands.samples-after (in-bands-asked scratch bands block-width steps)), (slice (Bands.scratch-after (in-bands-asked scratch bands block-width steps)), (bands, (block-width, (slice steps, tt)))))))));
+        args = lent samples (slice scratch, (bands, (block-width, (slice steps, tt))));
+        result = Bands.answer asked;
+        exit = lent (Bands.samples-after asked) (slice (Bands.scratch-after asked), (bands, (block-width, (slice steps, tt))));
         learnt = record { answered = refl; samples = refl; scratch = refl };
-      }
+      })
 
   -- For clean frames.
   abbrev pub clean-call : Cleaned
   clean-call =
-      Exports.clean
-      (record {
-        κs = ([], ([], ([], tt)));
-        args = (slice s, (slice offsets, (w, (h, (slice samples, tt)))));
-        result = Profile.answer direct-ask (lengths (buffers samples none none));
-        exit = (slice s, (slice offsets, (w, (h, (slice (Profile.samples-after direct-ask (lengths (buffers samples none none)) samples), tt)))));
-        learnt = record { answered = refl; samples = refl; map = refl };
-      })
+      let l = lengths (buffers samples none none) in
+      Exports.clean (alone (Profile.answer direct-ask l) (Profile.samples-after direct-ask l samples) (record { answered = refl; samples = refl; map = refl }))
 
   abbrev pub clean-map-call : List ℕ → Cleaned
   clean-map-call map =
+      let l = lengths (buffers samples (some map) none) in
       Exports.clean-map
-      (record {
-        κs = ([], ([], ([], ([], tt))));
-        args = (slice s, (slice offsets, (w, (h, (slice samples, (slice map, tt))))));
-        result = Profile.answer direct-ask (lengths (buffers samples (some map) none));
-        exit = (slice s, (slice offsets, (w, (h, (slice (Profile.samples-after direct-ask (lengths (buffers samples (some map) none)) samples), (slice (Profile.map-after direct-ask (lengths (buffers samples (some map) none)) map), tt))))));
-        learnt = record { answered = refl; samples = refl; map = refl };
-      })
+      (with-bytes map (Profile.answer direct-ask l) (Profile.samples-after direct-ask l samples) (Profile.map-after direct-ask l map)
+      (record { answered = refl; samples = refl; map = refl }))
 
   -- They ask and find what they are given.
   pub direct-finds : (returned direct-call .ask ≡ direct-ask) × (returned direct-call .found ≡ buffers samples none none)
