@@ -1,11 +1,5 @@
 // The direct V0 decoder's entries.
-ghost use mathlib.Core.Path.{_≡_};
 ghost use mathlib.Core.Option.{none, some};
-ghost use lib.ListN.{length};
-ghost use Rattle.rules.specs.Frame.{cells};
-ghost use Rattle.rules.specs.V0.{frame-filler, decoded};
-ghost use Rattle.rules.specs.Map.{v0-map};
-ghost use Rattle.v0_direct.specs.Lent.{Lends};
 ghost use Rattle.rules.specs.Answer.{direct, ask, buffers, Yields};
 use maps::mark_old;
 use refusals::Lending;
@@ -38,17 +32,6 @@ pub fn decode_v0_reference(
     Answer::done_with(filler)
 }
 
-// A frame's samples and its whole map, which starts all old: how many words were missing.
-fn decode_marked(src: &[u8], offsets: &[u32], size: Size, out: &mut [u16], map: &mut [u8]) -> u64
-    requires { ⌜ Lends size (now offsets) (now out) (now map) × (length (now map) ≡ cells size) ⌝ }
-    ensures { λ r. ⌜ r ≡ frame-filler (now (src .entry)) (now (offsets .entry)) size ⌝ }
-    ensures { λ _. ⌜ now (out .exit) ≡ decoded (now (src .entry)) (now (offsets .entry)) size (now (out .entry)) ⌝ }
-    ensures { λ _. ⌜ now (map .exit) ≡ v0-map (now (src .entry)) (now (offsets .entry)) size ⌝ }
-{
-    mark_old(map);
-    decode_frame(src, offsets, size, out, map)
-}
-
 // The same, and what each sample rests on: old values, filler, both or neither. Refusals 1, 3 and 4.
 pub fn decode_v0_reference_map(
     src: &[u8],
@@ -68,6 +51,8 @@ pub fn decode_v0_reference_map(
         return refused(refusal);
     }
     let n = width * height;
-    let filler = decode_marked(src, offsets, size, &mut out[..n], &mut map[..n]);
+    let marks = &mut map[..n];
+    mark_old(marks);
+    let filler = decode_frame(src, offsets, size, &mut out[..n], marks);
     Answer::done_with(filler)
 }

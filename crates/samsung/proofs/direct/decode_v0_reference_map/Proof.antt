@@ -1,11 +1,15 @@
--- `decode_v0_reference_map` meets its contract: a refusal is the rules', and else the frame's samples and marks are what the decoder leaves.
+-- `decode_v0_reference_map` meets its contract: a refusal is the rules', and else the frame's samples and marks are what the decoder
+-- leaves over a map that is all old.
 use mathlib.Core.Path.{refl, sym, ap, _∙_}
 use mathlib.Core.Logic.{inl}
 use mathlib.Core.Option.{none, some}
 use native.Mathlib.Omega.{arith}
 use borrow.Author.Needs.{needs}
+use lib.ListN.{length, replicate, length-replicate}
 use lib.Seq.{length-take-le}
 use Rattle.rules.specs.Answer.{direct, ask, buffers, done-with, frame-samples, frame-marks, stream-answer}
+use Rattle.rules.specs.V0.{frame}
+use Rattle.rules.specs.Map.{v0-map, v0-marks}
 use Rattle.samsung.proofs.Opening.{Opened, opened, direct-tested, direct-v0, v0-lends}
 use Rattle.samsung.proofs.EntryLaws.{refused-yields, passed-answer, passed-samples, passed-map}
 use Rattle.samsung.proofs.direct.decode_v0_reference_map.Statement.{statement}
@@ -30,22 +34,32 @@ passed c = opened (direct-tested (c .before .refuse-direct .ensures)) (c .if1 .l
 mul-n : tie.Need-mul-n
 mul-n c = omega (arith, passed c .few)
 
-slice-relend-prefix-decode-marked : tie.Need-slice-relend-prefix-decode-marked
-slice-relend-prefix-decode-marked c = passed c .samples-enough
+slice-relend-prefix-marks : tie.Need-slice-relend-prefix-marks
+slice-relend-prefix-marks c = passed c .map-enough _ refl
 
-slice-aggregate-decode-marked : tie.Need-slice-aggregate-decode-marked
-slice-aggregate-decode-marked c = sym (length-take-le _ _ (slice-relend-prefix-decode-marked (c .before)))
+slice-aggregate-marks : tie.Need-slice-aggregate-marks
+slice-aggregate-marks c = sym (length-take-le _ _ (slice-relend-prefix-marks (c .before)))
 
-slice-relend-prefix-decode-marked-2 : tie.Need-slice-relend-prefix-decode-marked-2
-slice-relend-prefix-decode-marked-2 c = passed (c .before) .map-enough _ refl
+mark-old-requires : tie.Need-mark-old-requires
+mark-old-requires c κs = search needs
 
-slice-aggregate-decode-marked-2 : tie.Need-slice-aggregate-decode-marked-2
-slice-aggregate-decode-marked-2 c = sym (length-take-le _ _ (slice-relend-prefix-decode-marked-2 (c .before)))
+-- Places that the answers look back at.
+abbrev after-mark-old : tie.After-slice-known3 → tie.After-mark-old
+after-mark-old c = c .before .before
 
-decode-marked-requires : tie.Need-decode-marked-requires
-decode-marked-requires c κs =
-    let m = sym (slice-aggregate-decode-marked-2 c) in
-    (v0-lends (passed (c .before .before)) direct-v0 _ (inl m), m)
+abbrev else1 : tie.After-mark-old → tie.Else1
+else1 c = c .before .before .before
+
+slice-relend-prefix-decode-frame : tie.Need-slice-relend-prefix-decode-frame
+slice-relend-prefix-decode-frame c = passed (else1 (after-mark-old c)) .samples-enough
+
+slice-aggregate-decode-frame : tie.Need-slice-aggregate-decode-frame
+slice-aggregate-decode-frame c = sym (length-take-le _ _ (slice-relend-prefix-decode-frame (c .before)))
+
+decode-frame-requires : tie.Need-decode-frame-requires
+decode-frame-requires c κs =
+    let m = after-mark-old (c .before) in
+    v0-lends (passed (else1 m)) direct-v0 _ (inl (ap length (m .mark-old .ensures) ∙ length-replicate _ 1 ∙ sym (slice-aggregate-marks (m .before .before))))
 
 done-with-requires : tie.Need-done-with-requires
 done-with-requires c κs = search needs
@@ -56,16 +70,19 @@ same-length c = search needs
 same-length-2 : tie.Need-same-length-2
 same-length-2 c = search needs
 
--- Places that the answers look back at.
-abbrev else1 : tie.After-slice-known3 → tie.Else1
-else1 c = c .before .before .before .before .before
-
 returns-2 : tie.Need-returns-2
-unfolding frame-samples frame-marks stream-answer
+unfolding frame-samples frame-marks stream-answer v0-map
 returns-2 c =
-    let o = passed (else1 (c .before .before .before)) in
-    let d = c .before .before .before .before .before .decode-marked .ensures in
-    record { answered = passed-answer o (c .done-with .ensures ∙ ap done-with (d .0)); samples = passed-samples o (d .1 .0); map = passed-map o _ (d .1 .1); scratch = refl }
+    let m = after-mark-old (c .before .before .before .before .before .before .before) in
+    let o = passed (else1 m) in
+    let ones = m .mark-old .ensures ∙ ap (λ n. replicate n 1) (sym (slice-aggregate-marks (m .before .before))) in
+    let d = c .before .before .before .before .before .decode-frame .ensures in
+    record {
+      answered = passed-answer o (c .done-with .ensures ∙ ap done-with (d .0));
+      samples = passed-samples o (d .1 .0);
+      map = passed-map o _ (d .1 .1 ∙ ap (frame v0-marks _ _ _) ones);
+      scratch = refl;
+    }
 
 pub decode-v0-reference-map-spec : {M : Type 1} → statement M
 decode-v0-reference-map-spec =
@@ -75,11 +92,12 @@ decode-v0-reference-map-spec =
     refused-requires
     returns
     mul-n
-    slice-relend-prefix-decode-marked
-    slice-aggregate-decode-marked
-    slice-relend-prefix-decode-marked-2
-    slice-aggregate-decode-marked-2
-    decode-marked-requires
+    slice-relend-prefix-marks
+    slice-aggregate-marks
+    mark-old-requires
+    slice-relend-prefix-decode-frame
+    slice-aggregate-decode-frame
+    decode-frame-requires
     done-with-requires
     same-length
     same-length-2
