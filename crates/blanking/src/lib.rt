@@ -76,11 +76,14 @@ fn starts(before: u16, mark: u16) -> u16
     if before < mark { 1 } else { 0 }
 }
 
-// The marked samples and the runs of a row. Numbers of 16 bits hold them and can be added many at once.
-fn tally_marked(map: &[u8]) -> Tally
+// The marked samples and the runs of a row; most rows have none. Numbers of 16 bits hold them and can be added many at once.
+fn tally_row(map: &[u8]) -> Tally
     requires { ⌜ length (now map) ≤ 16_384 ⌝ }
     ensures { λ r. ⌜ r ≡ tally (now (map .entry)) (row-runs 0 (now (map .entry))) ⌝ }
 {
+    if greatest_of(map) == 0 {
+        return Tally { marked: 0, runs: 0 };
+    }
     let mut marked: u16 = 0;
     let mut runs: u16 = 0;
     let mut before: u16 = 0;
@@ -96,17 +99,6 @@ fn tally_marked(map: &[u8]) -> Tally
         marked: marked as usize,
         runs: runs as usize,
     }
-}
-
-// The same; most rows have none.
-fn tally_row(map: &[u8]) -> Tally
-    requires { ⌜ length (now map) ≤ 16_384 ⌝ }
-    ensures { λ r. ⌜ r ≡ tally (now (map .entry)) (row-runs 0 (now (map .entry))) ⌝ }
-{
-    if greatest_of(map) == 0 {
-        return Tally { marked: 0, runs: 0 };
-    }
-    tally_marked(map)
 }
 
 // Those of a frame.
@@ -209,38 +201,7 @@ fn put_run(runs: &mut [u32], at: usize, row: usize, first: usize, columns: usize
     runs[at + 2] = columns as u32;
 }
 
-// Blanks a row and lists its runs from a place of the list on, and says where the next row's go.
-fn blank_marked(
-    samples: &mut [u16],
-    map: &[u8],
-    row: usize,
-    fill: Filling,
-    runs: &mut [u32],
-    from: usize,
-) -> usize
-    requires { ⌜ RowLent row (now samples) (now map) from (now runs) ⌝ }
-    ensures { λ r. ⌜
-        RowBlanked (meant fill) row (now (samples .entry)) (now (map .entry)) from (now (runs .entry)) r (now (samples .exit)) (now (runs .exit))
-        ⌝ }
-{
-    let mut at = from;
-    let mut col: usize = 0;
-    while col < map.len() {
-        if map[col] == 0 {
-            col += 1;
-        } else {
-            let columns = stretch_at(map, col);
-            let turns = turns_at(samples, col, fill);
-            set_run(samples, col, columns, turns);
-            put_run(runs, at, row, col, columns);
-            at += 3;
-            col += columns;
-        }
-    }
-    at
-}
-
-// The same; most rows have none.
+// Blanks a row and lists its runs from a place of the list on, and says where the next row's go; most rows have none.
 fn blank_row(
     samples: &mut [u16],
     map: &[u8],
@@ -257,7 +218,21 @@ fn blank_row(
     if greatest_of(map) == 0 {
         return from;
     }
-    blank_marked(samples, map, row, fill, runs, from)
+    let mut at = from;
+    let mut col: usize = 0;
+    while col < map.len() {
+        if map[col] == 0 {
+            col += 1;
+        } else {
+            let columns = stretch_at(map, col);
+            let turns = turns_at(samples, col, fill);
+            set_run(samples, col, columns, turns);
+            put_run(runs, at, row, col, columns);
+            at += 3;
+            col += columns;
+        }
+    }
+    at
 }
 
 // Blanks a frame and lists its runs.
