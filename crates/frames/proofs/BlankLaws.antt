@@ -1,16 +1,14 @@
 -- What the entries that blank owe: each refusal is the definition's, and else what was set and listed is.
 use mathlib.Core.Path.{_≡_, sym, ap, _∙_}
-use mathlib.Core.Bool.{Bool, true, false, _||_, cond}
+use mathlib.Core.Bool.{Bool, true, false, cond}
 use mathlib.Core.List.{List, _++_}
 use Prim.Native.Nat.{ℕ, _+_, _*_, _≤_}
 use native.Mathlib.Omega.{arith}
 use lib.Dec.{ltb, eqb}
 use lib.ListN.{length, drop}
 use lib.Seq.{sets, sets-eq, length-take-le}
-use borrow.Author.Tests.{ne-eqb, ltb-false, le-ltb}
-use Rattle.rules.specs.declared.answer.Size.{Size}
+use borrow.Author.Tests.{ne-eqb, ltb-false}
 use Rattle.rules.specs.Frame.{cells}
-use Rattle.rules.specs.Answer.{too-large, first-of, scratch-bytes}
 use Rattle.refusals.specs.Lending.{short}
 use Rattle.refusals.specs.declared.Lending.the-variants.{Nothing, Length}
 use Rattle.refusals.proofs.RefusalLaws.{Room, room, long-enough}
@@ -20,12 +18,7 @@ use Rattle.blanking.specs.Blanking.{bad-map, blanked, numbers}
 use Rattle.blanking.specs.Calls.{Call, frame-of, marks-of, found, short-runs, refusal, refused, blanked-done, blank-answer, unless-refused, samples-after, runs-after, Yields}
 use Rattle.blanking.specs.Lent.{tally, MapLent, FrameLent}
 use Rattle.blanking.proofs.RunLaws.{numbers-length, rows-most}
-use Rattle.rules.proofs.Tests.{by-test}
-
--- The test of 1, 3 and 4.
-abbrev pub early : Size → ℕ → ℕ → ℕ
-early z samples map =
-    first-of (too-large z) false (ltb samples (cells z) || short Nothing (z .height)) (short (Length map) (cells z) || short Nothing (scratch-bytes z))
+use Rattle.frames.proofs.EarlyLaws.{early, early-then}
 
 -- What is known once tests are passed: 1, 3 and 4 ..
 pub record Lent (c : Call) : Type 0 where
@@ -43,6 +36,11 @@ pub record Fits (c : Call) : Type 0 where
   pub list-room : 3 * length (found c) ≤ length (c .runs)
   pub none-holds : refusal c ≡ 0
 
+refusal-is : (c : Call) {k : ℕ} → k ≡ early (c .size) (length (c .samples)) (Length (length (c .map)))
+    → refusal c ≡ cond (eqb k 0) (cond (bad-map (marks-of c)) 14 (cond (short-runs c) 13 0)) k
+unfolding refusal short
+refusal-is c e = early-then (c .size) (length (c .samples)) (Length (length (c .map))) e _
+
 module _ {c : Call} where
   refused-yields : (k : ℕ) {r : Blanked} → refusal c ≡ k → (k ≡ 0 → ⊥) → r ≡ refused k → Yields c r (c .samples) (c .runs)
   unfolding blank-answer samples-after runs-after unless-refused
@@ -50,23 +48,14 @@ module _ {c : Call} where
       let t : eqb (refusal c) 0 ≡ false = ap (λ m. eqb m 0) e ∙ ne-eqb k 0 n in
       record { answered = q ∙ sym (rw t (ap refused e)); samples-left = sym (rw t); runs-left = sym (rw t) }
 
-  module _ {k : ℕ} (e : k ≡ early (c .size) (length (c .samples)) (length (c .map))) where
+  module _ {k : ℕ} (e : k ≡ early (c .size) (length (c .samples)) (Length (length (c .map)))) where
     -- 1, 3 and 4.
     pub early-yields : {r : Blanked} → (k ≡ 0 → ⊥) → r ≡ refused k → Yields c r (c .samples) (c .runs)
-    unfolding refusal first-of short
-    early-yields n q = refused-yields k (by-test (too-large (c .size))
-        (λ f. rw f (sym (rw f at e)))
-        (λ f. rw f (by-test (ltb (length (c .samples)) (cells (c .size)))
-        (λ g. rw g (sym (rw (f, g) at e)))
-        (λ g. rw g (by-test (ltb (length (c .map)) (cells (c .size)))
-        (λ e₁. rw e₁ (sym (rw (f, g, e₁) at e)))
-        (λ e₁. rw e₁ (absurd (n (rw (f, g, e₁) at e))))))))) n q
+    early-yields n q = refused-yields k (refusal-is c e ∙ rw (ne-eqb k 0 n)) n q
 
     pub lent : k ≡ 0 → Lent c
-    unfolding refusal too-large
     lent passed =
-        let r = room (c .size) false (length (c .samples)) Nothing (Length (length (c .map))) Nothing k e passed in
-        record { room = r; left = rw (le-ltb _ _ (r .wide), le-ltb _ _ (r .high), le-ltb _ _ (r .samples-enough), le-ltb _ _ (long-enough _ _ (r .map-enough))) }
+        record { room = room (c .size) false (length (c .samples)) Nothing (Length (length (c .map))) Nothing k e passed; left = refusal-is c e ∙ rw passed }
 
   module _ (l : Lent c) where
     pub map-there : cells (c .size) ≤ length (c .map)

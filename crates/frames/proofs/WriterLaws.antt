@@ -1,5 +1,5 @@
 -- What the writer's entry owes: each refusal is the definition's, and else what was written is.
-use mathlib.Core.Path.{_≡_, sym, ap, _∙_}
+use mathlib.Core.Path.{_≡_, refl, sym, ap, _∙_}
 use mathlib.Core.Bool.{Bool, true, false, _||_, cond}
 use mathlib.Core.List.{List, _++_}
 use Prim.Native.Nat.{ℕ, _+_, _*_, _<_, _≤_}
@@ -8,16 +8,13 @@ use native.Mathlib.Nat.{zero-add}
 use lib.Dec.{ltb, eqb, lit<}
 use lib.ListN.{length, take, drop}
 use lib.Seq.{sets, sets-eq, length-take-le}
-use borrow.Author.Tests.{ne-eqb, le-ltb}
+use borrow.Author.Tests.{ne-eqb, ltb-false}
 use Rattle.rules.specs.declared.answer.Size.{Size}
 use Rattle.rules.specs.Frame.{cells}
-use Rattle.rules.specs.Answer.{too-large, first-of, scratch-bytes}
+use Rattle.rules.specs.Answer.{too-large}
 use Rattle.rules.specs.V0.{sample-kind, exchange}
 use Rattle.rules.proofs.Cells.{all-get}
-use Rattle.rules.proofs.Tests.{by-test}
-use Rattle.refusals.specs.Lending.{short}
-use Rattle.refusals.specs.declared.Lending.the-variants.{Nothing}
-use Rattle.refusals.proofs.RefusalLaws.{Room, room}
+use Rattle.refusals.proofs.RefusalLaws.{cells-most, size-most}
 use Rattle.writers.specs.declared.Written.{Written}
 use Rattle.writers.specs.Writer.{residuals, offsets-for}
 use Rattle.writers.specs.Calls.{Call, frame-of, stream-of, offsets-of, too-bright, short-output, write-refusal, refused, written, write-answer, unless-refused, stream-after, offsets-after, Yields}
@@ -27,31 +24,51 @@ use Rattle.frame_writer.specs.declared.format.Format.the-variants.{V0}
 use Rattle.frame_writer.specs.Frames.{Writable}
 use Rattle.frame_writer.proofs.CodingLaws.{whole-v0}
 
--- The test of 1 and 3.
-abbrev pub early : Size → ℕ → ℕ
-early z n = first-of (too-large z) false (ltb n (cells z) || short Nothing (z .height)) (short Nothing (cells z) || short Nothing (scratch-bytes z))
+-- ── 1, 3 and 9 ──
 
--- A frame without a sample above 16,383 can be written.
-pub writable : (w h : ℕ) (samples : List ℕ) → Room (record { width = w; height = h }) (length samples) Nothing Nothing Nothing → too-bright (take (w * h) samples) ≡ false
-    → Writable V0 w h (take (w * h) samples)
-writable w h samples p dim =
+-- The first of them that holds, or what the tests after them give.
+abbrev pub first-or : Size → List ℕ → ℕ → ℕ
+first-or z samples rest = cond (too-large z) 1 (cond (ltb (length samples) (cells z)) 3 (cond (too-bright (take (cells z) samples)) 9 rest))
+
+pub first-then : (z : Size) (samples : List ℕ) {k : ℕ} → k ≡ first-or z samples 0 → (rest : ℕ) → first-or z samples rest ≡ cond (eqb k 0) rest k
+first-then z samples e rest = rw e (go (too-large z) (ltb (length samples) (cells z)) (too-bright (take (cells z) samples)))
+  where
+    go : (t1 t3 t9 : Bool) → let k = cond {A = ℕ} t1 1 (cond t3 3 (cond t9 9 0)) in cond t1 1 (cond t3 3 (cond t9 9 rest)) ≡ cond (eqb k 0) rest k
+    go true t3 t9 = refl
+    go false true t9 = refl
+    go false false true = refl
+    go false false false = refl
+
+-- Samples of which none of them holds can be written.
+pub record Lent (z : Size) (samples : List ℕ) : Type 0 where
+  pub few : z .width * z .height ≤ 268_435_456
+  pub enough : cells z ≤ length samples
+  pub writable : Writable V0 (z .width) (z .height) (take (cells z) samples)
+
+none-of : (t1 t3 t9 : Bool) → cond {A = ℕ} t1 1 (cond t3 3 (cond t9 9 0)) ≡ 0 → (t1 ≡ false) × ((t3 ≡ false) × (t9 ≡ false))
+none-of true t3 t9 e = absurd (omega arith)
+none-of false true t9 e = absurd (omega arith)
+none-of false false true e = absurd (omega arith)
+none-of false false false e = (refl, (refl, refl))
+
+pub lent : (z : Size) (samples : List ℕ) {k : ℕ} → k ≡ first-or z samples 0 → k ≡ 0 → Lent z samples
+lent z samples e zero =
+    let f = none-of _ _ _ (sym e ∙ zero) in
+    let m = size-most z (f .0) in
+    let n = ltb-false _ _ (f .1 .0) in
     record {
-      wide = p .wide;
-      high = p .high;
-      blocks = whole-v0 w;
-      whole = length-take-le (w * h) samples (p .samples-enough);
-      dim = λ i. all-get (λ a. a < 16_384) (not-bright (take (w * h) samples) dim) i 0 (lit< tt);
+      few = cells-most _ _ (m .0) (m .1);
+      enough = n;
+      writable = record {
+        wide = m .0;
+        high = m .1;
+        blocks = whole-v0 (z .width);
+        whole = length-take-le (cells z) samples n;
+        dim = λ i. all-get (λ a. a < 16_384) (not-bright (take (cells z) samples) (f .1 .1)) i 0 (lit< tt);
+      };
     }
 
--- What is known once tests are passed: 1 and 3 ..
-pub record Lent (c : Call) : Type 0 where
-  pub room : Room (c .size) (length (c .samples)) Nothing Nothing Nothing
-  pub left : write-refusal c ≡ cond (too-bright (frame-of c)) 9 (cond (short-output c) 10 0)
-
--- .. and 9.
-pub record Dim (c : Call) : Type 0 where
-  pub lent : Lent c
-  pub dim : too-bright (frame-of c) ≡ false
+-- ── The entry ──
 
 module _ {c : Call} where
   refused-yields : (k : ℕ) {r : Written} → write-refusal c ≡ k → (k ≡ 0 → ⊥) → r ≡ refused k → Yields c r (c .stream) (c .offsets)
@@ -60,36 +77,23 @@ module _ {c : Call} where
       let t : eqb (write-refusal c) 0 ≡ false = ap (λ m. eqb m 0) e ∙ ne-eqb k 0 n in
       record { answered = q ∙ sym (rw t (ap refused e)); stream-left = sym (rw t); offsets-left = sym (rw t) }
 
-  module _ {k : ℕ} (e : k ≡ early (c .size) (length (c .samples))) where
-    -- 1 and 3.
-    pub early-yields : {r : Written} → (k ≡ 0 → ⊥) → r ≡ refused k → Yields c r (c .stream) (c .offsets)
-    unfolding write-refusal first-of short
-    early-yields n q = refused-yields k (by-test (too-large (c .size))
-        (λ f. rw f (sym (rw f at e)))
-        (λ f. rw f (by-test (ltb (length (c .samples)) (cells (c .size))) (λ g. rw g (sym (rw (f, g) at e))) (λ g. rw g (absurd (n (rw (f, g) at e))))))) n q
+module _ (c : Call) {k : ℕ} (e : k ≡ first-or (c .size) (c .samples) 0) where
+  refusal-is : write-refusal c ≡ cond (eqb k 0) (cond (short-output c) 10 0) k
+  unfolding write-refusal
+  refusal-is = first-then (c .size) (c .samples) e _
 
-    pub lent : k ≡ 0 → Lent c
-    unfolding write-refusal too-large
-    lent passed =
-        let r = room (c .size) false (length (c .samples)) Nothing Nothing Nothing k e passed in
-        record { room = r; left = rw (le-ltb _ _ (r .wide), le-ltb _ _ (r .high), le-ltb _ _ (r .samples-enough)) }
+  -- 1, 3 and 9.
+  pub early-yields : {r : Written} → (k ≡ 0 → ⊥) → r ≡ refused k → Yields c r (c .stream) (c .offsets)
+  early-yields n q = refused-yields k (refusal-is ∙ rw (ne-eqb k 0 n)) n q
 
-  module _ (l : Lent c) {b : Bool} (t : b ≡ too-bright (frame-of c)) where
-    -- 9.
-    pub bright-yields : {r : Written} → b ≡ true → r ≡ refused 9 → Yields c r (c .stream) (c .offsets)
-    bright-yields f q = refused-yields 9 (l .left ∙ rw (← t, f)) (λ p. let x : 9 ≡ 0 = p in omega arith) q
-
-    pub dim : b ≡ false → Dim c
-    dim f = record { lent = l; dim = sym t ∙ f }
-
-  module _ (d : Dim c) {n : ℕ} (is : n ≡ length (stream-of c)) {s : Bool} (test : s ≡ (ltb (length (c .stream)) n || ltb (length (c .offsets)) (c .size .height))) where
+  module _ (zero : k ≡ 0) {n : ℕ} (is : n ≡ length (stream-of c)) {s : Bool} (test : s ≡ (ltb (length (c .stream)) n || ltb (length (c .offsets)) (c .size .height))) where
     last : write-refusal c ≡ cond s 10 0
     unfolding short-output
-    last = d .lent .left ∙ rw (d .dim, ← is, ← test)
+    last = refusal-is ∙ rw (zero, ← is, ← test)
 
     -- 10.
     pub short-yields : {r : Written} → s ≡ true → r ≡ refused 10 → Yields c r (c .stream) (c .offsets)
-    short-yields q e = refused-yields 10 (last ∙ rw q) (λ p. let x : 10 ≡ 0 = p in omega arith) e
+    short-yields q a = refused-yields 10 (last ∙ rw q) (λ p. let x : 10 ≡ 0 = p in omega arith) a
 
     pub none-holds : s ≡ false → write-refusal c ≡ 0
     none-holds q = last ∙ rw q

@@ -1,8 +1,11 @@
 // The V0 writer's entry.
 ghost use mathlib.Core.Path.{_≡_};
-ghost use mathlib.Core.Bool.{_||_};
+ghost use mathlib.Core.Bool.{_||_, cond};
 ghost use lib.Dec.{ltb};
-ghost use Rattle.writers.specs.Calls.{call, Yields};
+ghost use lib.ListN.{length, take};
+ghost use Rattle.rules.specs.Answer.{too-large};
+ghost use Rattle.rules.specs.Frame.{cells};
+ghost use Rattle.writers.specs.Calls.{call, too-bright, Yields};
 use frame_writer::measure::v0_length;
 use frame_writer::write;
 use refusals::Lending;
@@ -11,6 +14,28 @@ use rules::Answer;
 use rules::Size;
 use writers::Written;
 use writers::is_too_bright;
+
+// The first of 1, 3 and 9 that holds of samples that are to be written, or 0.
+pub fn refuse_samples(samples: &[u16], size: Size) -> u32
+    ensures { λ r. ⌜ r ≡ cond (too-large size) 1 (cond (ltb (length (now (samples .entry))) (cells size)) 3 (cond (too-bright (take (cells size) (now (samples .entry)))) 9 0)) ⌝ }
+{
+    let refusal = refuse(
+        size,
+        false,
+        samples.len(),
+        Lending::Nothing,
+        Lending::Nothing,
+        Lending::Nothing,
+    );
+    if refusal != 0 {
+        return refusal;
+    }
+    let n = size.width * size.height;
+    if is_too_bright(&samples[..n]) {
+        return Answer::TOO_BRIGHT;
+    }
+    0
+}
 
 // 10: a buffer is shorter than what would be written into it.
 fn is_short(stream: usize, length: usize, offsets: usize, rows: usize) -> bool
@@ -34,21 +59,11 @@ pub fn write_v0(
         ⌝ }
 {
     let size = Size { width, height };
-    let refusal = refuse(
-        size,
-        false,
-        samples.len(),
-        Lending::Nothing,
-        Lending::Nothing,
-        Lending::Nothing,
-    );
+    let refusal = refuse_samples(samples, size);
     if refusal != 0 {
         return Written::refused(refusal);
     }
     let n = width * height;
-    if is_too_bright(&samples[..n]) {
-        return Written::refused(Answer::TOO_BRIGHT);
-    }
     let length = v0_length(&samples[..n], width, height);
     if is_short(stream.len(), length, offsets.len(), height) {
         return Written::refused(Answer::SHORT_OUTPUT);

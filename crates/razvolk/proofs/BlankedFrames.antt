@@ -6,7 +6,7 @@
 -- the same N samples, and list the same runs: a blanked frame depends on stream, offsets, size and fill alone. The same of
 -- `razvolk_export_v0`, and of the stream and the offsets that it writes.
 -- Free. What came before; what the buffers first held; what lies past the frame in what is lent, and how long that is.
-use Prim.Native.Nat.{ℕ, _<_}
+use Prim.Native.Nat.{_<_}
 use mathlib.Core.Path.{_≡_, refl}
 use denote.Ref.{now}
 use lib.Dec.{lit<}
@@ -14,7 +14,7 @@ use Rattle.rules.proofs.Isolation.{Step}
 use Rattle.rules.proofs.Isolation as Rules
 use Rattle.samsung.proofs.Isolation.{Made, Entry, step, ended}
 use Rattle.blanking.specs.Blanking.{stated, unstated}
-use Rattle.blanking.specs.Calls.{Call, call}
+use Rattle.blanking.specs.Calls.{call}
 use Rattle.blanking.proofs.EachSample.{Clean, Fits, stated-clean, unstated-clean, stated-fits, unstated-fits}
 use Rattle.blanking.proofs.Isolation.{Blanks, blank-step, blanked-isolation}
 use Rattle.blanking.proofs.Isolation as Blanked

@@ -2,7 +2,7 @@
 -- a call of an exported V2 decoder over any buffer, which is asked for the stream as the converter left it and is lent enough, is
 -- done and leaves the samples that the converter decoded, with no map byte other than 0.
 use Prim.Native.Nat.{ℕ, _*_, _^_, _<_}
-use mathlib.Core.Path.{_≡_, refl, sym, ap, _∙_}
+use mathlib.Core.Path.{_≡_, refl, ap, _∙_}
 use mathlib.Core.List.{List, [], _++_}
 use mathlib.Core.Option.{some, Option·map}
 use denote.Ref.{now}

@@ -19,10 +19,7 @@ use Rattle.refusals.specs.declared.Lending.the-variants.{Nothing, Length}
 use Rattle.refusals.proofs.RefusalLaws.{Room, room, long-enough}
 use Rattle.profile.specs.Profile.{verdict}
 use Rattle.v0_profile.specs.Lent.{Lends}
-use Rattle.writers.specs.Calls.{too-bright}
 use Rattle.writers.specs.Writer.{stream-for}
-use Rattle.frame_writer.specs.declared.format.Format.the-variants.{V0}
-use Rattle.frame_writer.specs.Frames.{Writable}
 use Rattle.packed.specs.Proposal.{Proposal, frame-of, before, scratch-after, same, answer, Yields}
 use Rattle.packed.specs.Proposal as Proposals
 use Rattle.packed.proofs.Exactly.{Begun, begun, before-done, frame, scratch-is}
@@ -46,23 +43,18 @@ same-gone f g i t e l = rw (drop-of-length-le f {i = i} l, drop-of-length-le g {
 
 -- ── Before decoding ──
 
--- What is tested after 1, and 3 of the samples meant: 9, and 3 of the scratch and of the offsets.
-abbrev pub later : Proposal → ℕ → ℕ
-later p n = cond (too-bright (frame-of p)) 9 (cond (short-samples (Proposals.asked p) (Rules.lent n none 0)) 3 0)
+-- 3 of the scratch and of the offsets, which comes after 1, 3 and 9 of the samples meant.
+abbrev later : Proposal → ℕ → ℕ
+later p n = cond (short-samples (Proposals.asked p) (Rules.lent n none 0)) 3 0
 
--- What is known once tests are passed: 1, and 3 of the samples meant ..
+-- What is known once tests are passed: 1, 3 and 9 of the samples meant ..
 pub record MeantLent (p : Proposal) (n : ℕ) : Type 0 where
-  pub room : Room (p .size) (length (p .meant)) Nothing Nothing Nothing
+  pub meant : Writer.Lent (p .size) (p .meant)
   pub left : Proposals.early p n ≡ later p n
-
--- .. then 9 ..
-pub record Dim (p : Proposal) (n : ℕ) : Type 0 where
-  pub meant : MeantLent p n
-  pub dim : too-bright (frame-of p) ≡ false
 
 -- .. then 3 of the scratch and of the offsets ..
 pub record AllLent (p : Proposal) (n : ℕ) : Type 0 where
-  pub dim : Dim p n
+  pub meant : Writer.Lent (p .size) (p .meant)
   pub room : Room (p .size) n (Length (length (p .offsets))) Nothing Nothing
   pub early-none : Proposals.early p n ≡ 0
 
@@ -75,53 +67,37 @@ refused-before : (p : Proposal) (n k : ℕ) {r : Answer} → Proposals.early p n
 unfolding before
 refused-before p n k e ne q = q ∙ sym (rw (e, ne-eqb k 0 ne))
 
-module _ (p : Proposal) (n : ℕ) {k : ℕ} (e : k ≡ Writer.early (p .size) (length (p .meant))) where
-  -- 1, and 3 of the samples meant.
+module _ (p : Proposal) (n : ℕ) {k : ℕ} (e : k ≡ Writer.first-or (p .size) (p .meant) 0) where
+  first-is : Proposals.early p n ≡ cond (eqb k 0) (later p n) k
+  unfolding Proposals.early
+  first-is = Writer.first-then (p .size) (p .meant) e _
+
+  -- 1, 3 and 9 of the samples meant.
   pub early-before : {r : Answer} → (k ≡ 0 → ⊥) → r ≡ refused k → r ≡ before p n
-  unfolding Proposals.early first-of short
-  early-before ne q = refused-before p n k (go (too-large (p .size)) (ltb (length (p .meant)) (cells (p .size))) e) ne q
-    where
-      go : (t1 t3 : Bool) → k ≡ first-of t1 false (t3 || false) (false || false) → cond t1 1 (cond t3 3 (later p n)) ≡ k
-      go true t3 q = sym q
-      go false true q = sym q
-      go false false q = absurd (ne q)
+  early-before ne q = refused-before p n k (first-is ∙ rw (ne-eqb k 0 ne)) ne q
 
   pub meant-lent : k ≡ 0 → MeantLent p n
-  unfolding Proposals.early too-large
-  meant-lent passed =
-      let r = room (p .size) false (length (p .meant)) Nothing Nothing Nothing k e passed in
-      record { room = r; left = rw (le-ltb _ _ (r .wide), le-ltb _ _ (r .high), le-ltb _ _ (r .samples-enough)) }
+  meant-lent passed = record { meant = Writer.lent (p .size) (p .meant) e passed; left = first-is ∙ rw passed }
 
 module _ {p : Proposal} {n : ℕ} where
-  module _ (m : MeantLent p n) {b : Bool} (bright : b ≡ too-bright (frame-of p)) where
-    -- 9.
-    pub bright-before : {r : Answer} → b ≡ true → r ≡ refused 9 → r ≡ before p n
-    bright-before t q = refused-before p n 9 (m .left ∙ rw (← bright, t)) (λ x. let y : 9 ≡ 0 = x in omega arith) q
-
-    pub dim : b ≡ false → Dim p n
-    dim t = record { meant = m; dim = sym bright ∙ t }
-
-  module _ (d : Dim p n) {j : ℕ} (second : j ≡ first-of (too-large (p .size)) false (ltb n (cells (p .size)) || short (Length (length (p .offsets))) (p .size .height))
+  module _ (m : MeantLent p n) {j : ℕ} (second : j ≡ first-of (too-large (p .size)) false (ltb n (cells (p .size)) || short (Length (length (p .offsets))) (p .size .height))
       (short Nothing (cells (p .size)) || short Nothing (scratch-bytes (p .size)))) where
     early-is : Proposals.early p n ≡ j
     unfolding first-of short short-samples short-offsets too-large
     early-is =
-        let r = d .meant .room in
-        d .meant .left ∙ rw (d .dim) (sym (second ∙ rw (le-ltb _ _ (r .wide), le-ltb _ _ (r .high))))
+        let w = m .meant .writable in
+        m .left ∙ sym (second ∙ rw (le-ltb _ _ (w .wide), le-ltb _ _ (w .high)))
 
     -- 3 of the scratch and of the offsets.
     pub short-before : {r : Answer} → (j ≡ 0 → ⊥) → r ≡ refused j → r ≡ before p n
     short-before ne q = refused-before p n j early-is ne q
 
     pub all-lent : j ≡ 0 → AllLent p n
-    all-lent passed = record { dim = d; room = room (p .size) false n (Length (length (p .offsets))) Nothing Nothing j second passed; early-none = early-is ∙ passed }
+    all-lent passed = record { meant = m .meant; room = room (p .size) false n (Length (length (p .offsets))) Nothing Nothing j second passed; early-none = early-is ∙ passed }
 
   module _ (l : AllLent p n) where
     pub checkable : Lends (p .size) (p .offsets)
     checkable = record { width = l .room .wide; height = l .room .high; offsets-enough = long-enough _ _ (l .room .offsets-enough) }
-
-    pub writable : Writable V0 (p .size .width) (p .size .height) (frame-of p)
-    writable = Writer.writable (p .size .width) (p .size .height) (p .meant) (l .dim .meant .room) (l .dim .dim)
 
     module _ {v : Answer} (told : v ≡ verdict (p .stream) (p .offsets) (p .size)) where
       -- 17 to 19.

@@ -5,15 +5,14 @@ ghost use lib.Dec.{eqb};
 ghost use lib.ListN.{length};
 ghost use Rattle.packed.specs.Proposal.{proposal, before, same, Yields};
 use frame_writer::measure::v0_length;
+use frames::writer::refuse_samples;
 use refusals::Lending;
-use refusals::refuse;
 use refusals::refuse_direct;
 use refusals::refused;
 use rules::Answer;
 use rules::Size;
 use samsung::decode_v0_reference;
 use v0_profile::check_frame;
-use writers::is_too_bright;
 
 // What is answered before a sample is decoded: done, if nothing is wrong so far.
 fn check_before(
@@ -27,20 +26,9 @@ fn check_before(
     ensures { λ r. ⌜ r ≡ before (proposal (now (src .entry)) (now (offsets .entry)) width height (now (meant .entry))) scratch ⌝ }
 {
     let size = Size { width, height };
-    let refusal = refuse(
-        size,
-        false,
-        meant.len(),
-        Lending::Nothing,
-        Lending::Nothing,
-        Lending::Nothing,
-    );
+    let refusal = refuse_samples(meant, size);
     if refusal != 0 {
         return refused(refusal);
-    }
-    let n = width * height;
-    if is_too_bright(&meant[..n]) {
-        return refused(Answer::TOO_BRIGHT);
     }
     let short = refuse_direct(size, scratch, offsets.len(), Lending::Nothing);
     if short != 0 {
@@ -50,6 +38,7 @@ fn check_before(
     if told.number != 0 {
         return told;
     }
+    let n = width * height;
     if v0_length(&meant[..n], width, height) < src.len() {
         return refused(Answer::LONG_STREAM);
     }
