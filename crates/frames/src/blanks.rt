@@ -32,11 +32,8 @@ fn blank_by(
     fill: Filling,
     runs: &mut [u32],
 ) -> Blanked
-    ensures { λ r. ⌜
-        Yields
-        (call (meant fill) (now (samples .entry)) (now (map .entry)) width height (now (runs .entry)))
-        r (now (samples .exit)) (now (runs .exit))
-        ⌝ }
+    ensures { λ r. ⌜ Yields (call (meant fill) (now (samples .entry)) (now (map .entry)) width height (now (runs .entry)))
+        r (now (samples .exit)) (now (runs .exit)) ⌝ }
 {
     let size = Size { width, height };
     let refusal = refuse(
@@ -71,11 +68,8 @@ pub fn blank_with(
     fill: u16,
     runs: &mut [u32],
 ) -> Blanked
-    ensures { λ r. ⌜
-        Yields
-        (call (stated fill) (now (samples .entry)) (now (map .entry)) width height (now (runs .entry)))
-        r (now (samples .exit)) (now (runs .exit))
-        ⌝ }
+    ensures { λ r. ⌜ Yields (call (stated fill) (now (samples .entry)) (now (map .entry)) width height (now (runs .entry)))
+        r (now (samples .exit)) (now (runs .exit)) ⌝ }
 {
     blank_by(samples, map, width, height, Filling::Stated(fill), runs)
 }
@@ -88,11 +82,8 @@ pub fn blank(
     height: usize,
     runs: &mut [u32],
 ) -> Blanked
-    ensures { λ r. ⌜
-        Yields
-        (call unstated (now (samples .entry)) (now (map .entry)) width height (now (runs .entry)))
-        r (now (samples .exit)) (now (runs .exit))
-        ⌝ }
+    ensures { λ r. ⌜ Yields (call unstated (now (samples .entry)) (now (map .entry)) width height (now (runs .entry)))
+        r (now (samples .exit)) (now (runs .exit)) ⌝ }
 {
     blank_by(samples, map, width, height, Filling::Unstated, runs)
 }

@@ -52,11 +52,8 @@ pub fn write_v0(
     stream: &mut [u8],
     offsets: &mut [u32],
 ) -> Written
-    ensures { λ r. ⌜
-        Yields
-        (call (now (samples .entry)) width height (now (stream .entry)) (now (offsets .entry)))
-        r (now (stream .exit)) (now (offsets .exit))
-        ⌝ }
+    ensures { λ r. ⌜ Yields (call (now (samples .entry)) width height (now (stream .entry)) (now (offsets .entry)))
+        r (now (stream .exit)) (now (offsets .exit)) ⌝ }
 {
     let size = Size { width, height };
     let refusal = refuse_samples(samples, size);

@@ -16,11 +16,8 @@ pub extern "C" fn razvolk_blank_with(
     fill: u16,
     runs: &mut [u32],
 ) -> Blanked
-    ensures { λ r. ⌜
-        Yields
-        (call (stated fill) (now (samples .entry)) (now (map .entry)) width height (now (runs .entry)))
-        r (now (samples .exit)) (now (runs .exit))
-        ⌝ }
+    ensures { λ r. ⌜ Yields (call (stated fill) (now (samples .entry)) (now (map .entry)) width height (now (runs .entry)))
+        r (now (samples .exit)) (now (runs .exit)) ⌝ }
 {
     frames::blank_with(samples, map, width, height, fill, runs)
 }
@@ -34,11 +31,8 @@ pub extern "C" fn razvolk_blank(
     height: usize,
     runs: &mut [u32],
 ) -> Blanked
-    ensures { λ r. ⌜
-        Yields
-        (call unstated (now (samples .entry)) (now (map .entry)) width height (now (runs .entry)))
-        r (now (samples .exit)) (now (runs .exit))
-        ⌝ }
+    ensures { λ r. ⌜ Yields (call unstated (now (samples .entry)) (now (map .entry)) width height (now (runs .entry)))
+        r (now (samples .exit)) (now (runs .exit)) ⌝ }
 {
     frames::blank(samples, map, width, height, runs)
 }
@@ -55,11 +49,8 @@ pub extern "C" fn razvolk_export_v0(
     stream: &mut [u8],
     offsets: &mut [u32],
 ) -> Exported
-    ensures { λ r. ⌜
-        Export.Yields
-        (export (now (samples .entry)) (now (map .entry)) width height (now (runs .entry)) (now (stream .entry)) (now (offsets .entry)))
-        r (now (samples .exit)) (now (runs .exit)) (now (stream .exit)) (now (offsets .exit))
-        ⌝ }
+    ensures { λ r. ⌜ Export.Yields (export (now (samples .entry)) (now (map .entry)) width height (now (runs .entry)) (now (stream .entry)) (now (offsets .entry)))
+        r (now (samples .exit)) (now (runs .exit)) (now (stream .exit)) (now (offsets .exit)) ⌝ }
 {
     frames::export_v0(samples, map, width, height, runs, stream, offsets)
 }

@@ -12,11 +12,8 @@ pub extern "C" fn razvolk_check_packed(
     meant: &[u16],
     scratch: &mut [u16],
 ) -> Answer
-    ensures { λ r. ⌜
-        Yields
-        (proposal (now (src .entry)) (now (offsets .entry)) width height (now (meant .entry)))
-        (now (scratch .entry)) r (now (scratch .exit))
-        ⌝ }
+    ensures { λ r. ⌜ Yields (proposal (now (src .entry)) (now (offsets .entry)) width height (now (meant .entry)))
+        (now (scratch .entry)) r (now (scratch .exit)) ⌝ }
 {
     transcode::check_packed(src, offsets, width, height, meant, scratch)
 }

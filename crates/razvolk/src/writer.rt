@@ -12,11 +12,8 @@ pub extern "C" fn razvolk_write_v0(
     stream: &mut [u8],
     offsets: &mut [u32],
 ) -> Written
-    ensures { λ r. ⌜
-        Yields
-        (call (now (samples .entry)) width height (now (stream .entry)) (now (offsets .entry)))
-        r (now (stream .exit)) (now (offsets .exit))
-        ⌝ }
+    ensures { λ r. ⌜ Yields (call (now (samples .entry)) width height (now (stream .entry)) (now (offsets .entry)))
+        r (now (stream .exit)) (now (offsets .exit)) ⌝ }
 {
     frames::write_v0(samples, width, height, stream, offsets)
 }

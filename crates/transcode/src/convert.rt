@@ -60,11 +60,8 @@ pub fn v0_to_v2(
     map: &mut [u8],
     stream: &mut [u8],
 ) -> Written
-    ensures { λ r. ⌜
-        Yields
-        (call (now (src .entry)) (now (offsets .entry)) width height (now (samples .entry)) (now (map .entry)) (now (stream .entry)))
-        r (now (samples .exit)) (now (map .exit)) (now (stream .exit))
-        ⌝ }
+    ensures { λ r. ⌜ Yields (call (now (src .entry)) (now (offsets .entry)) width height (now (samples .entry)) (now (map .entry)) (now (stream .entry)))
+        r (now (samples .exit)) (now (map .exit)) (now (stream .exit)) ⌝ }
 {
     let size = Size { width, height };
     let refusal = refuse(

@@ -76,11 +76,8 @@ pub fn check_packed(
     meant: &[u16],
     scratch: &mut [u16],
 ) -> Answer
-    ensures { λ r. ⌜
-        Yields
-        (proposal (now (src .entry)) (now (offsets .entry)) width height (now (meant .entry)))
-        (now (scratch .entry)) r (now (scratch .exit))
-        ⌝ }
+    ensures { λ r. ⌜ Yields (proposal (now (src .entry)) (now (offsets .entry)) width height (now (meant .entry)))
+        (now (scratch .entry)) r (now (scratch .exit)) ⌝ }
 {
     let told = check_before(src, offsets, width, height, meant, scratch.len());
     if told.number != 0 {
