@@ -62,27 +62,25 @@ columns-back w n k p h =
     ∙ ap (λ y. weave (take (even-count w) (drop (k * even-count w) p)) (take (odd-count w) y)) (drop-drop (k * odd-count w) (n * even-count w) p)
 
 module _ (z : Size) (p : List ℕ) where
+  abbrev odd-half : List ℕ
+  odd-half = drop (even-count (z .height) * z .width) p
+
+  -- The rows of either parity.
+  row-counts : (length (from-columns (z .width) (even-count (z .height)) p) ≡ even-count (z .height))
+      × (length (from-columns (z .width) (odd-count (z .height)) odd-half) ≡ odd-count (z .height))
+  row-counts = (woven-length _ _ (even-count (z .height)) _ _, woven-length _ _ (odd-count (z .height)) _ _)
+
   pub back-length : length (rows-back z p) ≡ z .height
   unfolding rows-back
-  back-length =
-      weave-length _ _ ∙ ap₂ (λ x y. x + y) (woven-length _ _ (even-count (z .height)) _ _) (woven-length _ _ (odd-count (z .height)) _ _) ∙ halves (z .height)
+  back-length = weave-length _ _ ∙ ap₂ _+_ (row-counts .0) (row-counts .1) ∙ halves (z .height)
 
   back-even : (k : ℕ) → 2 * k < z .height → getD (rows-back z p) (2 * k) [] ≡ row-taken (z .width) (even-count (z .height)) k p
   unfolding rows-back
-  back-even k h =
-      let u = woven-length (even-count (z .width)) (odd-count (z .width)) (even-count (z .height)) p (drop (even-count (z .height) * even-count (z .width)) p) in
-      let q = drop (even-count (z .height) * z .width) p in
-      let v = woven-length (even-count (z .width)) (odd-count (z .width)) (odd-count (z .height)) q (drop (odd-count (z .height) * even-count (z .width)) q) in
-      weave-even _ _ (omega arith) (omega arith) k [] ∙ columns-back (z .width) (even-count (z .height)) k p (omega arith)
+  back-even k h = weave-even _ _ (omega (arith, row-counts)) (omega (arith, row-counts)) k [] ∙ columns-back (z .width) (even-count (z .height)) k p (omega arith)
 
-  back-odd : (k : ℕ) → 2 * k + 1 < z .height
-      → getD (rows-back z p) (2 * k + 1) [] ≡ row-taken (z .width) (odd-count (z .height)) k (drop (even-count (z .height) * z .width) p)
+  back-odd : (k : ℕ) → 2 * k + 1 < z .height → getD (rows-back z p) (2 * k + 1) [] ≡ row-taken (z .width) (odd-count (z .height)) k odd-half
   unfolding rows-back
-  back-odd k h =
-      let u = woven-length (even-count (z .width)) (odd-count (z .width)) (even-count (z .height)) p (drop (even-count (z .height) * even-count (z .width)) p) in
-      let q = drop (even-count (z .height) * z .width) p in
-      let v = woven-length (even-count (z .width)) (odd-count (z .width)) (odd-count (z .height)) q (drop (odd-count (z .height) * even-count (z .width)) q) in
-      weave-odd _ _ (omega arith) (omega arith) k [] ∙ columns-back (z .width) (odd-count (z .height)) k q (omega arith)
+  back-odd k h = weave-odd _ _ (omega (arith, row-counts)) (omega (arith, row-counts)) k [] ∙ columns-back (z .width) (odd-count (z .height)) k odd-half (omega arith)
 
 -- Where the half that has a row's parity starts.
 abbrev pub start : Size → ℕ → ℕ

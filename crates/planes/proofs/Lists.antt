@@ -55,28 +55,21 @@ module _ {A : Type 0} where
 
   -- Of two lists in turn, of which the first has as many elements as the second or one more, the even places are the one and the
   -- odd ones the other.
-  pub evens-weave : (l m : List A) → length m ≤ length l → length l ≤ length m + 1 → evens (weave l m) ≡ l
+  pub columns-weave : (l m : List A) → length m ≤ length l → length l ≤ length m + 1 → (evens (weave l m) ≡ l) × (odds (weave l m) ≡ m)
   unfolding evens weave
-  evens-weave [] [] p q = refl
-  evens-weave [] (b ∷ m) p q = absurd (omega arith)
-  evens-weave (a ∷ []) [] p q = refl
-  evens-weave (a ∷ b ∷ l) [] p q = absurd (omega arith)
-  evens-weave (a ∷ l) (b ∷ m) p q = ap (λ k. a ∷ k) (evens-weave l m (omega arith) (omega arith))
-
-  pub odds-weave : (l m : List A) → length m ≤ length l → length l ≤ length m + 1 → odds (weave l m) ≡ m
-  unfolding evens weave
-  odds-weave [] [] p q = refl
-  odds-weave [] (b ∷ m) p q = absurd (omega arith)
-  odds-weave (a ∷ []) [] p q = refl
-  odds-weave (a ∷ b ∷ l) [] p q = absurd (omega arith)
-  odds-weave (a ∷ l) (b ∷ m) p q = evens-more b (weave l m) ∙ ap (λ k. b ∷ k) (odds-weave l m (omega arith) (omega arith))
+  columns-weave [] [] p q = (refl, refl)
+  columns-weave [] (b ∷ m) p q = absurd (omega arith)
+  columns-weave (a ∷ []) [] p q = (refl, refl)
+  columns-weave (a ∷ b ∷ l) [] p q = absurd (omega arith)
+  columns-weave (a ∷ l) (b ∷ m) p q =
+      let r = columns-weave l m (omega arith) (omega arith) in (ap (λ k. a ∷ k) (r .0), evens-more b (weave l m) ∙ ap (λ k. b ∷ k) (r .1))
 
   module _ (l m : List A) (p : length m ≤ length l) (q : length l ≤ length m + 1) where
     pub weave-even : (k : ℕ) (d : A) → getD (weave l m) (2 * k) d ≡ getD l k d
-    weave-even k d = sym (evens-get (weave l m) k d) ∙ ap (λ x. getD x k d) (evens-weave l m p q)
+    weave-even k d = sym (evens-get (weave l m) k d) ∙ ap (λ x. getD x k d) (columns-weave l m p q .0)
 
     pub weave-odd : (k : ℕ) (d : A) → getD (weave l m) (2 * k + 1) d ≡ getD m k d
-    weave-odd k d = sym (columns-get (weave l m) 1 k d) ∙ ap (λ x. getD x k d) (odds-weave l m p q)
+    weave-odd k d = sym (columns-get (weave l m) 1 k d) ∙ ap (λ x. getD x k d) (columns-weave l m p q .1)
 
   pub weave-length : (l m : List A) → length (weave l m) ≡ length l + length m
   unfolding weave

@@ -11,7 +11,7 @@ use Rattle.rules.specs.Frame.{cells}
 use Rattle.rules.proofs.Cells.{All, all-drop}
 use Rattle.rules.proofs.Cells.All.{nil, more}
 use Rattle.planes.specs.Planes.{evens, odds, rows, by-columns, to-planes, even-count, odd-count, weave, woven, from-columns, rows-back, from-planes}
-use Rattle.planes.proofs.Lists.{evens-length, odds-length, weave-evens-odds, evens-weave, odds-weave, weave-length, all-evens, all-weave}
+use Rattle.planes.proofs.Lists.{evens-length, odds-length, weave-evens-odds, columns-weave, weave-length, all-evens, all-weave}
 
 pub halves : (n : ℕ) → even-count n + odd-count n ≡ n
 halves n = omega arith
@@ -57,22 +57,17 @@ module _ {A : Type 0} where
 
   -- ── Rows of one parity, by columns and back ──
 
-  even-columns-length : (w : ℕ) {rs : List (List A)} → Wide w rs → length (flatMap evens rs) ≡ length rs * even-count w
+  part-length : (part : List A → List A) (count : ℕ → ℕ) → ((r : List A) → length (part r) ≡ count (length r)) → (w : ℕ) {rs : List (List A)} → Wide w rs
+      → length (flatMap part rs) ≡ length rs * count w
   unfolding flatMap
-  even-columns-length w nil = omega arith
-  even-columns-length w (more {a = r} {xs = rs} e es) =
-      omega (arith, length-append (evens r) (flatMap evens rs), ap even-count e, evens-length r, even-columns-length w es)
-
-  odd-columns-length : (w : ℕ) {rs : List (List A)} → Wide w rs → length (flatMap odds rs) ≡ length rs * odd-count w
-  unfolding flatMap
-  odd-columns-length w nil = omega arith
-  odd-columns-length w (more {a = r} {xs = rs} e es) =
-      omega (arith, length-append (odds r) (flatMap odds rs), ap odd-count e, odds-length r, odd-columns-length w es)
+  part-length part count counted w nil = omega arith
+  part-length part count counted w (more {a = r} {xs = rs} e es) =
+      omega (arith, length-append (part r) (flatMap part rs), ap count e, counted r, part-length part count counted w es)
 
   by-columns-length : (w : ℕ) {rs : List (List A)} → Wide w rs → length (by-columns rs) ≡ length rs * w
   unfolding by-columns
   by-columns-length w {rs} ws =
-      length-append (flatMap evens rs) (flatMap odds rs) ∙ ap₂ (λ a b. a + b) (even-columns-length w ws) (odd-columns-length w ws) ∙ columns-all (length rs) w
+      length-append (flatMap evens rs) (flatMap odds rs) ∙ ap₂ (λ a b. a + b) (part-length evens even-count evens-length w ws) (part-length odds odd-count odds-length w ws) ∙ columns-all (length rs) w
 
   -- Rows woven out of their own columns.
   woven-columns : (w : ℕ) {rs : List (List A)} → Wide w rs → (s t : List A)
@@ -88,38 +83,25 @@ module _ {A : Type 0} where
   from-by-columns : (w n : ℕ) {rs : List (List A)} → Wide w rs → length rs ≡ n → (t : List A) → from-columns w n (by-columns rs ++ t) ≡ rs
   unfolding by-columns
   from-by-columns w n {rs} ws e t =
-      let d : length (flatMap evens rs) ≡ n * even-count w = even-columns-length w ws ∙ ap (λ k. k * even-count w) e in
+      let d : length (flatMap evens rs) ≡ n * even-count w = part-length evens even-count evens-length w ws ∙ ap (λ k. k * even-count w) e in
       rw (append-assoc (flatMap evens rs) (flatMap odds rs) t, drop-at (flatMap evens rs) (flatMap odds rs ++ t) _ d, ← e) (woven-columns w ws (flatMap odds rs ++ t) t)
 
   -- Columns of woven rows.
   module _ (w : ℕ) where
-    woven-row : (p q : List A) → even-count w ≤ length p → odd-count w ≤ length q
-        → (length (take (odd-count w) q) ≤ length (take (even-count w) p)) × (length (take (even-count w) p) ≤ length (take (odd-count w) q) + 1)
-    woven-row p q a b =
-        let e = length-take-le (even-count w) p a in
-        let o = length-take-le (odd-count w) q b in (omega arith, omega arith)
-
-    even-columns-woven : (n : ℕ) (p q : List A) → n * even-count w ≤ length p → n * odd-count w ≤ length q
-        → flatMap evens (woven (even-count w) (odd-count w) n p q) ≡ take (n * even-count w) p
+    columns-woven : (n : ℕ) (p q : List A) → n * even-count w ≤ length p → n * odd-count w ≤ length q
+        → (flatMap evens (woven (even-count w) (odd-count w) n p q) ≡ take (n * even-count w) p)
+        × (flatMap odds (woven (even-count w) (odd-count w) n p q) ≡ take (n * odd-count w) q)
     unfolding woven flatMap
-    even-columns-woven zero p q a b = rw (zero-mul (even-count w))
-    even-columns-woven (suc n) p q a b =
-        let r = woven-row p q (omega arith) (omega arith) in
-        let m : suc n * even-count w ≡ even-count w + n * even-count w = omega arith in
-        ap₂ (λ l k. l ++ k) (evens-weave _ _ (r .0) (r .1))
-        (even-columns-woven n (drop (even-count w) p) (drop (odd-count w) q) (omega (arith, length-drop (even-count w) p)) (omega (arith, length-drop (odd-count w) q)))
-        ∙ sym (ap (λ k. take k p) m ∙ take-add (even-count w) (n * even-count w) p)
-
-    odd-columns-woven : (n : ℕ) (p q : List A) → n * even-count w ≤ length p → n * odd-count w ≤ length q
-        → flatMap odds (woven (even-count w) (odd-count w) n p q) ≡ take (n * odd-count w) q
-    unfolding woven flatMap
-    odd-columns-woven zero p q a b = rw (zero-mul (odd-count w))
-    odd-columns-woven (suc n) p q a b =
-        let r = woven-row p q (omega arith) (omega arith) in
-        let m : suc n * odd-count w ≡ odd-count w + n * odd-count w = omega arith in
-        ap₂ (λ l k. l ++ k) (odds-weave _ _ (r .0) (r .1))
-        (odd-columns-woven n (drop (even-count w) p) (drop (odd-count w) q) (omega (arith, length-drop (even-count w) p)) (omega (arith, length-drop (odd-count w) q)))
-        ∙ sym (ap (λ k. take k q) m ∙ take-add (odd-count w) (n * odd-count w) q)
+    columns-woven zero p q a b = rw (zero-mul (even-count w), zero-mul (odd-count w)) (refl, refl)
+    columns-woven (suc n) p q a b =
+        let e = length-take-le (even-count w) p (omega arith) in
+        let o = length-take-le (odd-count w) q (omega arith) in
+        let r = columns-weave (take (even-count w) p) (take (odd-count w) q) (omega arith) (omega arith) in
+        let k = columns-woven n (drop (even-count w) p) (drop (odd-count w) q) (omega (arith, length-drop (even-count w) p)) (omega (arith, length-drop (odd-count w) q)) in
+        (ap₂ _++_ (r .0) (k .0) ∙ sym (take-more (even-count w) p), ap₂ _++_ (r .1) (k .1) ∙ sym (take-more (odd-count w) q))
+      where
+        take-more : (i : ℕ) (l : List A) → take (suc n * i) l ≡ take i l ++ take (n * i) (drop i l)
+        take-more i l = let m : suc n * i ≡ i + n * i = omega arith in ap (λ k. take k l) m ∙ take-add i (n * i) l
 
     woven-wide : (n : ℕ) (p q : List A) → n * even-count w ≤ length p → n * odd-count w ≤ length q → Wide w (woven (even-count w) (odd-count w) n p q)
     unfolding woven
@@ -144,7 +126,8 @@ module _ {A : Type 0} where
   unfolding by-columns
   by-from-columns w n p l =
       let r = columns-room w n p l in
-      ap₂ (λ x y. x ++ y) (even-columns-woven w n _ _ (r .0) (r .1)) (odd-columns-woven w n _ _ (r .0) (r .1))
+      let c = columns-woven w n _ _ (r .0) (r .1) in
+      ap₂ _++_ (c .0) (c .1)
       ∙ sym (take-add (n * even-count w) (n * odd-count w) p) ∙ ap (λ k. take k p) (columns-all n w)
 
   from-columns-wide : (w n : ℕ) (p : List A) → n * w ≤ length p → Wide w (from-columns w n p)
@@ -189,8 +172,7 @@ module _ {A : Type 0} where
       let wide : Wide w (weave us vs) = all-weave _ (from-columns-wide w n p (omega arith)) (from-columns-wide w m q (omega arith)) in
       let high : length (weave us vs) ≡ h = weave-length us vs ∙ ap₂ (λ x y. x + y) lu lv ∙ halves h in
       let rs : rows w h (flatten (weave us vs)) ≡ weave us vs = rw high at (rows-flatten w wide) in
-      ap₂ (λ x y. by-columns x ++ by-columns y)
-      (ap evens rs ∙ evens-weave us vs (omega arith) (omega arith))
-      (ap odds rs ∙ odds-weave us vs (omega arith) (omega arith))
+      let c = columns-weave us vs (omega arith) (omega arith) in
+      ap₂ (λ x y. by-columns x ++ by-columns y) (ap evens rs ∙ c .0) (ap odds rs ∙ c .1)
       ∙ ap₂ (λ x y. x ++ y) (by-from-columns w n p (omega arith)) (by-from-columns w m q (omega arith) ∙ take-all (m * w) q (omega arith))
       ∙ take-append-drop (n * w) p
