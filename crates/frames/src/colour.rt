@@ -1,5 +1,7 @@
 // A frame into its colour planes, and the way back: out of one lent buffer into another.
+ghost use mathlib.Core.Bool.{cond};
 ghost use mathlib.Core.Path.{_≡_};
+ghost use Rattle.planes.specs.Lent.{Lends};
 ghost use Rattle.planes.specs.Planes.{to-planes, from-planes};
 ghost use Rattle.frames.specs.Moved.{refusal, answer, after};
 use refusals::is_too_large;
@@ -24,19 +26,39 @@ fn refuse(size: Size, read: usize, written: usize) -> u32
     0
 }
 
+// A frame's samples into its planes, or the planes back into the samples.
+fn carry(read: &[u16], size: Size, written: &mut [u16], back: bool)
+    requires { ⌜ Lends size (now read) (now written) ⌝ }
+    ensures { λ _. ⌜ now (written .exit) ≡ cond back from-planes to-planes size (now (read .entry)) ⌝ }
+{
+    if back {
+        planes::from_planes(read, size, written);
+        return;
+    }
+    planes::to_planes(read, size, written);
+}
+
+// The same of the first N samples of two lent buffers. Refusals 1 and 3.
+fn carry_lent(read: &[u16], width: usize, height: usize, written: &mut [u16], back: bool) -> Answer
+    ensures { λ r. ⌜ r ≡ answer width height (now (read .entry)) (now (written .entry)) ⌝ }
+    ensures { λ _. ⌜ now (written .exit) ≡ after (cond back from-planes to-planes) width height (now (read .entry)) (now (written .entry)) ⌝ }
+{
+    let size = Size { width, height };
+    let refusal = refuse(size, read.len(), written.len());
+    if refusal != 0 {
+        return refused(refusal);
+    }
+    let n = width * height;
+    carry(&read[..n], size, &mut written[..n], back);
+    Answer::done()
+}
+
 // A frame's samples into its planes. Refusals 1 and 3.
 pub fn to_planes(samples: &[u16], width: usize, height: usize, planes: &mut [u16]) -> Answer
     ensures { λ r. ⌜ r ≡ answer width height (now (samples .entry)) (now (planes .entry)) ⌝ }
     ensures { λ _. ⌜ now (planes .exit) ≡ after to-planes width height (now (samples .entry)) (now (planes .entry)) ⌝ }
 {
-    let size = Size { width, height };
-    let refusal = refuse(size, samples.len(), planes.len());
-    if refusal != 0 {
-        return refused(refusal);
-    }
-    let n = width * height;
-    planes::to_planes(&samples[..n], size, &mut planes[..n]);
-    Answer::done()
+    carry_lent(samples, width, height, planes, false)
 }
 
 // The planes of a frame back into its samples. Refusals 1 and 3.
@@ -44,12 +66,5 @@ pub fn from_planes(planes: &[u16], width: usize, height: usize, samples: &mut [u
     ensures { λ r. ⌜ r ≡ answer width height (now (planes .entry)) (now (samples .entry)) ⌝ }
     ensures { λ _. ⌜ now (samples .exit) ≡ after from-planes width height (now (planes .entry)) (now (samples .entry)) ⌝ }
 {
-    let size = Size { width, height };
-    let refusal = refuse(size, planes.len(), samples.len());
-    if refusal != 0 {
-        return refused(refusal);
-    }
-    let n = width * height;
-    planes::from_planes(&planes[..n], size, &mut samples[..n]);
-    Answer::done()
+    carry_lent(planes, width, height, samples, true)
 }
