@@ -1,22 +1,23 @@
 -- What holds of every block that is written: it opens with nine bits, its lengths are below 16, and it has at most 265 bits.
 use Prim.Native.Nat.{ℕ, zero, suc, _+_, _*_, _/_, _<_, _≤_}
-use mathlib.Core.Bool.{Bool}
+use mathlib.Core.Bool.{Bool, true}
 use mathlib.Core.Path.{_≡_, refl}
 use mathlib.Core.List.{List, [], _∷_, _++_, append-assoc}
 use mathlib.Core.Logic.{by-cases}
 use native.Mathlib.Omega.{arith}
 use native.Mathlib.Decide.{ℕ-discrete}
-use lib.ListN.{length, length-append}
+use lib.ListN.{length, getD, length-append}
 use lib.Dec.{lit<, lit≤}
 use Rattle.rules.specs.declared.reader.Bits.{Bits}
 use Rattle.rules.specs.Reader.{read, fields, four}
 use Rattle.rules.specs.Frame.{tabulate}
 use Rattle.rules.proofs.Cells.{All, nil, more, all-get, Each, none, both}
 use Rattle.rules.proofs.ReaderLaws.{fields-more, four-fields}
-use Rattle.writers.specs.Writer.{bits-of, fields-bits, run, lengths-for, length-for, block-bits}
+use Rattle.writers.specs.Writer.{bits-of, fields-bits, run, holds, lengths-for, length-for, block-bits}
+use Rattle.writers.specs.Weight.{Short}
 use Rattle.writers.proofs.Ahead.{Field}
 use Rattle.writers.proofs.BitLists.{bits-length}
-use Rattle.writers.proofs.Smallest.{smallest-most}
+use Rattle.writers.proofs.Smallest.{smallest-most, held-by}
 
 -- Direction 0 and four operations 3, or motion 7 and four flags 3.
 abbrev pub opening-widths : List ℕ
@@ -39,6 +40,14 @@ pub opening-length : length (fields-bits opening-widths opening) ≡ 9
 unfolding fields-bits bits-of
 opening-length = refl
 
+-- ── Each of a run of numbers ──
+
+pub each-of-run : (P : ℕ → Type 0) (n m : ℕ) → All P (tabulate n m (λ k. k)) → (k : ℕ) → m ≤ k → k < m + n → P k
+unfolding tabulate
+each-of-run P zero m a k h l = absurd (omega arith)
+each-of-run P (suc n) m (more a rest) k h l =
+    by-cases (ℕ-discrete k m) (λ e. rw e a) (λ e. each-of-run P n (suc m) rest k (omega arith) (omega arith))
+
 -- ── Lengths ──
 
 pub lengths-most : (d : ℕ → ℕ) → All (λ l. l < 16) (lengths-for d)
@@ -52,6 +61,20 @@ length-most d k = all-get (λ l. l < 16) (lengths-most d) (k / 4) 0 (lit< tt)
 pub four-lengths : (d : ℕ → ℕ) → length (lengths-for d) ≡ 4
 unfolding lengths-for
 four-lengths d = refl
+
+-- Every number is held by its length.
+pub lengths-hold : (d : ℕ → ℕ) → ((k : ℕ) → Short (d k)) → (k : ℕ) → k < 16 → holds (getD (lengths-for d) (k / 4) 0) (d k) ≡ true
+unfolding lengths-for tabulate
+lengths-hold d short k l =
+    let p = held-by d short 0 1 2 3 in
+    let q = held-by d short 4 5 6 7 in
+    let r = held-by d short 8 9 10 11 in
+    let t = held-by d short 12 13 14 15 in
+    each-of-run (λ k. holds (getD (lengths-for d) (k / 4) 0) (d k) ≡ true) 16 0
+    (more (p .first) (more (p .second) (more (p .third) (more (p .fourth)
+    (more (q .first) (more (q .second) (more (q .third) (more (q .fourth)
+    (more (r .first) (more (r .second) (more (r .third) (more (r .fourth)
+    (more (t .first) (more (t .second) (more (t .third) (more (t .fourth) nil)))))))))))))))) k (omega arith) l
 
 -- ── Bits ──
 
@@ -78,11 +101,3 @@ block-parts d next rest = regroup (fields-bits opening-widths opening) (run (bit
   where
     regroup : (a b c e g : List Bool) → a ++ b ++ c ++ e ++ g ≡ a ++ (b ++ (c ++ (e ++ g)))
     regroup a b c e g = simp append-assoc
-
--- ── Each of a run of numbers ──
-
-pub each-of-run : (P : ℕ → Type 0) (n m : ℕ) → All P (tabulate n m (λ k. k)) → (k : ℕ) → m ≤ k → k < m + n → P k
-unfolding tabulate
-each-of-run P zero m a k h l = absurd (omega arith)
-each-of-run P (suc n) m (more a rest) k h l =
-    by-cases (ℕ-discrete k m) (λ e. rw e a) (λ e. each-of-run P n (suc m) rest k (omega arith) (omega arith))

@@ -4,11 +4,11 @@ use Prim.Native.Nat.{ℕ, zero, suc, _+_, _-_, _*_, _/_, _%_, _^_, _<_, _≤_}
 use mathlib.Core.Bool.{Bool, true}
 use mathlib.Core.Path.{_≡_, refl, sym, ap, _∙_, subst}
 use mathlib.Core.Logic.{_≢_, by-cases}
-use mathlib.Core.List.{List, [], _∷_, _++_}
+use mathlib.Core.List.{List, _++_}
 use native.Mathlib.Omega.{arith}
 use native.Mathlib.Decide.{ℕ-discrete}
 use native.Mathlib.Nat.{mod-lt, mul-one, mul-le-mul-right, mul-comm, add-zero}
-use lib.ListN.{length, getD, set, replicate, length-set, length-replicate}
+use lib.ListN.{length, getD, set, replicate, length-set}
 use lib.Seq.{sets, getD-set-same, getD-set-other, length-sets}
 use lib.Dec.{eqb, lit<, lit≤}
 use lib.IntN.{ℤ, pos, negsuc}
@@ -18,8 +18,8 @@ use borrow.Author.Tests.{le-ltb, eqb-true, eqb-false}
 use Rattle.rules.specs.declared.reader.Bits.{Bits}
 use Rattle.rules.specs.Reader.{has-filler, signed, modulo}
 use Rattle.rules.specs.Frame.{tabulate}
-use Rattle.rules.specs.V2.{fresh-row, repeated, base, position, Block, read-block, Row, then, blocks, base-cell, block-cells, apply, value, hold, sample, sample-kind}
-use Rattle.rules.proofs.Cells.{All, nil, more, all-get}
+use Rattle.rules.specs.V2.{fresh-row, repeated, base, position, read-block, then, blocks, base-cell, block-cells, apply, value, hold, sample, sample-kind}
+use Rattle.rules.proofs.Cells.{All, all-get}
 use Rattle.rules.proofs.ReaderLaws.{signed-low, signed-high, signed-mag}
 use Rattle.rules.proofs.V2Cells.{write-plain}
 use Rattle.rules.proofs.Tests.{by-test}
@@ -27,8 +27,8 @@ use Rattle.writers.specs.Writer.{holds, lengths-for, blocks-bits}
 use Rattle.writers.specs.V2Writer.{base-of, difference, differences}
 use Rattle.writers.specs.Weight.{Short}
 use Rattle.writers.proofs.Ahead.{Stream, Sees}
-use Rattle.writers.proofs.Blocks.{lengths-most, block-parts, each-of-run}
-use Rattle.writers.proofs.Smallest.{back-low, back-high, held-by}
+use Rattle.writers.proofs.Blocks.{lengths-most, lengths-hold, block-parts}
+use Rattle.writers.proofs.Smallest.{back-low, back-high}
 use Rattle.writers.proofs.V2Seen.{written-hdr, placed, block-differences, written-block, SeesBlock, sees-block}
 
 -- ── A difference and its base give the sample back ──
@@ -58,20 +58,6 @@ unfolding holds
 difference-back a b l la lb k e =
     let d : ℕ = (a + 65_536 - b) % 65_536 in
     plus-back a b (signed l (d % 2 ^ l)) la lb (signed-mag 14 l (d % 2 ^ l) (omega arith) (mod-lt d (pow-pos l))) (eqb-true (modulo (signed l (d % 2 ^ l))) d e)
-
--- Every difference is held by its length.
-lengths-hold : (d : ℕ → ℕ) → ((k : ℕ) → Short (d k)) → (k : ℕ) → k < 16 → holds (getD (lengths-for d) (k / 4) 0) (d k) ≡ true
-unfolding lengths-for tabulate
-lengths-hold d short k l =
-    let p = held-by d short 0 1 2 3 in
-    let q = held-by d short 4 5 6 7 in
-    let r = held-by d short 8 9 10 11 in
-    let t = held-by d short 12 13 14 15 in
-    each-of-run (λ k. holds (getD (lengths-for d) (k / 4) 0) (d k) ≡ true) 16 0
-    (more (p .first) (more (p .second) (more (p .third) (more (p .fourth)
-    (more (q .first) (more (q .second) (more (q .third) (more (q .fourth)
-    (more (r .first) (more (r .second) (more (r .third) (more (r .fourth)
-    (more (t .first) (more (t .second) (more (t .third) (more (t .fourth) nil)))))))))))))))) k (omega arith) l
 
 -- ── Differences at their positions ──
 
