@@ -1,5 +1,5 @@
 -- A frame: its rows, one after another, written and measured, in either format; and V2's header before them.
-use Prim.Native.Nat.{ℕ, zero, suc, _+_, _-_, _*_, _%_, _^_, _<_, _≤_}
+use Prim.Native.Nat.{ℕ, zero, suc, _+_, _-_, _%_, _^_, _<_, _≤_}
 use mathlib.Core.Path.{_≡_, refl, sym, ap, ap₂, _∙_}
 use mathlib.Core.List.{List, [], _∷_, _++_, append-nil, append-assoc}
 use native.Mathlib.Omega.{arith}
@@ -63,7 +63,7 @@ units-more : {unit : ℕ} (a b : ℕ) → Unit unit → a % unit ≡ 0 → b % u
 units-more a b word p q = omega arith
 units-more a b line p q = omega arith
 
-module _ (x : Coding) (u : Unit (x .unit)) (h start : ℕ) (f o f′ o′ : List ℕ) (at row : ℕ) (r : Framing x h start f o f′ o′ at row) where
+module _ {x : Coding} {h start : ℕ} {f o f′ o′ : List ℕ} {at row : ℕ} (r : Framing x h start f o f′ o′ at row) where
   pub stream-length : length f′ ≡ length f
   stream-length = ap length (r .stream-is) ∙ length-sets f start (rows-bytes x row 0)
 
@@ -84,13 +84,13 @@ module _ (x : Coding) (u : Unit (x .unit)) (h start : ℕ) (f o f′ o′ : List
       omega (arith, next-length, stream-length)
 
   -- .. its offset fits 32 bits ..
-  pub offset-fits : x .width ≤ 16_384 → h ≤ 16_384 → start ≤ 16 → at < 2 ^ 32
-  offset-fits wide high few = omega (arith, r .at-is, rows-most x u wide row 0, r .most)
+  pub offset-fits : Unit (x .unit) → x .width ≤ 16_384 → h ≤ 16_384 → start ≤ 16 → at < 2 ^ 32
+  offset-fits u wide high few = omega (arith, r .at-is, rows-most x u wide row 0, r .most)
 
   -- .. and then it is written.
-  pub frame-on : (at′ : ℕ) (f″ o″ : List ℕ) → row < h → o″ ≡ set o′ row at → at′ ≡ at + length (row-bytes x row) → f″ ≡ sets f′ at (row-bytes x row)
+  pub frame-on : Unit (x .unit) → (at′ : ℕ) (f″ o″ : List ℕ) → row < h → o″ ≡ set o′ row at → at′ ≡ at + length (row-bytes x row) → f″ ≡ sets f′ at (row-bytes x row)
       → Framing x h start f o f″ o″ at′ (row + 1)
-  frame-on at′ f″ o″ l e a s =
+  frame-on u at′ f″ o″ l e a s =
       let next : row + 1 ≡ suc row = omega arith in
       let z : 0 + row ≡ row = omega arith in
       let here : start + length (rows-bytes x row 0) ≡ at = sym (r .at-is) in
@@ -172,7 +172,7 @@ pub measure-begun : (x : Coding) (h : ℕ) → Measuring x h 0 0
 unfolding rows-bytes
 measure-begun x h = record { most = omega arith; measured = refl }
 
-module _ (x : Coding) (h bytes row : ℕ) (r : Measuring x h bytes row) where
+module _ {x : Coding} {h bytes row : ℕ} (r : Measuring x h bytes row) where
   pub measure-on : (n : ℕ) → row < h → n ≡ length (row-bytes x row) → Measuring x h (bytes + n) (row + 1)
   measure-on n l e =
       let next : row + 1 ≡ suc row = omega arith in

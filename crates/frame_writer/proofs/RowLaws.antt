@@ -1,7 +1,7 @@
 -- A row: its blocks, one after another, written and measured, in either format.
 use Prim.Native.Nat.{ℕ, zero, suc, _+_, _-_, _*_, _/_, _%_, _<_, _≤_}
 use mathlib.Core.Bool.{Bool, false}
-use mathlib.Core.Path.{_≡_, refl, sym, ap, ap₂, _∙_, subst}
+use mathlib.Core.Path.{_≡_, refl, sym, ap, ap₂, _∙_}
 use mathlib.Core.List.{List, [], _++_, append-nil, append-assoc}
 use native.Mathlib.Omega.{arith}
 use lib.Dec.{lit<}
@@ -82,7 +82,7 @@ wrote-whole f at bs f′ q e words w =
     ∙ w .same []
     ∙ ap (λ l. sets f at (bytes l)) (ap (padded 32) (append-nil bs) ∙ words-padded bs words)
 
-module _ (x : Coding) (u : Unit (x .unit)) (row at : ℕ) (f f′ : List ℕ) (p : Pending) (col : ℕ) (r : Rowing x row at f f′ p col) where
+module _ {x : Coding} (u : Unit (x .unit)) {row at : ℕ} {f f′ : List ℕ} {p : Pending} {col : ℕ} (r : Rowing x row at f f′ p col) where
   here : 16 * (col / 16) ≡ col
   here = let q = r .whole in omega arith
 
@@ -159,7 +159,7 @@ pub count-begun : (x : Coding) (row : ℕ) → Counting x row 0 0
 unfolding blocks-bits
 count-begun x row = record { whole = refl; most = omega arith; counted = refl }
 
-module _ (x : Coding) (row bits col : ℕ) (r : Counting x row bits col) where
+module _ {x : Coding} {row bits col : ℕ} (r : Counting x row bits col) where
   -- The sum is small ..
   pub count-most : x .width ≤ 16_384 → bits ≤ 265 * 1_024
   count-most l = omega (arith, r .counted, r .most, blocks-length x row (col / 16) 0)

@@ -14,16 +14,16 @@ abbrev μ-loop : tie.MeasureT-loop
 μ-loop samples format width height row bits₀ col₀ bits col = width + 16 - col
 
 loop-holds : tie.Need-loop-holds Inv-loop μ-loop
-loop-holds c = let a = c .before .args in count-begun (coding (a .format) (a .width) (a .height) (a .samples .now)) (a .row)
+loop-holds c = count-begun _ _
 
 numbers-of-requires : tie.Need-numbers-of-requires Inv-loop μ-loop
 numbers-of-requires c κs = let s = c .before .before .before in block-lent (s .pre .0) (s .pre .1) (omega arith) (c .before .loop .inv .whole)
 
 block-length-requires : tie.Need-block-length-requires Inv-loop μ-loop
-block-length-requires c κs = let s = c .before .before .before .before in let a = s .args in block-short (a .format) (a .width) (a .height) (a .samples .now) (a .row) (c .before .before .loop .col) (s .pre .0) (s .pre .1) _ (c .numbers-of .ensures)
+block-length-requires c κs = let s = c .before .before .before .before in block-short _ _ _ _ _ _ (s .pre .0) (s .pre .1) _ (c .numbers-of .ensures)
 
 add-bits : tie.Need-add-bits Inv-loop μ-loop
-add-bits c = let s = c .before .before .before .before .before in let a = s .args in let l = c .before .before .before .loop in record { fits = omega (arith, count-most (coding (a .format) (a .width) (a .height) (a .samples .now)) (a .row) (l .bits) (l .col) (l .inv) (rw (width-is (a .width) (a .height) (a .samples .now) (a .format)) (s .pre .0 .wide)), block-most (c .before .numbers-of .result) _ (c .block-length .ensures)) }
+add-bits c = let s = c .before .before .before .before .before in record { fits = omega (arith, count-most (c .before .before .before .loop .inv) (rw width-is (s .pre .0 .wide)), block-most (c .before .numbers-of .result) _ (c .block-length .ensures)) }
 
 add-col : tie.Need-add-col Inv-loop μ-loop
 add-col c = let s = c .before .before .before .before .before in let a = s .args in record { fits = omega (arith, c .before .before .before .loop .inv .most, width-is (a .width) (a .height) (a .samples .now) (a .format), s .pre .0 .wide) }
@@ -32,17 +32,16 @@ loop-less : tie.Need-loop-less Inv-loop μ-loop
 loop-less c = let a = c .before .before .before .before .before .args in omega (arith, c .before .before .before .loop .inv .most, width-is (a .width) (a .height) (a .samples .now) (a .format))
 
 loop-again : tie.Need-loop-again Inv-loop μ-loop
-loop-again c = let a = c .before .before .before .before .before .args in let l = c .before .before .before .loop in count-on (coding (a .format) (a .width) (a .height) (a .samples .now)) (a .row) (l .bits) (l .col) (l .inv) _ _ (c .before .numbers-of .ensures) (omega (arith, width-is (a .width) (a .height) (a .samples .now) (a .format))) (c .block-length .ensures)
+loop-again c = let a = c .before .before .before .before .before .args in count-on (c .before .before .before .loop .inv) _ _ (c .before .numbers-of .ensures) (omega (arith, width-is (a .width) (a .height) (a .samples .now) (a .format))) (c .block-length .ensures)
 
 in-units-requires : tie.Need-in-units-requires Inv-loop μ-loop
-in-units-requires c κs = let s = c .before .before .before in let a = s .args in let l = c .before .loop in omega (arith, count-most (coding (a .format) (a .width) (a .height) (a .samples .now)) (a .row) (l .bits) (l .col) (l .inv) (rw (width-is (a .width) (a .height) (a .samples .now) (a .format)) (s .pre .0 .wide)))
+in-units-requires c κs = omega (arith, count-most (c .before .loop .inv) (rw width-is (c .before .before .before .pre .0 .wide)))
 
 returns : tie.Need-returns Inv-loop μ-loop
 returns c =
     let a = c .before .before .before .before .args in
-    let l = c .before .before .loop in
-    count-gone (coding (a .format) (a .width) (a .height) (a .samples .now)) (a .row) (l .bits) (l .col) (l .inv) (coding-unit (a .width) (a .height) (a .samples .now) (a .format)) (omega (arith, width-is (a .width) (a .height) (a .samples .now) (a .format))) _
-    (rw (unit-is (a .width) (a .height) (a .samples .now) (a .format)) (c .in-units .ensures))
+    count-gone (c .before .before .loop .inv) (coding-unit _ _ _ _) (omega (arith, width-is (a .width) (a .height) (a .samples .now) (a .format))) _
+    (rw unit-is (c .in-units .ensures))
 
 pub row-length-spec : {M : Type 1} → statement M
 row-length-spec =

@@ -15,13 +15,13 @@ abbrev μ-loop : tie.MeasureT-loop
 μ-loop samples format width height bytes₀ row₀ bytes row = height - row
 
 loop-holds : tie.Need-loop-holds Inv-loop μ-loop
-loop-holds c = let a = c .before .args in measure-begun (coding (a .format) (a .width) (a .height) (a .samples .now)) (a .height)
+loop-holds c = measure-begun _ _
 
 row-length-requires : tie.Need-row-length-requires Inv-loop μ-loop
 row-length-requires c κs = (c .before .before .before .pre, omega arith)
 
 add-bytes : tie.Need-add-bytes Inv-loop μ-loop
-add-bytes c = let s = c .before .before .before .before in let a = s .args in let l = c .before .before .loop in record { fits = measure-next (coding (a .format) (a .width) (a .height) (a .samples .now)) (a .height) (l .bytes) (l .row) (l .inv) (coding-unit (a .width) (a .height) (a .samples .now) (a .format)) (rw (width-is (a .width) (a .height) (a .samples .now) (a .format)) (s .pre .wide)) (s .pre .high) _ (omega arith) (c .row-length .ensures) }
+add-bytes c = let s = c .before .before .before .before in record { fits = measure-next (c .before .before .loop .inv) (coding-unit _ _ _ _) (rw width-is (s .pre .wide)) (s .pre .high) _ (omega arith) (c .row-length .ensures) }
 
 add-row : tie.Need-add-row Inv-loop μ-loop
 add-row c = search needs
@@ -30,10 +30,10 @@ loop-less : tie.Need-loop-less Inv-loop μ-loop
 loop-less c = omega arith
 
 loop-again : tie.Need-loop-again Inv-loop μ-loop
-loop-again c = let a = c .before .before .before .before .args in let l = c .before .before .loop in measure-on (coding (a .format) (a .width) (a .height) (a .samples .now)) (a .height) (l .bytes) (l .row) (l .inv) _ (omega arith) (c .row-length .ensures)
+loop-again c = measure-on (c .before .before .loop .inv) _ (omega arith) (c .row-length .ensures)
 
 returns : tie.Need-returns Inv-loop μ-loop
-returns c = let a = c .before .before .before .args in let l = c .before .loop in measure-gone (coding (a .format) (a .width) (a .height) (a .samples .now)) (a .height) (l .bytes) (l .row) (l .inv) (omega arith)
+returns c = measure-gone (c .before .loop .inv) (omega arith)
 
 pub rows-length-spec : {M : Type 1} → statement M
 rows-length-spec =

@@ -20,7 +20,7 @@ none-requires : tie.Need-none-requires Inv-loop μ-loop
 none-requires c κs = tt
 
 loop-holds : tie.Need-loop-holds Inv-loop μ-loop
-loop-holds c = let a = c .before .before .before .args in row-begun (coding (a .format) (a .width) (a .height) (a .samples .now)) (a .row) (a .at) (a .out .now) (c .none .result) (c .none .ensures)
+loop-holds c = row-begun _ _ _ _ _ (c .none .ensures)
 
 -- Places that the answers look back at.
 abbrev at-start : tie.At-loop Inv-loop μ-loop → tie.Start Inv-loop μ-loop
@@ -39,7 +39,7 @@ put-block-requires c κs =
     let a = s .args in
     let l = c .before .before .before .loop in
     let e = c .before .numbers-of .ensures in
-    (l .inv .wrote .count-small, block-short (a .format) (a .width) (a .height) (a .samples .now) (a .row) (l .col) (s .pre .0) (s .pre .1) _ e, block-room (coding (a .format) (a .width) (a .height) (a .samples .now)) (coding-unit (a .width) (a .height) (a .samples .now) (a .format)) (a .row) (a .at) (a .out .now) (l .out) (l .p) (l .col) (l .inv) _ e (omega (arith, width-is (a .width) (a .height) (a .samples .now) (a .format))) (s .pre .3))
+    (l .inv .wrote .count-small, block-short _ _ _ _ _ _ (s .pre .0) (s .pre .1) _ e, block-room (coding-unit _ _ _ _) (l .inv) _ e (omega (arith, width-is (a .width) (a .height) (a .samples .now) (a .format))) (s .pre .3))
 
 add-col : tie.Need-add-col Inv-loop μ-loop
 add-col c =
@@ -56,7 +56,7 @@ loop-again c =
     let s = at-start (at-loop (c .before)) in
     let a = s .args in
     let l = at-loop (c .before) .loop in
-    row-on (coding (a .format) (a .width) (a .height) (a .samples .now)) (coding-unit (a .width) (a .height) (a .samples .now) (a .format)) (a .row) (a .at) (a .out .now) (l .out) (l .p) (l .col) (l .inv) _ _ _ (c .before .before .before .before .numbers-of .ensures) (omega (arith, width-is (a .width) (a .height) (a .samples .now) (a .format))) (c .before .before .put-block .ensures)
+    row-on (coding-unit _ _ _ _) (l .inv) _ _ _ (c .before .before .before .before .numbers-of .ensures) (omega (arith, width-is (a .width) (a .height) (a .samples .now) (a .format))) (c .before .before .put-block .ensures)
 
 unit-of-requires : tie.Need-unit-of-requires Inv-loop μ-loop
 unit-of-requires c κs = tt
@@ -71,8 +71,8 @@ finish-requires c κs =
     let past : coding (a .format) (a .width) (a .height) (a .samples .now) .width ≤ l .col = omega (arith, width-is (a .width) (a .height) (a .samples .now) (a .format)) in (
       rw e (format-unit (a .format)),
       l .inv .wrote .count-small,
-      fourth (coding (a .format) (a .width) (a .height) (a .samples .now)) (coding-unit (a .width) (a .height) (a .samples .now) (a .format)) (a .row) (a .at) (a .out .now) (l .out) (l .p) (l .col) (l .inv) _ v (rw e (s .pre .2)) past,
-      omega (arith, end-is (coding (a .format) (a .width) (a .height) (a .samples .now)) (coding-unit (a .width) (a .height) (a .samples .now) (a .format)) (a .row) (a .at) (a .out .now) (l .out) (l .p) (l .col) (l .inv) _ v (rw e (s .pre .2)) past, l .inv .wrote .length-is, s .pre .3),
+      fourth (coding-unit _ _ _ _) (l .inv) _ v (rw e (s .pre .2)) past,
+      omega (arith, end-is (coding-unit _ _ _ _) (l .inv) _ v (rw e (s .pre .2)) past, l .inv .wrote .length-is, s .pre .3),
     )
 
 same-length : tie.Need-same-length Inv-loop μ-loop
@@ -85,7 +85,7 @@ returns c =
     let a = s .args in
     let l = after-loop .before .loop in
     let e = c .before .before .before .unit-of .ensures in
-    row-gone (coding (a .format) (a .width) (a .height) (a .samples .now)) (coding-unit (a .width) (a .height) (a .samples .now) (a .format)) (a .row) (a .at) (a .out .now) (l .out) (l .p) (l .col) (l .inv) _ (e ∙ sym (unit-is (a .width) (a .height) (a .samples .now) (a .format))) (rw e (s .pre .2)) (omega (arith, width-is (a .width) (a .height) (a .samples .now) (a .format))) _ _ (c .before .before .finish .ensures)
+    row-gone (coding-unit _ _ _ _) (l .inv) _ (e ∙ sym (unit-is (a .width) (a .height) (a .samples .now) (a .format))) (rw e (s .pre .2)) (omega (arith, width-is (a .width) (a .height) (a .samples .now) (a .format))) _ _ (c .before .before .finish .ensures)
 
 pub write-row-spec : {M : Type 1} → statement M
 write-row-spec =

@@ -1,5 +1,4 @@
 -- The loop: the rows before a row have been written, and their offsets.
-use mathlib.Core.Path.{sym, _∙_}
 use Prim.Native.Nat.{_-_}
 use native.Mathlib.Omega.{arith}
 use borrow.Author.Needs.{needs}
@@ -16,7 +15,7 @@ abbrev μ-loop : tie.MeasureT-loop
 μ-loop out₀ start offsets₀ samples format width height at₀ row₀ out offsets at row = height - row
 
 loop-holds : tie.Need-loop-holds Inv-loop μ-loop
-loop-holds c = let s = c .before .before .before in let a = s .args in frame-begun (coding (a .format) (a .width) (a .height) (a .samples .now)) (a .height) (a .start) (a .out .now) (a .offsets .now) (rw (unit-is (a .width) (a .height) (a .samples .now) (a .format)) (s .pre .1))
+loop-holds c = frame-begun _ _ _ _ _ (rw unit-is (c .before .before .before .pre .1))
 
 -- Places that the answers look back at.
 abbrev at-start : tie.At-loop Inv-loop μ-loop → tie.Start Inv-loop μ-loop
@@ -26,14 +25,14 @@ abbrev after-put-offset : tie.After-write-row-arg Inv-loop μ-loop → tie.After
 after-put-offset c = c .before .before .before
 
 put-offset-requires : tie.Need-put-offset-requires Inv-loop μ-loop
-put-offset-requires c κs = let s = at-start (c .before .before) in let a = s .args in let l = c .before .before .loop in offset-fits (coding (a .format) (a .width) (a .height) (a .samples .now)) (coding-unit (a .width) (a .height) (a .samples .now) (a .format)) (a .height) (a .start) (a .out .now) (a .offsets .now) (l .out) (l .offsets) (l .at) (l .row) (l .inv) (rw (width-is (a .width) (a .height) (a .samples .now) (a .format)) (s .pre .0 .wide)) (s .pre .0 .high) (s .pre .2)
+put-offset-requires c κs = let s = at-start (c .before .before) in offset-fits (c .before .before .loop .inv) (coding-unit _ _ _ _) (rw width-is (s .pre .0 .wide)) (s .pre .0 .high) (s .pre .2)
 
 write-row-requires : tie.Need-write-row-requires Inv-loop μ-loop
 write-row-requires c κs =
     let s = at-start (after-put-offset c .before .before .before) in
     let a = s .args in
     let l = after-put-offset c .before .before .before .loop in
-    (s .pre .0, omega arith, rw (← unit-is (a .width) (a .height) (a .samples .now) (a .format)) (l .inv .whole), row-room (coding (a .format) (a .width) (a .height) (a .samples .now)) (coding-unit (a .width) (a .height) (a .samples .now) (a .format)) (a .height) (a .start) (a .out .now) (a .offsets .now) (l .out) (l .offsets) (l .at) (l .row) (l .inv) (omega arith) (s .pre .3))
+    (s .pre .0, omega arith, rw (← unit-is (a .width) (a .height) (a .samples .now) (a .format)) (l .inv .whole), row-room (l .inv) (omega arith) (s .pre .3))
 
 add-row : tie.Need-add-row Inv-loop μ-loop
 add-row c = search needs
@@ -44,31 +43,16 @@ loop-less c = omega arith
 loop-again : tie.Need-loop-again Inv-loop μ-loop
 loop-again c =
     let d = after-put-offset (c .before .before .before) in
-    let s = at-start (d .before .before .before) in
-    let a = s .args in
-    let l = d .before .before .before .loop in
-    frame-on (coding (a .format) (a .width) (a .height) (a .samples .now)) (coding-unit (a .width) (a .height) (a .samples .now) (a .format)) (a .height) (a .start) (a .out .now) (a .offsets .now) (l .out) (l .offsets) (l .at) (l .row) (l .inv) _ _ _ (omega arith) (d .put-offset .ensures) (c .before .before .write-row .ensures .0) (c .before .before .write-row .ensures .1)
+    frame-on (d .before .before .before .loop .inv) (coding-unit _ _ _ _) _ _ _ (omega arith) (d .put-offset .ensures) (c .before .before .write-row .ensures .0) (c .before .before .write-row .ensures .1)
 
 same-length : tie.Need-same-length Inv-loop μ-loop
-same-length c =
-    let s = at-start (c .before) in
-    let a = s .args in
-    let l = c .before .loop in
-    stream-length (coding (a .format) (a .width) (a .height) (a .samples .now)) (coding-unit (a .width) (a .height) (a .samples .now) (a .format)) (a .height) (a .start) (a .out .now) (a .offsets .now) (l .out) (l .offsets) (l .at) (l .row) (l .inv)
+same-length c = stream-length (c .before .loop .inv)
 
 same-length-2 : tie.Need-same-length-2 Inv-loop μ-loop
-same-length-2 c =
-    let s = at-start (c .before) in
-    let a = s .args in
-    let l = c .before .loop in
-    table-length (coding (a .format) (a .width) (a .height) (a .samples .now)) (coding-unit (a .width) (a .height) (a .samples .now) (a .format)) (a .height) (a .start) (a .out .now) (a .offsets .now) (l .out) (l .offsets) (l .at) (l .row) (l .inv)
+same-length-2 c = table-length (c .before .loop .inv)
 
 returns : tie.Need-returns Inv-loop μ-loop
-returns c =
-    let s = at-start (c .before) in
-    let a = s .args in
-    let l = c .before .loop in
-    frame-gone (coding (a .format) (a .width) (a .height) (a .samples .now)) (coding-unit (a .width) (a .height) (a .samples .now) (a .format)) (a .height) (a .start) (a .out .now) (a .offsets .now) (l .out) (l .offsets) (l .at) (l .row) (l .inv) (omega arith)
+returns c = frame-gone (c .before .loop .inv) (omega arith)
 
 pub write-rows-spec : {M : Type 1} → statement M
 write-rows-spec =
