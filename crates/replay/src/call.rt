@@ -2,7 +2,6 @@
 ghost use mathlib.Core.Path.{_≡_};
 ghost use Prim.Native.Nat.{_≤_, _<_};
 ghost use lib.ListN.{length, take};
-use super::samples::dim;
 use super::samples::fill;
 use super::samples::sum;
 use super::samples::sum_bytes;
@@ -164,15 +163,12 @@ fn differs_written(call: &[u8], samples: &[u16]) -> bool {
     sum_offsets(bytes, &offsets) != recorded_sum(call)
 }
 
-fn differs_dimmed(call: &[u8], samples: &mut [u16]) -> bool {
-    dim(samples, recorded_seed(call));
-    differs_written(call, samples)
-}
-
 fn differs_over(call: &[u8], out: &mut [u16], phases: bool) -> bool {
-    fill(out, recorded_seed(call));
-    if number(call, 0) == WRITE {
-        return differs_dimmed(call, out);
+    let writes = number(call, 0) == WRITE;
+    let seed = recorded_seed(call);
+    fill(out, seed, writes && seed % 2 == 0);
+    if writes {
+        return differs_written(call, out);
     }
     let answer = decode_call(call, out, phases);
     if is_other(call, answer) {

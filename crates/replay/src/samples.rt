@@ -7,28 +7,22 @@ fn next_old(x: usize) -> usize
     (25_173 * (x % 65_536) + 13_849) % 65_536
 }
 
-pub(crate) fn fill(samples: &mut [u16], seed: usize) {
+fn sample_of(x: usize, quarter: bool) -> u16
+    requires { ⌜ x < 65_536 ⌝ }
+{
+    if quarter {
+        return (x / 4) as u16;
+    }
+    x as u16
+}
+
+// The samples that a seed makes, or a quarter of each, so that none is above 16,383.
+pub(crate) fn fill(samples: &mut [u16], seed: usize, quarter: bool) {
     let mut x = seed;
     let mut i: usize = 0;
     while i < samples.len() {
         x = next_old(x);
-        samples[i] = x as u16;
-        i += 1;
-    }
-}
-
-fn dimmed(sample: u16, seed: usize) -> u16 {
-    if seed % 2 == 0 {
-        return sample / 4;
-    }
-    sample
-}
-
-// A quarter of each sample where the seed is even, so that none is above 16,383.
-pub(crate) fn dim(samples: &mut [u16], seed: usize) {
-    let mut i: usize = 0;
-    while i < samples.len() {
-        samples[i] = dimmed(samples[i], seed);
+        samples[i] = sample_of(x, quarter);
         i += 1;
     }
 }

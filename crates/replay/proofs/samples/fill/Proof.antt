@@ -8,10 +8,10 @@ use Rattle.replay.proofs.samples.fill.Statement.{statement}
 use Rattle.replay.proofs.samples.fill.Tie as tie
 
 abbrev Inv-loop : tie.InvT-loop
-Inv-loop samples₀ seed x₀ i₀ samples x i = (i ≤ length samples) × (length samples ≡ length samples₀)
+Inv-loop samples₀ seed quarter x₀ i₀ samples x i = (i ≤ length samples) × (length samples ≡ length samples₀)
 
 abbrev μ-loop : tie.MeasureT-loop
-μ-loop samples₀ seed x₀ i₀ samples x i = length samples - i
+μ-loop samples₀ seed quarter x₀ i₀ samples x i = length samples - i
 
 loop-holds : tie.Need-loop-holds Inv-loop μ-loop
 loop-holds c = (omega arith, refl)
@@ -19,8 +19,8 @@ loop-holds c = (omega arith, refl)
 next-old-requires : tie.Need-next-old-requires Inv-loop μ-loop
 next-old-requires c κs = search needs
 
-cast-samples : tie.Need-cast-samples Inv-loop μ-loop
-cast-samples c = search needs
+sample-of-requires : tie.Need-sample-of-requires Inv-loop μ-loop
+sample-of-requires c κs = search needs
 
 mul-samples : tie.Need-mul-samples Inv-loop μ-loop
 mul-samples c = search needs
@@ -35,7 +35,7 @@ loop-less : tie.Need-loop-less Inv-loop μ-loop
 loop-less c = simp length-set (omega arith)
 
 loop-again : tie.Need-loop-again Inv-loop μ-loop
-loop-again c = (simp length-set (omega arith), simp length-set (c .before .before .loop .inv .1))
+loop-again c = (simp length-set (omega arith), simp length-set (c .before .before .before .loop .inv .1))
 
 same-length : tie.Need-same-length Inv-loop μ-loop
 same-length c = search needs
@@ -51,7 +51,7 @@ fill-spec =
     μ-loop
     loop-holds
     next-old-requires
-    cast-samples
+    sample-of-requires
     mul-samples
     slice-write-samples
     add-i
