@@ -1,7 +1,7 @@
 -- A block's base: references from the first two, which refusal it meets, and its cells, of any kind.
 use mathlib.Core.Bool.{Bool, true, false, cond}
 use mathlib.Core.List.{List}
-use mathlib.Core.Path.{_≡_, refl, sym, _∙_}
+use mathlib.Core.Path.{_≡_, refl, _∙_}
 use Prim.Native.Nat.{ℕ, _+_, _*_, _-_, _%_, _≤_, _<_}
 use native.Mathlib.Nat.{mul-le-mul}
 use native.Mathlib.Omega.{arith}
@@ -21,14 +21,12 @@ use Rattle.rules.proofs.Cells.{All, nil, more, all-get}
 use Rattle.rules.proofs.V2Places.{further, offset-is, offset-most, reference-is}
 use Rattle.rules.proofs.V2References.{reference-inside}
 use Rattle.rules.proofs.Tests.{by-test}
-use Rattle.v2_cells.specs.Places.{along, Runs, cell-from}
+use Rattle.v2_cells.specs.declared.Place.{Place}
+use Rattle.v2_cells.specs.declared.base.References.{References}
+use Rattle.v2_cells.specs.Places.{Inside, reference, references, along, Runs, cell-from}
 use Rattle.v2_cells.proofs.Fill.{tabulate-same}
 
 -- ── References ──
-
--- Each reference of a block is a place among n samples, and so is the one that averaging reads.
-abbrev pub In : ℕ → ℕ → ℕ → ℕ → ℕ → Type 0
-In n w row col motion = (i : ℕ) → i < 16 → (5 ≤ reference-5 w row col motion i) × (reference-5 w row col motion i - 5 + further motion < n)
 
 -- A row within the limits, and the rows above it, have their places below 2^28.
 pub rows-room : (row w : ℕ) → row < 16_384 → w ≤ 16_384
@@ -48,37 +46,20 @@ offset-small motion = all-get (λ z. mag z ≤ 4) table motion (pos 0) (lit≤ t
 pub offset-code : (motion : ℕ) → toZ w64 (ofZ w64 (getD motion-offsets motion (pos 0))) +ℤ pos 4 ≡ pos (offset-4 motion)
 offset-code motion = rw (toZ-ofZ w64 (getD motion-offsets motion (pos 0)) (record { sfits = omega (arith, offset-small motion) })) (offset-is motion)
 
-module _ (w row col motion : ℕ) where
-  pub reference-small : (i : ℕ) → row < 16_384 → w ≤ 16_384 → col ≤ 16_384 → i < 16 → reference-5 w row col motion i < 536_870_000
-  unfolding reference-5
-  reference-small i h k l m =
-      by-test (eqb ((row + i) % 2) 1)
-      (λ e. rw e (omega (arith, rows-room row w h k, offset-most motion)))
-      (λ e. rw e (omega (arith, rows-room row w h k, offset-most motion)))
+pub reference-small : (w row col motion i : ℕ) → row < 16_384 → w ≤ 16_384 → col ≤ 16_384 → i < 16 → reference-5 w row col motion i < 536_870_000
+unfolding reference-5
+reference-small w row col motion i h k l m =
+    by-test (eqb ((row + i) % 2) 1)
+    (λ e. rw e (omega (arith, rows-room row w h k, offset-most motion)))
+    (λ e. rw e (omega (arith, rows-room row w h k, offset-most motion)))
 
-  -- A sample refers as far on from one of the same parity as it stands on from it.
-  same-parity : (i d : ℕ) → d % 2 ≡ 0 → reference-5 w row col motion (i + d) ≡ reference-5 w row col motion i + d
-  unfolding reference-5
-  same-parity i d e =
-      let p : (row + (i + d)) % 2 ≡ (row + i) % 2 = omega arith in
-      let q : (i + d) % 2 ≡ i % 2 = omega arith in
-      rw (p, q) (by-test (eqb ((row + i) % 2) 1) (λ f. rw f (omega arith)) (λ f. rw f (omega arith)))
-
-  pub along-is : (i : ℕ) → along (reference-5 w row col motion 0) (reference-5 w row col motion 1) i ≡ reference-5 w row col motion i
-  along-is i =
-      by-test (eqb (i % 2) 0)
-      (λ e. rw e (let p : i % 2 ≡ 0 = eqb-true (i % 2) 0 e in
-      let q : 0 + i ≡ i = omega arith in
-      sym (rw q at (same-parity 0 i p))))
-      (λ e. rw e (let n : i % 2 ≡ 0 → ⊥ = eqb-false (i % 2) 0 e in
-      let p : (i - 1) % 2 ≡ 0 = omega arith in
-      let q : 1 + (i - 1) ≡ i = omega arith in
-      let r = rw q at (same-parity 1 (i - 1) p) in
-      omega arith))
-
--- The same of places, which are 5 less.
-pub along-5 : (a b i : ℕ) → 5 ≤ a → 5 ≤ b → along (a - 5) (b - 5) i + 5 ≡ along a b i
-along-5 a b i h k = by-test (eqb (i % 2) 0) (λ e. rw e (omega arith)) (λ e. rw e (let n : i % 2 ≡ 0 → ⊥ = eqb-false (i % 2) 0 e in omega arith))
+-- A sample refers as far on from one of the same parity as it stands on from it.
+same-parity : (at : Place) (motion i d : ℕ) → d % 2 ≡ 0 → reference at motion (i + d) ≡ reference at motion i + d
+unfolding reference-5
+same-parity at motion i d e =
+    let p : (at .row + (i + d)) % 2 ≡ (at .row + i) % 2 = omega arith in
+    let q : (i + d) % 2 ≡ i % 2 = omega arith in
+    rw (p, q) (by-test (eqb ((at .row + i) % 2) 1) (λ f. rw f (omega arith)) (λ f. rw f (omega arith)))
 
 -- ── Which refusal the base meets ──
 
@@ -121,56 +102,63 @@ module _ (row col motion : ℕ) where
         go false p true q = absurd (omega arith)
         go false p false q = (ltb-false row 2 p, refl)
 
-    -- A base that meets none has all its references, averaging counted, among the n samples that hold its block.
-    pub references-in : base-refusal row col motion ≡ 0 → (n w : ℕ) → col + 16 ≤ w → col % 16 ≡ 0 → row * w + col + 16 ≤ n → (2 ≤ row) × In n w row col motion
-    references-in r n w fits column room =
-        let q = unrefused r in
-        (q .0, λ i l. reference-inside w row col motion (q .0) (omega arith) column (q .1) n i l fits room)
-
 -- ── The base's cells ──
 
 -- A place on the runs is inside where their ends are.
-pub along-inside : (n even odd i : ℕ) (t : Bool) → Runs n even odd t → i < 16 → along even odd i + cond t 2 0 < n
-along-inside n even odd i t r h =
+pub along-inside : (n i : ℕ) (refs : References) → Runs n refs → i < 16 → along refs i + cond (refs .averaging) 2 0 < n
+along-inside n i refs r h =
     by-test (eqb (i % 2) 0)
     (λ e. rw e (let m : i % 2 ≡ 0 = eqb-true (i % 2) 0 e in omega (arith, r .even-end)))
     (λ e. rw e (omega (arith, r .odd-end)))
 
--- The runs from the references of samples 0 and 1, which the code has 5 more.
-module _ (n w row col motion : ℕ) (each : In n w row col motion) (even odd : ℕ)
-    (ee : even ≡ reference-5 w row col motion 0) (eo : odd ≡ reference-5 w row col motion 1)
-    (t : Bool) (et : t ≡ getD motion-averages motion false) where
-  pub runs : Runs n (even - 5) (odd - 5) t
+pub bases-7 : (K : Kind ℕ) (f : List ℕ) (h : V2Hdr) (w row col motion : ℕ) (l : List ℕ) → motion ≡ 7
+    → l ≡ tabulate 16 0 (λ i. base-cell K f (repeated h w row col i)) → l ≡ tabulate 16 0 (λ i. base-cell K f (base h w row col motion i))
+unfolding base
+bases-7 K f h w row col motion l e el = simp e el
+
+-- A block among the n samples of its frame, of motion 0 to 6, whose base meets no refusal.
+module _ {n : ℕ} {at : Place} {motion : ℕ} (inside : Inside n at) (other : motion ≡ 7 → ⊥) (none : base-refusal (at .row) (at .col) motion ≡ 0) where
+  free : (2 ≤ at .row) × (refers-before (at .row) (at .col) motion ≡ false)
+  free = unrefused (at .row) (at .col) motion (ne-eqb motion 7 other) none
+
+  pub low-row : 2 ≤ at .row
+  low-row = free .0
+
+  -- Each of its references is a place among them, and so is the one that averaging reads.
+  pub each : (i : ℕ) → i < 16 → (5 ≤ reference at motion i) × (reference at motion i - 5 + further motion < n)
+  each i l =
+      reference-inside (at .width) (at .row) (at .col) motion low-row (omega arith) (inside .placed .whole) (free .1) n i l (inside .placed .column) (inside .room)
+
+  pub runs : Runs n (references at motion)
   runs = record {
-    even-end = rw (ee, et) (omega (arith, each 14 (omega arith), same-parity w row col motion 0 14 refl, each 0 (omega arith)));
-    odd-end = rw (eo, et) (omega (arith, each 15 (omega arith), same-parity w row col motion 1 14 refl, each 1 (omega arith)));
+    even-end = omega (arith, each 14 (omega arith), same-parity at motion 0 14 refl, each 0 (omega arith));
+    odd-end = omega (arith, each 15 (omega arith), same-parity at motion 1 14 refl, each 1 (omega arith));
   }
 
-  place-is : (i : ℕ) → along (even - 5) (odd - 5) i + 5 ≡ reference-5 w row col motion i
+  place-is : (i : ℕ) → along (references at motion) i + 5 ≡ reference at motion i
   place-is i =
-      rw (ee, eo)
-      (along-5 (reference-5 w row col motion 0) (reference-5 w row col motion 1) i (each 0 (omega arith) .0) (each 1 (omega arith) .0)
-      ∙ along-is w row col motion i)
+      by-test (eqb (i % 2) 0)
+      (λ e. rw e (let p : i % 2 ≡ 0 = eqb-true (i % 2) 0 e in
+      let q : 0 + i ≡ i = omega arith in
+      let r = rw q at (same-parity at motion 0 i p) in
+      omega (arith, each 0 (omega arith))))
+      (λ e. rw e (let m : i % 2 ≡ 0 → ⊥ = eqb-false (i % 2) 0 e in
+      let p : (i - 1) % 2 ≡ 0 = omega arith in
+      let q : 1 + (i - 1) ≡ i = omega arith in
+      let r = rw q at (same-parity at motion 1 (i - 1) p) in
+      omega (arith, each 1 (omega arith))))
 
   -- A sample's cell is the one at its place on the runs.
-  pub referred-is : (K : Kind ℕ) (f : List ℕ) (i : ℕ) → cell-from K f t (along (even - 5) (odd - 5) i) ≡ base-cell K f (referred w row col motion i)
+  referred-is : (K : Kind ℕ) (f : List ℕ) (i : ℕ)
+      → cell-from K f (getD motion-averages motion false) (along (references at motion) i) ≡ base-cell K f (referred (at .width) (at .row) (at .col) motion i)
   unfolding referred base-cell
   referred-is K f i =
-      let p = along (even - 5) (odd - 5) i in
+      let p = along (references at motion) i in
       let l : 5 ≤ p + 5 = omega arith in
       let q : p + 5 - 5 ≡ p = omega arith in
-      rw (reference-is w row col motion i, ← place-is i, le-ltb (p + 5) 5 l, q, ← et) (by-test t (λ e. rw e) (λ e. rw e))
+      rw (reference-is (at .width) (at .row) (at .col) motion i, ← place-is i, le-ltb (p + 5) 5 l, q) (by-test (getD motion-averages motion false) (λ e. rw e) (λ e. rw e))
 
-module _ (K : Kind ℕ) (f : List ℕ) where
-  module _ (h : V2Hdr) (w row col motion : ℕ) (l : List ℕ) where
-    pub bases-7 : motion ≡ 7 → l ≡ tabulate 16 0 (λ i. base-cell K f (repeated h w row col i))
-        → l ≡ tabulate 16 0 (λ i. base-cell K f (base h w row col motion i))
-    unfolding base
-    bases-7 e el = simp e el
-
-    pub bases-referred : eqb motion 7 ≡ false → (n : ℕ) → In n w row col motion → (even odd : ℕ)
-        → even ≡ reference-5 w row col motion 0 → odd ≡ reference-5 w row col motion 1 → (t : Bool) → t ≡ getD motion-averages motion false
-        → l ≡ tabulate 16 0 (λ i. cell-from K f t (along (even - 5) (odd - 5) i)) → l ≡ tabulate 16 0 (λ i. base-cell K f (base h w row col motion i))
-    unfolding base
-    bases-referred e n each even odd ee eo t et el =
-        simp e (el ∙ tabulate-same 16 0 (λ i. cell-from K f t (along (even - 5) (odd - 5) i)) (λ i. base-cell K f (referred w row col motion i)) (referred-is n w row col motion each even odd ee eo t et K f))
+  pub bases-referred : (K : Kind ℕ) (f : List ℕ) (h : V2Hdr) {l : List ℕ} {refs : References} → refs ≡ references at motion
+      → l ≡ tabulate 16 0 (λ i. cell-from K f (refs .averaging) (along refs i)) → l ≡ tabulate 16 0 (λ i. base-cell K f (base h (at .width) (at .row) (at .col) motion i))
+  unfolding base
+  bases-referred K f h er el = simp (ne-eqb motion 7 other) ((rw er at el) ∙ tabulate-same 16 0 _ _ (referred-is K f))

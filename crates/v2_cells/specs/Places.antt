@@ -1,12 +1,14 @@
 -- Places in a frame within the limits, and references as the code has them: 5 more than they are, so that none is below 0.
 use Prim.Native.Nat.{ℕ, _+_, _-_, _*_, _%_, _≤_, _<_}
 use mathlib.Core.Path.{_≡_}
-use mathlib.Core.Bool.{Bool, cond}
+use mathlib.Core.Bool.{Bool, false, cond}
 use mathlib.Core.List.{List}
 use lib.Dec.{eqb}
 use lib.ListN.{getD}
-use Rattle.rules.specs.V2.{base-refusal, Kind}
+use Rattle.rules.specs.Ranges.{reference-5}
+use Rattle.rules.specs.V2.{motion-averages, base-refusal, Kind}
 use Rattle.v2_cells.specs.declared.Place.{Place}
+use Rattle.v2_cells.specs.declared.base.References.{References}
 
 -- A block's place in a row of a frame within the limits.
 pub record Placed (at : Place) : Type 0 where
@@ -27,14 +29,21 @@ pub record Markable (n : ℕ) (at : Place) (motion : ℕ) : Type 0 where
   pub inside : (n ≡ 0 → ⊥) → Inside n at
   pub unrefused : base-refusal (at .row) (at .col) motion ≡ 0
 
+-- Where sample i refers to, 5 places on; and the references of motions 0 to 6.
+abbrev pub reference : Place → ℕ → ℕ → ℕ
+reference at motion i = reference-5 (at .width) (at .row) (at .col) motion i
+
+abbrev pub references : Place → ℕ → References
+references at motion = record { even = reference at motion 0 - 5; odd = reference at motion 1 - 5; averaging = getD motion-averages motion false }
+
 -- Sample i refers as far on from sample 0 or 1, whichever has its parity, as it stands on from that one.
-abbrev pub along : ℕ → ℕ → ℕ → ℕ
-along even odd i = cond (eqb (i % 2) 0) (even + i) (odd + i - 1)
+abbrev pub along : References → ℕ → ℕ
+along refs i = cond (eqb (i % 2) 0) (refs .even + i) (refs .odd + i - 1)
 
 -- Both runs of eight places, two apart, end among the n of the frame, with averaging too.
-pub record Runs (n even odd : ℕ) (averaging : Bool) : Type 0 where
-  pub even-end : even + 14 + cond averaging 2 0 < n
-  pub odd-end : odd + 14 + cond averaging 2 0 < n
+pub record Runs (n : ℕ) (refs : References) : Type 0 where
+  pub even-end : refs .even + 14 + cond (refs .averaging) 2 0 < n
+  pub odd-end : refs .odd + 14 + cond (refs .averaging) 2 0 < n
 
 -- The cell at p, or its average with the one two places on.
 abbrev pub cell-from : Kind ℕ → List ℕ → Bool → ℕ → ℕ

@@ -6,10 +6,17 @@ ghost use lib.ListN.{length, getD};
 ghost use Rattle.rules.specs.Frame.{tabulate};
 ghost use Rattle.rules.specs.V2.{motion-averages, average, refers-before, base-refusal, base-cell, sample-kind, repeated, base};
 ghost use Rattle.rules.specs.Ranges.{offset-4, reference-5};
-ghost use Rattle.v2_cells.specs.Places.{Placed, Inside, along, Runs, cell-from};
+ghost use Rattle.v2_cells.specs.Places.{Placed, Inside, references, along, Runs, cell-from};
 use super::Place;
 use rules::V2Hdr;
 use rules::V2Row;
+
+// Where samples 0 and 1 of a block refer to, and whether each base is the average of two samples.
+pub struct References {
+    pub even: usize,
+    pub odd: usize,
+    pub averaging: bool,
+}
 
 const OFFSETS: [i64; 7] = [-4, -2, -2, 0, 0, 2, 4];
 
@@ -23,7 +30,7 @@ fn offset_plus_4(motion: u32) -> usize
     (OFFSETS[motion as usize] + 4) as usize
 }
 
-pub fn averages(motion: u32) -> bool
+fn averages(motion: u32) -> bool
     requires { ⌜ motion < 7 ⌝ }
     ensures { λ r. ⌜ r ≡ getD motion-averages motion false ⌝ }
 {
@@ -31,7 +38,7 @@ pub fn averages(motion: u32) -> bool
 }
 
 // Where sample 0 or 1 refers to, 5 places on, so that none is below 0.
-pub fn reference_plus_5(at: Place, motion: u32, i: usize) -> usize
+fn reference_plus_5(at: Place, motion: u32, i: usize) -> usize
     requires { ⌜ Placed at × ((motion < 7) × ((2 ≤ at .row) × (i < 2))) ⌝ }
     ensures { λ r. ⌜ r ≡ reference-5 (at .width) (at .row) (at .col) motion i ⌝ }
 {
@@ -43,12 +50,30 @@ pub fn reference_plus_5(at: Place, motion: u32, i: usize) -> usize
     }
 }
 
-// Where sample i refers to, from where samples 0 and 1 do.
-pub fn along_from(even: usize, odd: usize, i: usize) -> usize
-    requires { ⌜ (even + 15 < 2 ^ 64) × ((odd + 15 < 2 ^ 64) × (i < 16)) ⌝ }
-    ensures { λ r. ⌜ r ≡ along even odd i ⌝ }
+// The references of motions 0 to 6, in a block that meets no refusal.
+pub fn references_of(at: Place, motion: u32) -> References
+    requires { ⌜ Placed at × ((motion < 7) × (base-refusal (at .row) (at .col) motion ≡ 0)) ⌝ }
+    ensures { λ r. ⌜ r ≡ references at motion ⌝ }
 {
-    if i % 2 == 0 { even + i } else { odd + i - 1 }
+    let even = reference_plus_5(at, motion, 0) - 5;
+    let odd = reference_plus_5(at, motion, 1) - 5;
+    References {
+        even,
+        odd,
+        averaging: averages(motion),
+    }
+}
+
+// Where sample i refers to, from where samples 0 and 1 do.
+pub fn along_from(refs: References, i: usize) -> usize
+    requires { ⌜ (refs .even + 15 < 2 ^ 64) × ((refs .odd + 15 < 2 ^ 64) × (i < 16)) ⌝ }
+    ensures { λ r. ⌜ r ≡ along refs i ⌝ }
+{
+    if i % 2 == 0 {
+        refs.even + i
+    } else {
+        refs.odd + i - 1
+    }
 }
 
 // Whether the block refers to before the frame's first sample: no other reference is outside the frame.
@@ -95,14 +120,14 @@ fn base_from(out: &[u16], p: usize, averaging: bool) -> u16
     }
 }
 
-// The bases of motions 0 to 6, from where samples 0 and 1 refer to.
-fn refer(out: &[u16], even: usize, odd: usize, averaging: bool, values: &mut [u16; 16])
-    requires { ⌜ Runs (length (now out)) even odd averaging × (length (now values) ≡ 16) ⌝ }
-    ensures { λ _. ⌜ now (values .exit) ≡ tabulate 16 0 (λ i. cell-from (sample-kind 0) (now (out .entry)) averaging (along even odd i)) ⌝ }
+// The bases of motions 0 to 6.
+fn refer(out: &[u16], refs: References, values: &mut [u16; 16])
+    requires { ⌜ Runs (length (now out)) refs × (length (now values) ≡ 16) ⌝ }
+    ensures { λ _. ⌜ now (values .exit) ≡ tabulate 16 0 (λ i. cell-from (sample-kind 0) (now (out .entry)) (refs .averaging) (along refs i)) ⌝ }
 {
     let mut i: usize = 0;
     while i < V2Row::BLOCK {
-        values[i] = base_from(out, along_from(even, odd, i), averaging);
+        values[i] = base_from(out, along_from(refs, i), refs.averaging);
         i += 1;
     }
 }
@@ -137,8 +162,6 @@ pub fn bases(out: &[u16], hdr: V2Hdr, at: Place, motion: u32, values: &mut [u16;
     if motion == V2Row::MOTION {
         repeat(out, hdr, at, values);
     } else {
-        let even = reference_plus_5(at, motion, 0) - 5;
-        let odd = reference_plus_5(at, motion, 1) - 5;
-        refer(out, even, odd, averages(motion), values);
+        refer(out, references_of(at, motion), values);
     }
 }

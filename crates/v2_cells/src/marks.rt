@@ -11,9 +11,9 @@ ghost use Rattle.rules.specs.V2.{base-refusal, base-cell, repeated, base};
 ghost use Rattle.rules.specs.Map.{with-filler, v2-marks};
 ghost use Rattle.v2_cells.specs.Places.{Inside, Markable, along, Runs, cell-from};
 use super::Place;
+use super::base::References;
 use super::base::along_from;
-use super::base::averages;
-use super::base::reference_plus_5;
+use super::base::references_of;
 use maps::either_part;
 use maps::fill_block;
 use rules::Bits;
@@ -31,14 +31,14 @@ fn mark_from(map: &[u8], p: usize, averaging: bool) -> u8
     }
 }
 
-// The marks of motions 0 to 6, from where samples 0 and 1 refer to.
-fn refer_marks(map: &[u8], even: usize, odd: usize, averaging: bool, marks: &mut [u8; 16])
-    requires { ⌜ Runs (length (now map)) even odd averaging × (length (now marks) ≡ 16) ⌝ }
-    ensures { λ _. ⌜ now (marks .exit) ≡ tabulate 16 0 (λ i. cell-from v2-marks (now (map .entry)) averaging (along even odd i)) ⌝ }
+// The marks of motions 0 to 6.
+fn refer_marks(map: &[u8], refs: References, marks: &mut [u8; 16])
+    requires { ⌜ Runs (length (now map)) refs × (length (now marks) ≡ 16) ⌝ }
+    ensures { λ _. ⌜ now (marks .exit) ≡ tabulate 16 0 (λ i. cell-from v2-marks (now (map .entry)) (refs .averaging) (along refs i)) ⌝ }
 {
     let mut i: usize = 0;
     while i < V2Row::BLOCK {
-        marks[i] = mark_from(map, along_from(even, odd, i), averaging);
+        marks[i] = mark_from(map, along_from(refs, i), refs.averaging);
         i += 1;
     }
 }
@@ -73,9 +73,7 @@ fn block_marks(map: &[u8], at: Place, motion: u32, marks: &mut [u8; 16])
     if motion == V2Row::MOTION {
         repeat_marks(map, at, marks);
     } else {
-        let even = reference_plus_5(at, motion, 0) - 5;
-        let odd = reference_plus_5(at, motion, 1) - 5;
-        refer_marks(map, even, odd, averages(motion), marks);
+        refer_marks(map, references_of(at, motion), marks);
     }
 }
 

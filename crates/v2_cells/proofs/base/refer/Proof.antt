@@ -10,10 +10,10 @@ use Rattle.v2_cells.proofs.base.refer.Statement.{statement}
 use Rattle.v2_cells.proofs.base.refer.Tie as tie
 
 abbrev Inv-loop : tie.InvT-loop
-Inv-loop out even odd averaging values₀ i₀ values i = Filled (λ k. cell-from (sample-kind 0) out averaging (along even odd k)) values i
+Inv-loop out refs values₀ i₀ values i = Filled (λ k. cell-from (sample-kind 0) out (refs .averaging) (along refs k)) values i
 
 abbrev μ-loop : tie.MeasureT-loop
-μ-loop out even odd averaging values₀ i₀ values i = 16 - i
+μ-loop out refs values₀ i₀ values i = 16 - i
 
 loop-holds : tie.Need-loop-holds Inv-loop μ-loop
 loop-holds c = filled-none (c .before .pre .1)
@@ -22,7 +22,7 @@ along-from-requires : tie.Need-along-from-requires Inv-loop μ-loop
 along-from-requires c κs = let a = c .before .before .before in (omega (arith, a .pre .0 .even-end), (omega (arith, a .pre .0 .odd-end), c .loop-test .taken))
 
 base-from-requires : tie.Need-base-from-requires Inv-loop μ-loop
-base-from-requires c κs = rw (c .along-from .ensures) (along-inside _ _ _ _ _ (c .before .before .before .before .pre .0) (c .before .loop-test .taken))
+base-from-requires c κs = rw (c .along-from .ensures) (along-inside _ _ _ (c .before .before .before .before .pre .0) (c .before .loop-test .taken))
 
 mul-values : tie.Need-mul-values Inv-loop μ-loop
 mul-values c = search needs

@@ -10,10 +10,10 @@ use Rattle.v2_cells.proofs.marks.refer_marks.Statement.{statement}
 use Rattle.v2_cells.proofs.marks.refer_marks.Tie as tie
 
 abbrev Inv-loop : tie.InvT-loop
-Inv-loop map even odd averaging marks₀ i₀ marks i = Filled (λ k. cell-from v2-marks map averaging (along even odd k)) marks i
+Inv-loop map refs marks₀ i₀ marks i = Filled (λ k. cell-from v2-marks map (refs .averaging) (along refs k)) marks i
 
 abbrev μ-loop : tie.MeasureT-loop
-μ-loop map even odd averaging marks₀ i₀ marks i = 16 - i
+μ-loop map refs marks₀ i₀ marks i = 16 - i
 
 loop-holds : tie.Need-loop-holds Inv-loop μ-loop
 loop-holds c = filled-none (c .before .pre .1)
@@ -22,7 +22,7 @@ along-from-requires : tie.Need-along-from-requires Inv-loop μ-loop
 along-from-requires c κs = let a = c .before .before .before in (omega (arith, a .pre .0 .even-end), (omega (arith, a .pre .0 .odd-end), c .loop-test .taken))
 
 mark-from-requires : tie.Need-mark-from-requires Inv-loop μ-loop
-mark-from-requires c κs = rw (c .along-from .ensures) (along-inside _ _ _ _ _ (c .before .before .before .before .pre .0) (c .before .loop-test .taken))
+mark-from-requires c κs = rw (c .along-from .ensures) (along-inside _ _ _ (c .before .before .before .before .pre .0) (c .before .loop-test .taken))
 
 element-write-marks : tie.Need-element-write-marks Inv-loop μ-loop
 element-write-marks c = search needs
