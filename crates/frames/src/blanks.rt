@@ -11,7 +11,7 @@ use blanking::blank_frame;
 use blanking::is_bad_map;
 use blanking::tally_frame;
 use refusals::Lending;
-use refusals::refuse;
+use refusals::refuse_lent;
 use rules::Answer;
 use rules::Size;
 
@@ -36,14 +36,7 @@ fn blank_by(
         r (now (samples .exit)) (now (runs .exit)) ⌝ }
 {
     let size = Size { width, height };
-    let refusal = refuse(
-        size,
-        false,
-        samples.len(),
-        Lending::Nothing,
-        Lending::Length(map.len()),
-        Lending::Nothing,
-    );
+    let refusal = refuse_lent(size, samples.len(), Lending::Length(map.len()));
     if refusal != 0 {
         return Blanked::refused(refusal);
     }

@@ -9,7 +9,7 @@ ghost use Rattle.writers.specs.Calls.{call, too-bright, Yields};
 use frame_writer::measure::v0_length;
 use frame_writer::write;
 use refusals::Lending;
-use refusals::refuse;
+use refusals::refuse_lent;
 use rules::Answer;
 use rules::Size;
 use writers::Written;
@@ -19,14 +19,7 @@ use writers::is_too_bright;
 pub fn refuse_samples(samples: &[u16], size: Size) -> u32
     ensures { λ r. ⌜ r ≡ cond (too-large size) 1 (cond (ltb (length (now (samples .entry))) (cells size)) 3 (cond (too-bright (take (cells size) (now (samples .entry)))) 9 0)) ⌝ }
 {
-    let refusal = refuse(
-        size,
-        false,
-        samples.len(),
-        Lending::Nothing,
-        Lending::Nothing,
-        Lending::Nothing,
-    );
+    let refusal = refuse_lent(size, samples.len(), Lending::Nothing);
     if refusal != 0 {
         return refusal;
     }

@@ -111,7 +111,35 @@ pub fn refuse_direct(size: Size, samples: usize, offsets: usize, map: Lending) -
     )
 }
 
-// And for one that takes scratch, and makes no map.
+// For the V2 decoder, which takes neither offsets nor scratch.
+pub fn refuse_v2(size: Size, samples: usize, map: Lending) -> u32
+    ensures { λ r. ⌜ r ≡ first-of (too-large size) (too-small v2 size) (ltb samples (cells size) || short Nothing (size .height)) (short map (cells size) || short Nothing (scratch-bytes size)) ⌝ }
+{
+    refuse(
+        size,
+        is_too_small(size),
+        samples,
+        Lending::Nothing,
+        map,
+        Lending::Nothing,
+    )
+}
+
+// For what decodes nothing: it takes neither, and no frame is too small for it.
+pub fn refuse_lent(size: Size, samples: usize, map: Lending) -> u32
+    ensures { λ r. ⌜ r ≡ first-of (too-large size) false (ltb samples (cells size) || short Nothing (size .height)) (short map (cells size) || short Nothing (scratch-bytes size)) ⌝ }
+{
+    refuse(
+        size,
+        false,
+        samples,
+        Lending::Nothing,
+        map,
+        Lending::Nothing,
+    )
+}
+
+// And for a V0 decoder that takes scratch, and makes no map.
 pub fn refuse_two_phase(size: Size, samples: usize, offsets: usize, scratch: usize) -> u32
     ensures { λ r. ⌜ r ≡ first-of (too-large size) false (ltb samples (cells size) || short (Length offsets) (size .height)) (short Nothing (cells size) || short (Length scratch) (scratch-bytes size)) ⌝ }
 {

@@ -49,11 +49,11 @@ module _ {s : List ℕ} {w h : ℕ} {samples : List ℕ} {k : ℕ} where
   unfolding refusal too-small short-samples short-offsets short-map short-scratch short
   two-phase-tested e = record { is = sym e }
 
-  pub v2-tested : {map : Option (List ℕ)} (small : Bool) → small ≡ too-small v2 (sized w h)
-      → k ≡ first-of (too-large (sized w h)) small (ltb (length samples) (w * h) || short Nothing h) (short (lending map) (w * h) || short Nothing (scratch-bytes (sized w h)))
+  pub v2-tested : {map : Option (List ℕ)}
+      → k ≡ first-of (too-large (sized w h)) (too-small v2 (sized w h)) (ltb (length samples) (w * h) || short Nothing h) (short (lending map) (w * h) || short Nothing (scratch-bytes (sized w h)))
       → Tested (ask v2 s [] w h) (buffers samples map none) k
   unfolding refusal short-samples short-offsets short-scratch short
-  v2-tested {map} small less e = record { is = sym (rw (less, map-short map (sized w h)) at e) }
+  v2-tested {map} e = record { is = sym (rw (map-short map (sized w h)) at e) }
 
 -- ── What is lent ──
 

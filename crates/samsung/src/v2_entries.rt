@@ -4,8 +4,7 @@ ghost use mathlib.Core.Option.{none, some};
 ghost use Rattle.rules.specs.Answer.{v2, ask, buffers, Yields};
 use maps::mark_old;
 use refusals::Lending;
-use refusals::is_too_small;
-use refusals::refuse;
+use refusals::refuse_v2;
 use refusals::refused;
 use rules::Answer;
 use rules::Size;
@@ -18,14 +17,7 @@ pub fn decode_v2(src: &[u8], width: usize, height: usize, out: &mut [u16]) -> An
         r (buffers (now (out .exit)) none none) ⌝ }
 {
     let size = Size { width, height };
-    let refusal = refuse(
-        size,
-        is_too_small(size),
-        out.len(),
-        Lending::Nothing,
-        Lending::Nothing,
-        Lending::Nothing,
-    );
+    let refusal = refuse_v2(size, out.len(), Lending::Nothing);
     if refusal != 0 {
         return refused(refusal);
     }
@@ -47,14 +39,7 @@ pub fn decode_v2_map(
         r (buffers (now (out .exit)) (some (now (map .exit))) none) ⌝ }
 {
     let size = Size { width, height };
-    let refusal = refuse(
-        size,
-        is_too_small(size),
-        out.len(),
-        Lending::Nothing,
-        Lending::Length(map.len()),
-        Lending::Nothing,
-    );
+    let refusal = refuse_v2(size, out.len(), Lending::Length(map.len()));
     if refusal != 0 {
         return refused(refusal);
     }

@@ -33,7 +33,7 @@ asked c =
 -- ── What is known there ──
 
 known-lent : (c : tie.Else1) → Lent (asked c)
-known-lent c = lent (c .before .refuse .ensures) (c .if1 .left)
+known-lent c = lent (c .before .refuse-lent .ensures) (c .if1 .left)
 
 known-good : (c : tie.Else2) → Good (asked (else1 c))
 known-good c = good (known-lent (else1 c)) (c .before .is-bad-map .ensures) (c .if2 .left)
@@ -43,14 +43,14 @@ known-fits c = fits (known-good (else2 c)) (c .before .before .tally-frame .ensu
 
 -- ── Answers ──
 
-refuse-requires : tie.Need-refuse-requires
-refuse-requires c κs = search needs
+refuse-lent-requires : tie.Need-refuse-lent-requires
+refuse-lent-requires c κs = search needs
 
 refused-requires : tie.Need-refused-requires
 refused-requires c κs = search needs
 
 returns : tie.Need-returns
-returns c = early-yields (c .before .before .refuse .ensures) (c .before .if1 .taken) (c .refused .ensures)
+returns c = early-yields (c .before .before .refuse-lent .ensures) (c .before .if1 .taken) (c .refused .ensures)
 
 mul-n : tie.Need-mul-n
 mul-n c = omega (arith, known-lent c .room .few)
@@ -115,7 +115,7 @@ pub blank-by-spec : {M : Type 1} → statement M
 blank-by-spec =
     tie.close
     (tie.spec
-    refuse-requires
+    refuse-lent-requires
     refused-requires
     returns
     mul-n

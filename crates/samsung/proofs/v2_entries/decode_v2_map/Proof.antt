@@ -16,24 +16,21 @@ use Rattle.samsung.proofs.EntryLaws.{refused-yields, passed-answer, pas
 use Rattle.samsung.proofs.v2_entries.decode_v2_map.Statement.{statement}
 use Rattle.samsung.proofs.v2_entries.decode_v2_map.Tie as tie
 
-is-too-small-requires : tie.Need-is-too-small-requires
-is-too-small-requires c κs = search needs
-
-refuse-requires : tie.Need-refuse-requires
-refuse-requires c κs = search needs
+refuse-v2-requires : tie.Need-refuse-v2-requires
+refuse-v2-requires c κs = search needs
 
 refused-requires : tie.Need-refused-requires
 refused-requires c κs = search needs
 
 returns : tie.Need-returns
-returns c = refused-yields (v2-tested _ (c .before .before .before .is-too-small .ensures) (c .before .before .refuse .ensures)) (c .before .if1 .taken) (c .refused .ensures)
+returns c = refused-yields (v2-tested (c .before .before .refuse-v2 .ensures)) (c .before .if1 .taken) (c .refused .ensures)
 
-abbrev at-start : tie.After-is-too-small → tie.Start
+abbrev at-start : tie.After-refuse-v2 → tie.Start
 at-start c = c .before .before .before .before
 
 -- What a call that is not refused may count on.
-passed : (c : tie.Else1) → let a = at-start (c .before .before) .args in Opened (ask v2 (a .src .now) [] (a .width) (a .height)) (buffers (a .out .now) (some (a .map .now)) none)
-passed c = opened (v2-tested _ (c .before .before .is-too-small .ensures) (c .before .refuse .ensures)) (c .if1 .left)
+passed : (c : tie.Else1) → let a = at-start (c .before) .args in Opened (ask v2 (a .src .now) [] (a .width) (a .height)) (buffers (a .out .now) (some (a .map .now)) none)
+passed c = opened (v2-tested (c .before .refuse-v2 .ensures)) (c .if1 .left)
 
 mul-n : tie.Need-mul-n
 mul-n c = omega (arith, passed c .few)
@@ -86,8 +83,7 @@ pub decode-v2-map-spec : {M : Type 1} → statement M
 decode-v2-map-spec =
     tie.close
     (tie.spec
-    is-too-small-requires
-    refuse-requires
+    refuse-v2-requires
     refused-requires
     returns
     mul-n
