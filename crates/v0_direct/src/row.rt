@@ -31,6 +31,9 @@ use v0_windows::four_at;
 use v0_windows::four_long_at;
 use v0_windows::plan_of;
 use v0_windows::window_head;
+use window::BACK_BITS;
+use window::BACK_BYTES;
+use window::SHORT_BITS;
 use window::stands_within;
 use window::state_at;
 
@@ -59,25 +62,25 @@ fn put_groups(src: &[u8], base: usize, head: WindowHead, at: Place, out: &mut [u
     let plan = plan_of(head);
     let w = size.width;
     let first = at.row * w + at.col;
-    let a = if plan.n0 <= 16 {
+    let a = if plan.n0 <= SHORT_BITS {
         four_at(src, base, head.q, plan.n0)
     } else {
         four_long_at(src, base, head.q, plan.n0)
     };
     put_four(out, w, first, head.up, 0, a);
-    let b = if plan.n1 <= 16 {
+    let b = if plan.n1 <= SHORT_BITS {
         four_at(src, base, plan.q1, plan.n1)
     } else {
         four_long_at(src, base, plan.q1, plan.n1)
     };
     put_four(out, w, first, head.up, 8, b);
-    let c = if plan.n2 <= 16 {
+    let c = if plan.n2 <= SHORT_BITS {
         four_at(src, base, plan.q2, plan.n2)
     } else {
         four_long_at(src, base, plan.q2, plan.n2)
     };
     put_four(out, w, first, head.up, 1, c);
-    let d = if plan.n3 <= 16 {
+    let d = if plan.n3 <= SHORT_BITS {
         four_at(src, base, plan.q3, plan.n3)
     } else {
         four_long_at(src, base, plan.q3, plan.n3)
@@ -109,8 +112,8 @@ fn decode_inner(src: &[u8], at: Place, state: V0Row, out: &mut [u16], map: &mut 
     let bits = state.bits;
     let lengths = state.lengths;
     if stands_within(src, bits, BLOCK_BYTES) {
-        let base = bits.pos as usize - 12;
-        let head = window_head(src, base, 96 - bits.count as usize, lengths);
+        let base = bits.pos as usize - BACK_BYTES;
+        let head = window_head(src, base, BACK_BITS - bits.count as usize, lengths);
         let end = put_groups(src, base, head, at, out);
         mark_block(map, at.size, at.row, at.col, head.up);
         let after = head.lengths;

@@ -23,6 +23,8 @@ use v0_windows::four_at;
 use v0_windows::last_start;
 use v0_windows::plan_of;
 use v0_windows::window_head;
+use window::BACK_BITS;
+use window::BACK_BYTES;
 use window::stands_within;
 use window::state_at;
 
@@ -61,10 +63,10 @@ fn short_run(src: &[u8], at: Place, state: V0Row, out: &mut [u16], map: &mut [u8
     let size = at.size;
     let row = at.row;
     let bits = state.bits;
-    let base = bits.pos as usize - 12;
+    let base = bits.pos as usize - BACK_BYTES;
     let last = last_start(src.len() - base);
     let w = size.width;
-    let mut q = 96 - bits.count as usize;
+    let mut q = BACK_BITS - bits.count as usize;
     let mut lengths = state.lengths;
     let mut col = at.col;
     while col + V0Row::BLOCK <= w && q <= last {

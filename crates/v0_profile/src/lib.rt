@@ -22,6 +22,8 @@ use v0_stream::block::read_block_head;
 use v0_windows::BLOCK_BYTES;
 use v0_windows::plan_of;
 use v0_windows::window_head;
+use window::BACK_BITS;
+use window::BACK_BYTES;
 use window::stands_within;
 use window::state_at;
 
@@ -34,8 +36,8 @@ fn pass_block(src: &[u8], state: V0Row) -> V0Head
     let bits = state.bits;
     let lengths = state.lengths;
     if stands_within(src, bits, BLOCK_BYTES) {
-        let base = bits.pos as usize - 12;
-        let head = window_head(src, base, 96 - bits.count as usize, lengths);
+        let base = bits.pos as usize - BACK_BYTES;
+        let head = window_head(src, base, BACK_BITS - bits.count as usize, lengths);
         let plan = plan_of(head);
         let after = head.lengths;
         return V0Head {

@@ -27,6 +27,9 @@ use v0_windows::four_at;
 use v0_windows::four_long_at;
 use v0_windows::plan_of;
 use v0_windows::window_head;
+use window::BACK_BITS;
+use window::BACK_BYTES;
+use window::SHORT_BITS;
 use window::stands_within;
 use window::state_at;
 
@@ -112,25 +115,25 @@ fn store_groups(
     ensures { λ _. ⌜ now (out .exit) ≡ store-samples 0 width col order (residuals-of (now (src .entry)) base head) (now (out .entry)) ⌝ }
 {
     let plan = plan_of(head);
-    let a = if plan.n0 <= 16 {
+    let a = if plan.n0 <= SHORT_BITS {
         four_at(src, base, head.q, plan.n0)
     } else {
         four_long_at(src, base, head.q, plan.n0)
     };
     store_four(out, col, a);
-    let b = if plan.n1 <= 16 {
+    let b = if plan.n1 <= SHORT_BITS {
         four_at(src, base, plan.q1, plan.n1)
     } else {
         four_long_at(src, base, plan.q1, plan.n1)
     };
     store_four(out, col + 8, b);
-    let c = if plan.n2 <= 16 {
+    let c = if plan.n2 <= SHORT_BITS {
         four_at(src, base, plan.q2, plan.n2)
     } else {
         four_long_at(src, base, plan.q2, plan.n2)
     };
     store_four(out, col + 1, c);
-    let d = if plan.n3 <= 16 {
+    let d = if plan.n3 <= SHORT_BITS {
         four_at(src, base, plan.q3, plan.n3)
     } else {
         four_long_at(src, base, plan.q3, plan.n3)
@@ -174,8 +177,8 @@ fn parse_block(
     let before = row.lengths;
     let col = k * V0Row::BLOCK;
     if col + V0Row::BLOCK <= width && stands_within(src, bits, BLOCK_BYTES) {
-        let base = bits.pos as usize - 12;
-        let head = window_head(src, base, 96 - bits.count as usize, before);
+        let base = bits.pos as usize - BACK_BYTES;
+        let head = window_head(src, base, BACK_BITS - bits.count as usize, before);
         let end = store_groups(src, base, head, out, width, col);
         dirs[k] = direction_byte(head.up);
         let lengths = head.lengths;

@@ -19,6 +19,8 @@ use v0_windows::four_at;
 use v0_windows::last_start;
 use v0_windows::plan_of;
 use v0_windows::window_head;
+use window::BACK_BITS;
+use window::BACK_BYTES;
 use window::stands_within;
 use window::state_at;
 
@@ -107,10 +109,10 @@ pub fn parse_run(
     let bits = row.bits;
     let before = row.lengths;
     if are_short(before) && stands_within(src, bits, BLOCK_BYTES) {
-        let base = bits.pos as usize - 12;
+        let base = bits.pos as usize - BACK_BYTES;
         let start = Point {
             k,
-            q: 96 - bits.count as usize,
+            q: BACK_BITS - bits.count as usize,
             lengths: before,
         };
         let end = short_blocks(src, base, start, width, out, dirs);

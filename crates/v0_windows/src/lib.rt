@@ -13,6 +13,7 @@ use fields::field;
 use fields::power;
 use v0_stream::block::residual_length;
 use v0_stream::head::step;
+use window::SHORT_BITS;
 use window::window;
 
 // The bytes that have to be there from the word fetched last on: a block ends at most 569 bits after that word's start, in the
@@ -122,12 +123,15 @@ pub fn plan_of(head: WindowHead) -> Plan
     }
 }
 
+// The same limit as a length.
+const SHORT: i32 = SHORT_BITS as i32;
+
 // Whether the residuals of a length are short: four of them lie in one window. With both tests the length is known to be the number of
 // their bits; where it says no, another way reads them.
 fn is_short(length: i32) -> bool
     ensures { λ r. ⌜ (r ≡ true → length-bits length ≤ 16) ⌝ }
 {
-    0 <= length && length <= 16
+    0 <= length && length <= SHORT
 }
 
 // Whether all residuals of a block are.

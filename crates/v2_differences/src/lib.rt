@@ -19,6 +19,9 @@ use fields::signed_of;
 use four::four_at;
 use rules::Bits;
 use rules::V2Row;
+use window::BACK_BITS;
+use window::BACK_BYTES;
+use window::SHORT_BITS;
 use window::stands_within;
 use window::state_at;
 
@@ -118,8 +121,8 @@ fn by_windows(src: &[u8], row: usize, lengths: [u32; 4], bits: Bits, values: &mu
     ensures { λ r. ⌜ record { values = now (values .exit); bits = r } ≡ differences-from (now (src .entry)) row lengths 16 0 (record { values = now (values .entry); bits = bits }) ⌝ }
 {
     let positions = positions_of(row);
-    let base = bits.pos as usize - 12;
-    let mut q = 96 - bits.count as usize;
+    let base = bits.pos as usize - BACK_BYTES;
+    let mut q = BACK_BITS - bits.count as usize;
     let mut j: usize = 0;
     while j < 4 {
         let n = lengths[j];
@@ -135,16 +138,16 @@ fn by_windows(src: &[u8], row: usize, lengths: [u32; 4], bits: Bits, values: &mu
 fn are_short(lengths: [u32; 4]) -> bool
     ensures { λ r. ⌜ r ≡ short lengths ⌝ }
 {
-    if 16 < lengths[0] {
+    if SHORT_BITS < lengths[0] {
         return false;
     }
-    if 16 < lengths[1] {
+    if SHORT_BITS < lengths[1] {
         return false;
     }
-    if 16 < lengths[2] {
+    if SHORT_BITS < lengths[2] {
         return false;
     }
-    lengths[3] <= 16
+    lengths[3] <= SHORT_BITS
 }
 
 // The sixteen differences, each at its position.

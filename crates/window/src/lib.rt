@@ -8,6 +8,14 @@ ghost use Rattle.rules.specs.Reader.{word-at};
 ghost use Rattle.window.specs.Window.{state-at, Window, stands-in, Standing};
 use rules::Bits;
 
+// A record that stands in the stream is counted from three words before its position: how many bytes and bits these are.
+pub const BACK_BYTES: usize = 12;
+
+pub const BACK_BITS: usize = 96;
+
+// A window holds four numbers of so many bits each.
+pub const SHORT_BITS: u32 = 16;
+
 // A byte as a wide number.
 fn wide(x: u8) -> u64
     ensures { λ r. ⌜ (r ≡ x) × (r < 256) ⌝ }
