@@ -2,8 +2,8 @@
 // position is answered, by document 01's "Reader record".
 ghost use mathlib.Core.Bool.{true};
 ghost use mathlib.Core.Path.{_≡_};
-ghost use Prim.Native.Nat.{_+_, _*_, _/_, _%_, _^_, _≤_, _<_, min};
-ghost use Rattle.rules.specs.Reader.{fetched, counted, held, reset-at, read, signed, read-signed, modulo, read-residual};
+ghost use Prim.Native.Nat.{_+_, _*_, _%_, _≤_, _<_, min};
+ghost use Rattle.rules.specs.Reader.{fetched, counted, held, reset-at, read, read-signed, read-residual};
 ghost use Rattle.bits.specs.Refilled.{joined-with, Enough, Whole};
 
 pub mod four;

@@ -14,7 +14,7 @@ use native.Mathlib.Omega.{arith}
 use lib.Dec.{ltb, eqb}
 use lib.ListN.{length, getD, take, drop, length-take, List·getD-eq-default}
 use lib.Seq.{length-take-le, getD-take, take-at}
-use borrow.Author.Tests.{ltb-false, ltb-true, eqb-true, eqb-false}
+use borrow.Author.Tests.{ltb-false, ltb-true, eqb-true}
 use Rattle.rules.specs.declared.answer.Size.{Size}
 use Rattle.rules.specs.Frame.{cells}
 use Rattle.rules.specs.Map.{old-part}
@@ -23,7 +23,7 @@ use Rattle.rules.proofs.Cells.{all-append, all-take, all-drop}
 use Rattle.rules.proofs.Isolation.{Returned, Samples, Step, Calls, Alike, Ran, Same, isolation, mark-of}
 use Rattle.rules.proofs.Tests.{by-test}
 use Rattle.blanking.specs.declared.Blanked.{Blanked}
-use Rattle.blanking.specs.Blanking.{Fill, marked, count, blanked, runs-of, numbers}
+use Rattle.blanking.specs.Blanking.{marked, count, blanked, runs-of, numbers}
 use Rattle.blanking.specs.Calls.{Call, frame-of, marks-of, found, refusal, blanked-done, blank-answer, unless-refused, samples-after, runs-after, Yields}
 use Rattle.blanking.proofs.ByteLaws.{unmarked-zero}
 use Rattle.blanking.proofs.EachSample.{Clean, Fits, blank-rows-length, blank-rows-below, blanked-same}

@@ -2,7 +2,7 @@
 -- and then with 3 if either buffer has fewer than N samples; nothing is changed then. Else the first N samples of the one are
 -- moved to the first N of the other, and what lies past them stays.
 use Prim.Native.Nat.{ℕ}
-use mathlib.Core.Bool.{Bool, false, _||_, cond}
+use mathlib.Core.Bool.{false, _||_, cond}
 use mathlib.Core.List.{List, _++_}
 use lib.Dec.{ltb, eqb}
 use lib.ListN.{length, take, drop}

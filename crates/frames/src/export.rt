@@ -1,5 +1,4 @@
 // The archive export: a frame is blanked, and then written as V0.
-ghost use mathlib.Core.Path.{_≡_};
 ghost use Rattle.frames.specs.Export.{export, Yields};
 use crate::blanks::blank_with;
 use crate::writer::write_v0;

@@ -8,7 +8,7 @@ use lib.ListN.{length, take, drop, replicate, length-replicate, length-drop}
 use lib.Seq.{take-all, length-take-le}
 use borrow.Author.Tests.{ne-eqb}
 use Rattle.rules.specs.declared.answer.Answer.{Answer}
-use Rattle.rules.specs.Answer.{Ask, Buffers, direct, ask, buffers, lengths, Yields, answer, samples-after, map-after}
+use Rattle.rules.specs.Answer.{Ask, Buffers, direct, ask, buffers, lengths, Yields, answer, map-after}
 use Rattle.rules.specs.Job.{job-ask, job-lent, done-line, refused-line, rows-text, answer-text}
 use Rattle.job.specs.Fields.{offsets-of, Sound}
 use Rattle.job.specs.Written.{Left}

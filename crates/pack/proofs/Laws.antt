@@ -25,7 +25,7 @@ use Rattle.writers.proofs.Blocks.{opening-widths, opening, lengths-most}
 use Rattle.writers.proofs.PendingLaws.{put-wrote, wrote-none, wrote-both}
 use Rattle.writers.proofs.Smallest.{smallest-most}
 use Rattle.writers.proofs.WeightLaws.{heaviest, weight-short, smallest-by-weight}
-use Rattle.pack.specs.Block.{numbers, number-bits, numbers-bits, opening-number, Shorts, Lengths}
+use Rattle.pack.specs.Block.{numbers, number-bits, numbers-bits, opening-number, Lengths}
 
 pub one-shl : (k : ℕ) → k ≤ 32 → (1 * 2 ^ k) % 2 ^ 64 ≡ 2 ^ k
 one-shl k h = let l : k < 64 = omega arith in rw one-mul (mod-eq-of-lt (pow-lt l))

@@ -1,9 +1,9 @@
 // Bits written into a lent buffer, word by word, and a block of V0 or V2. What waits for its word is passed by value.
 ghost use mathlib.Core.Path.{_≡_};
 ghost use mathlib.Core.List.{[], _∷_, _++_};
-ghost use Prim.Native.Nat.{ℕ, _+_, _*_, _-_, _/_, _%_, _^_, _≤_, _<_, max};
+ghost use Prim.Native.Nat.{_+_, _*_, _-_, _/_, _%_, _^_, _≤_, _<_, max};
 ghost use mathlib.Core.Bool.{false};
-ghost use lib.ListN.{length, getD, replicate};
+ghost use lib.ListN.{length, replicate};
 ghost use lib.Seq.{sets};
 ghost use Rattle.writers.specs.Writer.{bits-of, gap, Unit, word-bytes, smallest, lengths-for, block-bits};
 ghost use Rattle.writers.specs.Weight.{weight, Short};

@@ -12,8 +12,7 @@ use lib.Seq.{length-take-le}
 use borrow.Author.Tests.{eqb-true, eqb-false, eq-eqb, ne-eqb}
 use Rattle.rules.specs.declared.answer.Answer.{Answer}
 use Rattle.rules.specs.Frame.{cells}
-use Rattle.rules.specs.V0.{decoded, frame-filler}
-use Rattle.rules.specs.Map.{v0-map}
+use Rattle.rules.specs.V0.{decoded}
 use Rattle.rules.specs.Answer as Plain
 use Rattle.rules.proofs.Refusals.{map-enough}
 use Rattle.rules.proofs.Tests.{by-test}

@@ -9,10 +9,10 @@ use Rattle.rules.specs.declared.answer.Answer.{Answer}
 use Rattle.rules.specs.declared.answer.Size.{Size}
 use Rattle.rules.specs.declared.v0.V0Head.{V0Head}
 use Rattle.rules.specs.Reader.{fetched, counted, held, read, fields, four, signed, modulo, read-residual}
-use Rattle.rules.specs.Frame.{tabulate, change-cells}
-use Rattle.rules.specs.V0.{fresh-row, operated, operate, head, bounded, predictor, length-of, length-bits, residual-bits, sample, samples, blocks, row-blocks, rows, put, apply, write, write-all, swap, exchange-columns, exchange-rows, exchange, frame, decoded}
+use Rattle.rules.specs.Frame.{change-cells}
+use Rattle.rules.specs.V0.{fresh-row, operated, operate, head, bounded, predictor, length-of, length-bits, residual-bits, sample, samples, blocks, row-blocks, rows, put, apply, write, write-all, swap, exchange-columns, exchange-rows, exchange, frame}
 use Rattle.rules.specs.Map.{v0-map}
-use Rattle.profile.specs.Profile.{fits, all-fit, first-fault, block-fault, blocks-fault, row-fault, fault-at, rows-verdict, verdict}
+use Rattle.profile.specs.Profile.{fits, all-fit, first-fault, block-fault, blocks-fault, row-fault, rows-verdict, verdict}
 
 abbrev told : Answer → List ℕ
 told v = v .number ∷ v .row ∷ v .filler ∷ []

@@ -6,12 +6,12 @@ use Prim.Native.Nat.{ℕ, zero, suc, _+_, _*_, _/_, _%_, _≤_, _<_}
 use mathlib.Core.Bool.{Bool, true, false, cond, not}
 use mathlib.Core.Path.{_≡_, refl, sym, ap, _∙_}
 use mathlib.Core.Logic.{_≢_, _⊎_, by-cases, ⊎-elim}
-use mathlib.Core.List.{List, [], _∷_}
+use mathlib.Core.List.{List, _∷_}
 use native.Mathlib.Omega.{arith}
 use native.Mathlib.Decide.{ℕ-discrete, decLt}
 use native.Mathlib.Nat.{mul-comm, mul-le-mul-right}
 use lib.Dec.{ltb, eqb}
-use lib.ListN.{length, getD, set, replicate, length-set, length-replicate, getD-replicate}
+use lib.ListN.{length, getD, set, length-set, length-replicate, getD-replicate}
 use lib.Seq.{getD-set-same, getD-set-other, set-out}
 use borrow.Author.Tests.{ltb-true, ltb-false, eqb-true, eqb-false}
 use Rattle.rules.specs.declared.answer.Answer.{Answer}
@@ -26,13 +26,13 @@ use Rattle.rules.specs.Reader.{has-filler}
 use Rattle.rules.specs.Frame.{cells, change-cells}
 use Rattle.rules.specs.V0 as V0
 use Rattle.rules.specs.Map.{old-part, with-filler, v0-marks, v0-map, all-old}
-use Rattle.rules.proofs.Cells.{All, nil, more, all-append, all-map, change-other, change-at}
+use Rattle.rules.proofs.Cells.{All, nil, more, all-append}
 use Rattle.rules.proofs.Order.{all-order}
 use Rattle.rules.proofs.Spill.{samples-all}
-use Rattle.rules.proofs.Tests.{clash, by-test}
+use Rattle.rules.proofs.Tests.{by-test}
 use Rattle.rules.proofs.V0Blocks.{block, after}
-use Rattle.rules.proofs.V0Cells.{write-all-length, apply-length}
-use Rattle.profile.specs.Profile.{all-fit, first-fault, block-fault, or-next, blocks-fault, row-fault, verdict, rows-verdict}
+use Rattle.rules.proofs.V0Cells.{write-all-length}
+use Rattle.profile.specs.Profile.{all-fit, first-fault, block-fault, blocks-fault, row-fault, verdict, rows-verdict}
 use Rattle.profile.proofs.Verdicts.{First, fault-of, rows-first, never}
 
 -- ── A place that is left alone ──

@@ -1,5 +1,4 @@
 // The V0 writer.
-ghost use mathlib.Core.Path.{_≡_};
 ghost use Rattle.writers.specs.Calls.{call, Yields};
 use writers::Written;
 

@@ -1,24 +1,19 @@
 -- The tests are the rules' tests, in their order, and what a call that passes them may count on.
-use mathlib.Core.Path.{_≡_, refl, sym, ap, _∙_}
-use mathlib.Core.Bool.{Bool, true, false, _||_, cond}
-use mathlib.Core.List.{List, [], _∷_, _++_}
-use mathlib.Core.Option.{Option, none, some}
-use Prim.Native.Nat.{ℕ, zero, suc, _+_, _-_, _*_, _/_, _≤_, _<_}
+use mathlib.Core.Path.{_≡_, refl, sym, _∙_}
+use mathlib.Core.Bool.{Bool, true, false, _||_}
+use Prim.Native.Nat.{ℕ, _-_, _*_, _≤_, _<_}
 use native.Mathlib.Omega.{arith}
 use native.Mathlib.Nat.{mul-le-mul, mul-zero}
-use lib.Dec.{ltb, eqb}
-use lib.ListN.{length, take, drop, replicate}
-use borrow.Author.Tests.{lt-ltb, le-ltb, ltb-false, eqb-true, eqb-false}
-use Rattle.rules.specs.declared.answer.Answer.{Answer}
+use lib.Dec.{ltb}
+use borrow.Author.Tests.{ltb-false}
 use Rattle.rules.specs.declared.answer.Size.{Size}
 use Rattle.rules.specs.Frame.{cells}
 use Rattle.rules.specs.V0.{blocks-in}
-use Rattle.rules.specs.Answer.{Ask, Lent, too-large, scratch-bytes, first-of, refusal, answer, stream-answer, frame-samples, marks, frame-scratch, unless-refused, samples-after, map-after, scratch-after}
+use Rattle.rules.specs.Answer.{too-large, scratch-bytes, first-of}
 use Rattle.refusals.specs.declared.Lending.{Lending}
 use Rattle.refusals.specs.declared.Lending.the-variants.{Length}
 use Rattle.refusals.specs.Lending.{short}
 use Rattle.rules.proofs.Tests.{neither}
-use Rattle.rules.proofs.Refusals.{answer-refused, answer-passed, samples-kept, map-kept, scratch-kept}
 
 -- A frame within the limits has few enough samples.
 pub cells-most : (w h : ℕ) → w ≤ 16_384 → h ≤ 16_384 → w * h ≤ 268_435_456

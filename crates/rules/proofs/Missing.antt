@@ -1,7 +1,7 @@
 -- What a count of missing words says: it is the number of the words fetched that don't lie wholly in the stream, held at 2^64 − 1.
 -- So it never falls, it is 0 exactly if a flag would be false, and a stream that has every word has count 0. A V0 frame's count is
 -- the sum over its rows, each of which is a run of reads from its offset; V2's is that of one run from the header on.
-use Prim.Native.Nat.{ℕ, zero, suc, _+_, _-_, _*_, _≤_, _<_, min}
+use Prim.Native.Nat.{ℕ, zero, suc, _+_, _*_, _≤_, _<_, min}
 use mathlib.Core.Bool.{Bool, true, false, cond, not, _||_}
 use mathlib.Core.Path.{_≡_, refl, sym, ap, _∙_}
 use mathlib.Core.List.{List, [], _∷_, _++_}

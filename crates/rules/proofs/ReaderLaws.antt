@@ -29,13 +29,6 @@ pub fetched-missing : (s : List ℕ) (p : ℕ) → length s < p + 4 → fetched 
 unfolding fetched
 fetched-missing s p h = simp (lt-leb _ _ h)
 
--- A word of bytes has 32 bits.
-pub fetched-below : (s : List ℕ) (p : ℕ) → ((i : ℕ) → getD s i 0 < 256) → fetched s p .value < 2 ^ 32
-fetched-below s p h =
-    by-test (leb (p + 4) (length s))
-    (λ e. rw (fetched-there s p (leb-true _ _ e)) (omega (arith, h p, h (p + 1), h (p + 2), h (p + 3))))
-    (λ e. rw (fetched-missing s p (leb-false _ _ e)) (omega arith))
-
 byte-agree : (s t : List ℕ) (q i : ℕ) → take q s ≡ take q t → i < q → getD s i 0 ≡ getD t i 0
 byte-agree s t q i e h = sym (getD-take q s i 0 h) ∙ ap (λ (l : List ℕ). getD l i 0) e ∙ getD-take q t i 0 h
 
@@ -135,10 +128,6 @@ read-zero s b =
     let c : held b - 0 ≡ held b = omega arith in
     let v : b .word / 2 ^ held b % 2 ^ 0 ≡ 0 = omega (arith, mod-lt (b .word / 2 ^ held b) (pow-pos 0)) in
     rw (read-held s b 0 (omega arith), k, c, v)
-
--- A state that counts as it stands is left as it is by a read of 0 bits.
-pub read-none : (s : List ℕ) (b : Bits) → b .count < 32 → read s b 0 ≡ record { value = 0; bits = b }
-read-none s b h = rw (read-zero s b, held-is b h)
 
 -- A count of missing words is never set back to 0 by a read.
 pub read-kept : (s : List ℕ) (b : Bits) (n : ℕ) → read s b n .bits .filler ≡ 0 → b .filler ≡ 0
@@ -483,7 +472,3 @@ read-signed-mag m s b n h = signed-mag m (min n 32) (read s b n .value) h (read-
 pub read-residual-is : (s : List ℕ) (b : Bits) (n : ℕ) → read-residual s b n ≡ record { value = modulo (signed (min n 32) (read s b n .value)); bits = read s b n .bits }
 unfolding read-residual
 read-residual-is s b n = refl
-
-pub read-residual-below : (s : List ℕ) (b : Bits) (n : ℕ) → read-residual s b n .value < 65_536
-unfolding read-residual
-read-residual-below s b n = modulo-below (signed (min n 32) (read s b n .value))

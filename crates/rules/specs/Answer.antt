@@ -1,6 +1,6 @@
 -- Document 01, "Answer record": what a call answers, and what it leaves in samples, map and scratch. The three decoders' contracts
 -- cite these definitions, for every input.
-use Prim.Native.Nat.{ℕ, _+_, _-_, _*_}
+use Prim.Native.Nat.{ℕ, _-_, _*_}
 use mathlib.Core.Bool.{Bool, false, _||_, cond}
 use mathlib.Core.Path.{_≡_}
 use mathlib.Core.List.{List, [], _++_}

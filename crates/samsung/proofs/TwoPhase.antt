@@ -12,7 +12,7 @@ use borrow.Author.Tests.{le-ltb, eqb-true}
 use Rattle.rules.specs.declared.answer.Answer.{Answer}
 use Rattle.rules.specs.declared.answer.Size.{Size}
 use Rattle.rules.specs.Frame.{cells}
-use Rattle.rules.specs.Answer.{direct, two-phase, Ask, Lent, lent, lengths, too-small, short-samples, short-offsets, short-map, short-scratch, scratch-bytes, refusal, stream-answer, answer, frame-samples, unless-refused, samples-after}
+use Rattle.rules.specs.Answer.{direct, two-phase, Ask, lent, lengths, too-small, short-samples, short-offsets, short-map, short-scratch, scratch-bytes, refusal, stream-answer, answer, frame-samples, unless-refused, samples-after}
 use Rattle.rules.proofs.Refusals.{samples-enough}
 use Rattle.rules.proofs.TwoPhase.{two-phase-direct}
 use Rattle.rules.proofs.Isolation.{Returned}

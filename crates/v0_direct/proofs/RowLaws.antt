@@ -21,7 +21,7 @@ use Rattle.v0_direct.specs.Lent.{InRow, BlockLent, RunLent}
 use Rattle.v0_direct.specs.Block.{samples-of, block-ops, after-block, Decoded, BlockRun, none, also, Ran}
 use Rattle.v0_stream.proofs.HeadLaws.{within-more, fresh-within, head-within}
 use Rattle.rules.proofs.V0Cells.{write-plain}
-use Rattle.v0_cells.proofs.CellLaws.{product, blocks-walk, Left, left-begun, left-on, left-none}
+use Rattle.v0_cells.proofs.CellLaws.{blocks-walk, Left, left-begun, left-on, left-none}
 
 -- ── One block ──
 
@@ -123,10 +123,6 @@ module _ (s : List ℕ) (z : Size) (row offset : ℕ) (out₀ map₀ : List ℕ)
     where
       all : rest-of s z row 0 st ≡ row-blocks s z row offset
       all = let q : z .width + 15 - 0 ≡ z .width + 15 = omega arith in ap₂ (λ n x. blocks s (row * z .width) (predictor z row) (n / 16) 0 x) q e
-
-  -- Its places fit a machine word.
-  pub places-fit : InRow z row out₀ map₀ → row * z .width ≤ 268_550_144
-  places-fit i = product row (z .width) (omega (arith, i .row-in, i .height)) (omega (arith, i .width))
 
   -- A block that the row still has lies in the frame.
   pub row-block : (out map : List ℕ) (st : V0Row) (col : ℕ) → col < z .width → InRow z row out₀ map₀ → Rowing s z row offset out₀ out map₀ map st col

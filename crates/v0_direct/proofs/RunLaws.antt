@@ -6,7 +6,7 @@ use Prim.Native.Nat.{ℕ, suc, _+_, _-_, _*_, _/_, _%_, _≤_}
 use native.Mathlib.Omega.{arith}
 use lib.IntN.{ℤ}
 use lib.ListN.{length, replicate}
-use Rattle.rules.specs.V0.{apply, sample-kind, order, head}
+use Rattle.rules.specs.V0.{apply, sample-kind, order}
 use Rattle.rules.specs.Map.{v0-marks}
 use Rattle.rules.specs.declared.answer.Size.{Size}
 use Rattle.rules.specs.declared.reader.Bits.{Bits}

@@ -1,25 +1,23 @@
 -- Past the end a block is of ones: each read gives ones, and the state so many bits on.
 use mathlib.Core.Path.{_≡_, refl, sym, ap, _∙_}
-use mathlib.Core.Bool.{true, cond}
+use mathlib.Core.Bool.{true}
 use mathlib.Core.List.{List, [], _∷_}
 use Prim.Native.Nat.{ℕ, _+_, _*_, _-_, _/_, _%_, _^_, _≤_, _<_, min}
 use native.Mathlib.Omega.{arith}
 use lib.Dec.{leb}
 use lib.IntN.{ℤ, pos}
-use lib.ListN.{length, getD, replicate}
+use lib.ListN.{length, replicate}
 use lib.Pow.{pow-pos, pow-mono, high, low, high-ones}
 use borrow.Author.Tests.{leb-true, leb-false}
 use Rattle.rules.specs.Reader.{fetched, held, most-filler, read, four, signed, modulo}
 use Rattle.rules.specs.V0.{operated, operate, head, length-bits}
 use Rattle.rules.specs.declared.reader.Bits.{Bits}
-use Rattle.rules.specs.declared.reader.Got.{Got}
-use Rattle.rules.specs.declared.v0.V0Row.{V0Row}
 use Rattle.rules.specs.declared.v0.V0Head.{V0Head}
 use Rattle.rules.proofs.ReaderLaws.{fetched-missing, held-is, counted-more, read-held, read-next, four-reads, residual-is}
 use Rattle.v0_stream.specs.Block.{whole-block}
 use Rattle.v0_stream.specs.PastEnd.{PastEnd, ones-after, block-of-ones}
 use Rattle.v0_stream.proofs.HeadLaws.{four-of}
-use Rattle.v0_stream.proofs.BlockLaws.{Reading, reading-begun, reading-four, read-all, whole-read}
+use Rattle.v0_stream.proofs.BlockLaws.{reading-begun, reading-four, read-all, whole-read}
 use Rattle.rules.proofs.Tests.{by-test}
 
 -- ── One read ──

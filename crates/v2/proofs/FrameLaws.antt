@@ -20,7 +20,7 @@ use Rattle.rules.specs.declared.v2.V2Hdr.{V2Hdr}
 use Rattle.rules.specs.declared.v2.V2Row.{V2Row}
 use Rattle.rules.specs.declared.v2.V2Start.{V2Start}
 use Rattle.rules.specs.Reader.{has-filler}
-use Rattle.rules.specs.Frame.{cells, tabulate, ended}
+use Rattle.rules.specs.Frame.{tabulate, ended}
 use Rattle.rules.specs.Map.{with-filler, v2-marks}
 use Rattle.rules.specs.V2.{header, aligned, fresh-row, fresh-mode, number, state-after, base, Block, read-block, Row, then, blocks, read-row, Frame, then-rows, rows, read-frame, Kind, base-cell, block-cells, write, apply, frame, top, sample-kind, decoded}
 use Rattle.rules.specs.Answer.{done-with}

@@ -18,7 +18,7 @@ use Rattle.rules.specs.Frame.{tabulate}
 use Rattle.rules.specs.V2.{motion-offsets, motion-averages, refers-before, base-refusal, repeated, referred, base, Kind, base-cell}
 use Rattle.rules.specs.Ranges.{offset-4, reference-5}
 use Rattle.rules.proofs.Cells.{All, nil, more, all-get}
-use Rattle.rules.proofs.V2Places.{further, offset-is, offset-most, reference-is}
+use Rattle.rules.proofs.V2Places.{further, offset-is, reference-is}
 use Rattle.rules.proofs.V2References.{reference-inside}
 use Rattle.rules.proofs.Tests.{by-test}
 use Rattle.v2_cells.specs.declared.Place.{Place}
@@ -45,13 +45,6 @@ offset-small motion = all-get (λ z. mag z ≤ 4) table motion (pos 0) (lit≤ t
 
 pub offset-code : (motion : ℕ) → toZ w64 (ofZ w64 (getD motion-offsets motion (pos 0))) +ℤ pos 4 ≡ pos (offset-4 motion)
 offset-code motion = rw (toZ-ofZ w64 (getD motion-offsets motion (pos 0)) (record { sfits = omega (arith, offset-small motion) })) (offset-is motion)
-
-pub reference-small : (w row col motion i : ℕ) → row < 16_384 → w ≤ 16_384 → col ≤ 16_384 → i < 16 → reference-5 w row col motion i < 536_870_000
-unfolding reference-5
-reference-small w row col motion i h k l m =
-    by-test (eqb ((row + i) % 2) 1)
-    (λ e. rw e (omega (arith, rows-room row w h k, offset-most motion)))
-    (λ e. rw e (omega (arith, rows-room row w h k, offset-most motion)))
 
 -- A sample refers as far on from one of the same parity as it stands on from it.
 same-parity : (at : Place) (motion i d : ℕ) → d % 2 ≡ 0 → reference at motion (i + d) ≡ reference at motion i + d

@@ -1,5 +1,4 @@
 // What V2 reads of a block last: its differences, out of windows where the reader's record stands in the stream, else two by two.
-ghost use mathlib.Core.Bool.{true};
 ghost use mathlib.Core.Path.{_≡_};
 ghost use Prim.Native.Nat.{_+_, _<_};
 ghost use lib.IntN.{pos};

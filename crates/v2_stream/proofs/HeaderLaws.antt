@@ -13,7 +13,7 @@ use mir.Val.{SFits}
 use Rattle.rules.specs.declared.reader.Bits.{Bits}
 use Rattle.rules.specs.declared.reader.Got.{Got}
 use Rattle.rules.specs.declared.v2.V2Hdr.{V2Hdr}
-use Rattle.rules.specs.Reader.{fresh, read, fields}
+use Rattle.rules.specs.Reader.{fresh, read}
 use Rattle.rules.specs.V2.{header, option-2, option-4, scale-steps, rescaled, read-scale, read-motion}
 use Rattle.rules.specs.Ranges.{Between}
 use Rattle.rules.proofs.ReaderLaws.{read-below, fields-none, fields-more}

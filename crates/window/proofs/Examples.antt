@@ -1,6 +1,6 @@
 -- Worked examples of the definitions, on three words: A0000000, 87654321 and 0F1E2D3C.
-use Prim.Native.Nat.{ℕ, _^_, _-_}
-use mathlib.Core.Bool.{Bool, true, false}
+use Prim.Native.Nat.{ℕ}
+use mathlib.Core.Bool.{true, false}
 use mathlib.Core.Path.{_≡_, refl}
 use mathlib.Core.List.{List, [], _∷_, map}
 use Rattle.rules.specs.declared.reader.Bits.{Bits}

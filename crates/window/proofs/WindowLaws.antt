@@ -10,14 +10,13 @@ use native.Mathlib.Omega.{arith}
 use native.Mathlib.Numerals.{add-one}
 use lib.Dec.{ltb, leb, eqb}
 use lib.ListN.{length}
-use lib.Pow.{pow-pos, pow-mono, pow-add, high, low, field, shl-shr, shl-exact, shr-mod, shr-shr, mod-pow-add, mod-mod-pow}
+use lib.Pow.{pow-pos, pow-add, high, low, field, shl-shr, shl-exact, shr-mod, shr-shr, mod-pow-add}
 use borrow.Author.Tests.{le-leb, lt-leb, lt-ltb, le-ltb, leb-true, leb-false, ltb-true, eqb-true}
 use Rattle.rules.specs.Reader.{word-at, fetched, held, read, fields}
 use Rattle.rules.proofs.ReaderLaws.{fetched-there, counted-there, held-is, read-held, read-next, above, fields-none, fields-more}
 use Rattle.rules.proofs.Tests.{both, by-test}
 use Rattle.rules.specs.declared.reader.Bits.{Bits}
-use Rattle.rules.specs.declared.reader.Got.{Got}
-use Rattle.window.specs.Window.{bit, bits-from, state-at, Three, Window, FourAt, values-at, span, Narrow, none, also, stands-in, Stands}
+use Rattle.window.specs.Window.{bit, bits-from, state-at, Three, Window, FourAt, values-at, span, Narrow, also, stands-in, Stands}
 
 -- ── Bits ──
 

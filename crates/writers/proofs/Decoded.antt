@@ -13,7 +13,7 @@ use Rattle.rules.proofs.Cells.{All}
 use Rattle.rules.proofs.Refusals.{samples-enough}
 use Rattle.rules.proofs.Missing.{frame-none}
 use Rattle.rules.proofs.Tests.{by-test}
-use Rattle.writers.specs.Calls.{Call, frame-of, write-refusal, refused, write-answer, stream-after, offsets-after}
+use Rattle.writers.specs.Calls.{Call, frame-of, write-refusal, write-answer, stream-after, offsets-after}
 use Rattle.writers.proofs.CallLaws.{write-holds}
 use Rattle.writers.proofs.V0RoundTrip.{Holds}
 

@@ -1,13 +1,13 @@
 -- How long rows get, whatever their blocks are written from.
-use Prim.Native.Nat.{ℕ, zero, suc, _+_, _-_, _*_, _/_, _%_, _<_, _≤_}
+use Prim.Native.Nat.{ℕ, zero, suc, _+_, _*_, _/_, _%_, _<_, _≤_}
 use mathlib.Core.Bool.{Bool}
 use mathlib.Core.Path.{_≡_, refl, ap, _∙_}
-use mathlib.Core.List.{List, _++_}
+use mathlib.Core.List.{List}
 use native.Mathlib.Omega.{arith}
 use lib.ListN.{length, length-append}
 use Rattle.rules.specs.V0.{blocks-in}
 use Rattle.rules.proofs.Cells.{All, nil, more, all-append}
-use Rattle.writers.specs.Writer.{gap, padded, bytes, block-bits, Coding, Unit, word, line, blocks-bits, row-bytes, rows-bytes, offsets-from}
+use Rattle.writers.specs.Writer.{gap, padded, block-bits, Coding, Unit, word, line, blocks-bits, row-bytes, rows-bytes, offsets-from}
 use Rattle.writers.proofs.Blocks.{block-length}
 use Rattle.writers.proofs.Packed.{bytes-length, bytes-below, padded-length}
 

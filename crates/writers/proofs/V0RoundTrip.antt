@@ -1,6 +1,6 @@
 -- What the V0 writer writes, decoded into any buffer by either decoder, is the frame, with no map byte 1 and no filler
 -- word fetched; and every offset fits 32 bits.
-use Prim.Native.Nat.{ℕ, zero, suc, _+_, _*_, _/_, _%_, _^_, _<_, _≤_}
+use Prim.Native.Nat.{ℕ, zero, suc, _+_, _*_, _%_, _^_, _<_, _≤_}
 use mathlib.Core.Bool.{Bool, false}
 use mathlib.Core.Path.{_≡_, refl, sym, ap, _∙_, subst₂}
 use mathlib.Core.List.{List, [], _++_, append-assoc, append-nil}
@@ -11,10 +11,10 @@ use lib.Dec.{lit<}
 use Rattle.rules.specs.declared.answer.Size.{Size}
 use Rattle.rules.specs.Reader.{fresh}
 use Rattle.rules.specs.Frame.{cells}
-use Rattle.rules.specs.V0.{fresh-row, blocks-in, order, row-blocks, rows, predictor, sample-kind, apply, write-all, exchange, frame, decoded}
+use Rattle.rules.specs.V0.{fresh-row, blocks-in, row-blocks, rows, predictor, sample-kind, apply, write-all, exchange, frame, decoded}
 use Rattle.rules.specs.Phases.{two-phase}
 use Rattle.rules.specs.Map.{v0-map}
-use Rattle.rules.proofs.Cells.{All, nil, more, all-get, all-append, all-map}
+use Rattle.rules.proofs.Cells.{All, all-get, all-map}
 use Rattle.rules.proofs.Predictors.{HasRowsUp}
 use Rattle.rules.proofs.Spill.{RowHasRowsUp, inner-row, inner-rows, rows-inner}
 use Rattle.rules.proofs.Tests.{clash}

@@ -6,7 +6,7 @@ use mathlib.Core.Path.{_≡_, refl, sym, ap, ap₂, _∙_, subst, subst₂}
 use mathlib.Core.List.{List, [], _∷_, _++_, append-assoc, append-nil}
 use native.Mathlib.Omega.{arith}
 use native.Mathlib.Nat.{mod-eq-of-lt, mul-comm, add-zero}
-use lib.ListN.{length, getD, replicate, length-append, length-replicate}
+use lib.ListN.{length, getD, length-append, length-replicate}
 use lib.Seq.{ext-getD}
 use lib.Dec.{lit<}
 use Rattle.rules.specs.declared.answer.Size.{Size}
@@ -14,10 +14,10 @@ use Rattle.rules.specs.declared.reader.Bits.{Bits}
 use Rattle.rules.specs.Reader.{fresh}
 use Rattle.rules.specs.Frame.{cells}
 use Rattle.rules.specs.V0.{blocks-in}
-use Rattle.rules.specs.V2.{header, top, aligned, fresh-row, fresh-mode, position, Block, Row, Frame, then-rows, read-row, rows, read-frame, sample-kind, apply, frame, decoded}
+use Rattle.rules.specs.V2.{header, top, aligned, fresh-mode, Block, Row, Frame, then-rows, read-row, rows, read-frame, sample-kind, apply, frame, decoded}
 use Rattle.rules.specs.Answer.{done-with, done}
 use Rattle.rules.specs.Map.{v2-map}
-use Rattle.rules.proofs.Cells.{All, nil, all-get, all-append}
+use Rattle.rules.proofs.Cells.{All, all-get, all-append}
 use Rattle.rules.proofs.ReaderLaws.{held-is}
 use Rattle.rules.proofs.V2Cells.{apply-length}
 use Rattle.rules.proofs.NoFiller.{v2-all-0}

@@ -7,7 +7,7 @@ use native.Mathlib.Omega.{arith}
 use native.Mathlib.Nat.{mod-eq-of-lt}
 use lib.ListN.{length, getD, set, drop, replicate}
 use lib.Seq.{sets}
-use lib.Dec.{ltb, lit<, lit≤}
+use lib.Dec.{lit<, lit≤}
 use lib.IntN.{ℤ, pos}
 use borrow.Author.Tests.{le-ltb}
 use Rattle.rules.specs.declared.reader.Bits.{Bits}
@@ -17,7 +17,7 @@ use Rattle.rules.specs.declared.v2.V2Hdr.{V2Hdr}
 use Rattle.rules.specs.declared.v2.V2Block.the-variants.{Next}
 use Rattle.rules.specs.Reader.{fresh, has-filler, read, four, signed}
 use Rattle.rules.specs.Frame.{tabulate}
-use Rattle.rules.specs.V2.{field-widths, header, fresh-row, read-scale, read-motion, base, base-refusal, lengths-bit, read-length, Moded, length-step, lengths-from, no-lengths, flagged-lengths, read-lengths, position, Differences, difference-step, differences-from, read-differences, tail, based-tail, Block, Parsed, read-block}
+use Rattle.rules.specs.V2.{field-widths, header, fresh-row, read-scale, read-motion, base, base-refusal, lengths-bit, read-length, Moded, length-step, lengths-from, no-lengths, flagged-lengths, read-lengths, position, Differences, difference-step, differences-from, read-differences, tail, based-tail, Block, read-block}
 use Rattle.rules.proofs.Cells.{All, nil, more, all-get, Each, none, both}
 use Rattle.rules.proofs.ReaderLaws.{read-signed-is}
 use Rattle.writers.specs.Writer.{bits-of, fields-bits, run, lengths-for, length-for}

@@ -61,11 +61,6 @@ difference-back a b l la lb k e =
 
 -- ── Differences at their positions ──
 
-pub placed-length : (row : ℕ) (ls : List ℕ) (d : ℕ → ℕ) (n k : ℕ) (vs : List ℤ) → length (placed row ls d n k vs) ≡ length vs
-unfolding placed
-placed-length row ls d zero k vs = refl
-placed-length row ls d (suc n) k vs = placed-length row ls d n (suc k) _ ∙ length-set vs (position row k) _
-
 -- What each difference has at its own position holds at every position that one of them has.
 module _ (row : ℕ) (ls : List ℕ) (d : ℕ → ℕ) (P : ℕ → ℤ → Type 0)
     (own : (k : ℕ) → k < 16 → P (position row k) (signed (getD ls (k / 4) 0) (d k % 2 ^ getD ls (k / 4) 0))) where

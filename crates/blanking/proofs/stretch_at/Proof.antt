@@ -1,7 +1,7 @@
 -- The marked bytes so far, with those that follow each other from here, are all that follow each other.
 use borrow.Author.Needs.{needs}
 use Prim.Native.Nat.{_+_, _-_, _≤_}
-use mathlib.Core.Path.{_≡_, _∙_}
+use mathlib.Core.Path.{_≡_}
 use native.Mathlib.Omega.{arith}
 use lib.ListN.{length, drop}
 use Rattle.blanking.specs.Blanking.{stretch}

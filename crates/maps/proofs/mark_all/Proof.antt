@@ -1,10 +1,10 @@
 -- The bytes before i are the byte asked for.
-use Prim.Native.Nat.{ℕ, _≤_, _-_}
+use Prim.Native.Nat.{_≤_, _-_}
 use mathlib.Core.List.{[], _∷_, _++_}
-use mathlib.Core.Path.{_≡_, refl, sym, ap, _∙_}
+use mathlib.Core.Path.{_≡_, sym, ap, _∙_}
 use native.Mathlib.Omega.{arith}
 use borrow.Author.Needs.{needs}
-use lib.ListN.{length, take, set, replicate, length-set}
+use lib.ListN.{length, take, replicate, length-set}
 use lib.Seq.{take-suc-set, take-all}
 use native.Mathlib.Numerals.{add-one}
 use Rattle.maps.proofs.MapLaws.{all-more}

@@ -1,5 +1,4 @@
 -- One write of twice the bits writes both.
-use native.Mathlib.Omega.{arith}
 use denote.Ref.{now}
 use borrow.Author.Needs.{needs}
 use Rattle.pack.proofs.Laws.{pair-wrote}

@@ -1,6 +1,5 @@
 -- `is_too_large` meets its contract: the code's two tests are the rule's.
 use borrow.Author.Tests.{lt-ltb, le-ltb}
-use mathlib.Core.Path.{_≡_}
 use Rattle.rules.specs.Answer.{too-large}
 use Rattle.refusals.proofs.is_too_large.Statement.{statement}
 use Rattle.refusals.proofs.is_too_large.Tie as tie

@@ -1,8 +1,7 @@
 -- What is left from block k on comes to the whole part.
 use Prim.Native.Nat.{_-_}
 use native.Mathlib.Omega.{arith}
-use mathlib.Core.Path.{sym, refl}
-use denote.Ref.{now}
+use mathlib.Core.Path.{refl}
 use borrow.Author.Needs.{needs}
 use Rattle.rules.specs.Phases.{sample-stage}
 use Rattle.v0_predictions.proofs.PredictionLaws.{Part, part-begun, part-on, part-done, row-kept}

@@ -1,7 +1,4 @@
 -- Both tests are the rule's, by the sign of the length.
-use mathlib.Core.Path.{_∙_, ap}
-use lib.IntN.{pos}
-use lib.Signed.{leZ}
 use mir.ValLaws.{toZ-ofZ}
 use mir.Syntax.{w32}
 use Rattle.v0_profile.proofs.BlockLaws.{fits-high, fits-low}

@@ -1,7 +1,7 @@
 -- The loop's invariant is `Reached`: what is left of the differences, by the state that stands before bit q, comes to what all come
 -- to. Where the state stands in the stream, all windows lie within it.
 use mathlib.Core.Path.{_≡_, refl}
-use Prim.Native.Nat.{_+_, _-_, _*_, _≤_}
+use Prim.Native.Nat.{_-_, _*_, _≤_}
 use native.Mathlib.Omega.{arith}
 use lib.ListN.{getD}
 use borrow.Author.Needs.{needs}

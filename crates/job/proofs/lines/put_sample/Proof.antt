@@ -1,5 +1,4 @@
 -- Each call writes the next part of the sample, and there is room for what is left.
-use native.Mathlib.Omega.{arith}
 use borrow.Author.Needs.{needs}
 use Rattle.job.proofs.WrittenLaws.{left-step, left-last, left-room, part-room}
 use Rattle.job.proofs.TextLaws.{sample-parts, sample-marked, sample-plain}

@@ -1,11 +1,10 @@
 -- Where the scale is 0, what is left of the value is the base and the difference.
 use mathlib.Core.Path.{_≡_, sym, ap, _∙_}
-use lib.IntN.{ℤ, pos}
+use lib.IntN.{pos}
 use mir.Syntax.{w32}
-use mir.Val.{SFits, toZ}
+use mir.Val.{toZ}
 use mir.ValLaws.{toZ-ofZ}
 use borrow.Author.Needs.{needs}
-use Rattle.rules.specs.V2.{value}
 use Rattle.v2_cells.proofs.SampleLaws.{value-unscaled}
 use Rattle.v2_cells.proofs.samples.value_of.Statement.{statement}
 use Rattle.v2_cells.proofs.samples.value_of.Tie as tie
