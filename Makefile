@@ -38,10 +38,8 @@ dist: $(archive)
 
 # Every wrong edit that the proofs must refuse, also those of edits/, which cost too much for the gate (edits/README.md).
 refuse:
-	rm -rf target/refuse && mkdir -p target/refuse
-	cp -r crates crates.txt target/refuse/
-	for crate in edits/*/; do to=target/refuse/crates/$${crate#edits/}must-fail; mkdir -p $$to; cp $$crate*.edit $$to/; done
-	cd target/refuse && rt must-fail
+	$(need_rt)
+	tests/try-edits --all
 
 # The definitions of CRATE (of its specs/FILE.antt alone, of lines new since the commit SINCE, or COUNT changes that SEED picks),
 # changed one place at a time: prints every change that still proves (docs/TESTING.md). Whole, at a low priority beside other
