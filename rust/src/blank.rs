@@ -176,7 +176,9 @@ mod tests {
     #[test]
     fn an_export_that_cannot_be_written_is_blanked() {
         let map = [0, 1];
-        for (sample, bytes, refusal) in [(16_384, 99, Refusal::TooBright), (5, 3, Refusal::ShortOutput)] {
+        for (sample, bytes, refusal) in
+            [(16_384, 99, Refusal::TooBright { begun: true }), (5, 3, Refusal::ShortOutput { begun: true })]
+        {
             let (mut samples, mut runs) = ([sample, 60_000], [9; 3]);
             let (mut stream, mut offsets) = (vec![9; bytes], [9; 1]);
             let exported = export_v0(&mut samples, &map, 2, 1, &mut runs, &mut stream, &mut offsets).expect("blanked");
