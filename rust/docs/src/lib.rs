@@ -2,6 +2,7 @@
 //! places is said alike in all of them. It needs neither the archive nor the reference.
 
 pub mod answers;
+pub mod contracts;
 pub mod definitions;
 pub mod edits;
 pub mod interface;
