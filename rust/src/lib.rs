@@ -27,7 +27,6 @@
 //! [`srw`] reads and writes a camera's file, and [`Ph1Bits`] is the bit reader. If you are coming from `samsung.rs`,
 //! `docs/MIGRATION.md` maps each call.
 #![warn(missing_docs)]
-#![deny(unsafe_code)]
 
 mod answer;
 mod bands;

@@ -16,6 +16,9 @@ pub struct Repository {
 const ENDINGS: [&str; 14] =
     ["rs", "rt", "antt", "md", "c", "h", "txt", "toml", "py", "pc", "png", "bin", "edit", "lock"];
 
+/// Words that stand for a name in a file's path.
+const PLACES: [&str; 4] = ["NAME", "FUNCTION", "FILE", "WHAT"];
+
 /// A part of a name: what words are made of.
 fn is_name(c: char) -> bool {
     c.is_alphanumeric() || c == '_'
@@ -113,6 +116,7 @@ impl Repository {
     /// What a command names that does not exist: a target of make, a package, an example or a program of cargo, a comparison, an
     /// option of the tool, or a script.
     fn command_fault(&self, command: &str) -> Option<String> {
+        let command = command.split(" #").next()?.trim_end();
         let words: Vec<&str> = command.split_whitespace().collect();
         let options = || words.iter().filter_map(|word| word.strip_prefix("--")).filter(|word| !word.is_empty());
         let missing: Option<&str> = match *words.first()? {
@@ -218,9 +222,10 @@ fn alternatives(name: &str) -> Vec<String> {
     }
 }
 
-/// Whether a name with a `*` or without one is that of a part of a path.
+/// Whether a name is that of a part of a path. A `*` stands for any, and so does one of the words that stand for a name.
 fn matches(name: &str, part: &str) -> bool {
-    match name.split_once('*') {
+    let place = PLACES.iter().find_map(|place| Some(("", name.strip_prefix(place)?)));
+    match place.or_else(|| name.split_once('*')) {
         Some((before, after)) => {
             part.len() >= before.len() + after.len() && part.starts_with(before) && part.ends_with(after)
         }
@@ -289,10 +294,10 @@ mod tests {
     #[test]
     fn what_exists_is_no_fault() {
         let page = "`low::row::read_row`, `low::row`, `Kind::Short`, `Kind::is_short`, `std::fmt`, `read_row()`, `row-by-row`\n\
-            `crates/low/src/row.rt`, `row.rt`, `proofs/{Laws}.antt`, `crates/*/proofs`, `src/`, `crates/low`, `target/x/gone.rs`\n\
-            `make all`, `make all FOR=9`, `compare v2-crops 9`, `cargo run -p razvolk-tool -- --help`, `razvolk a.srw --png`\n\
+            `crates/low/src/row.rt`, `row.rt`, `proofs/{Laws}.antt`, `crates/*/proofs`, `src/`, `crates/NAME/src/FILE.rt`\n\
+            `crates/low`, `target/x/gone.rs`, `make all`, `make all FOR=9`, `compare v2-crops 9`, `cargo run -p razvolk-tool -- --help`, `razvolk a.srw --png`\n\
             [a](../README.md), [b](../README.md#what-is-and-what-isnt), [c](https://example.org/x), [d](../crates/low)\n\
-            `a + b`, `x`, `9`, `a..b`, `[0; n]`\n\n    $ make all\n    tests/try 9\n\n```text\n`gone.rs`\n```\n";
+            `a + b`, `x`, `9`, `a..b`, `[0; n]`\n\n    $ make all # words\n    tests/try 9\n\n```text\n`gone.rs`\n```\n";
         assert_eq!(repository(page).faults("docs/PAGE.md"), [""; 0]);
     }
 
@@ -311,6 +316,7 @@ mod tests {
             "`column.rt`",
             "`proofs/{Laws,Gone}.antt`",
             "`crates/*/gone`",
+            "`crates/NAME/gone`",
             "`make none`",
             "`compare v3 9`",
             "`cargo test -p gone`",
