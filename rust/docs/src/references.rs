@@ -75,12 +75,14 @@ impl Repository {
         }
     }
 
-    /// Whether a file or a folder is there: by its whole path, or by the end of it. `*` is any part between two slashes.
+    /// Whether a file or a folder is there: by its whole path, or by a part of it. `*` is any part between two slashes. A crate and
+    /// a name are a wrong edit of that crate.
     fn has_file(&self, name: &str) -> bool {
         let wanted: Vec<&str> = name.trim_end_matches('/').split('/').collect();
         self.files.iter().any(|(path, _)| {
             let parts: Vec<&str> = path.split('/').collect();
             parts.windows(wanted.len()).any(|window| window.iter().zip(&wanted).all(|(part, name)| matches(name, part)))
+                || is_edit(&parts, &wanted)
         })
     }
 
@@ -213,6 +215,13 @@ fn is_file_name(span: &str) -> bool {
         && !span.contains("..")
 }
 
+/// Whether a path is that of a wrong edit, of which a crate and a name are wanted.
+fn is_edit(path: &[&str], wanted: &[&str]) -> bool {
+    let [of, name] = wanted else { return false };
+    let file = path.last().and_then(|file| file.strip_suffix(".edit"));
+    file == Some(name) && path.get(1) == Some(of)
+}
+
 /// `a/{b,c}.d` as `a/b.d` and `a/c.d`.
 fn alternatives(name: &str) -> Vec<String> {
     let parted = name.split_once('{').and_then(|(before, rest)| Some((before, rest.split_once('}')?)));
@@ -288,6 +297,7 @@ mod tests {
             file("rust/tool/src/options.rs", "\"--png\""),
             file("rust/tool/Cargo.toml", "name = \"razvolk-tool\"\n"),
             file("tests/try", ""),
+            file("crates/low/must-fail/more/one_less.edit", ""),
         ])
     }
 
@@ -295,7 +305,7 @@ mod tests {
     fn what_exists_is_no_fault() {
         let page = "`low::row::read_row`, `low::row`, `Kind::Short`, `Kind::is_short`, `std::fmt`, `read_row()`, `row-by-row`\n\
             `crates/low/src/row.rt`, `row.rt`, `proofs/{Laws}.antt`, `crates/*/proofs`, `src/`, `crates/NAME/src/FILE.rt`\n\
-            `crates/low`, `target/x/gone.rs`, `make all`, `make all FOR=9`, `compare v2-crops 9`, `cargo run -p razvolk-tool -- --help`, `razvolk a.srw --png`\n\
+            `crates/low`, `low/one_less`, `target/x/gone.rs`, `make all`, `make all FOR=9`, `compare v2-crops 9`, `cargo run -p razvolk-tool -- --help`, `razvolk a.srw --png`\n\
             [a](../README.md), [b](../README.md#what-is-and-what-isnt), [c](https://example.org/x), [d](../crates/low)\n\
             `a + b`, `x`, `9`, `a..b`, `[0; n]`\n\n    $ make all # words\n    tests/try 9\n\n```text\n`gone.rs`\n```\n";
         assert_eq!(repository(page).faults("docs/PAGE.md"), [""; 0]);
@@ -317,6 +327,8 @@ mod tests {
             "`proofs/{Laws,Gone}.antt`",
             "`crates/*/gone`",
             "`crates/NAME/gone`",
+            "`low/two_less`",
+            "`high/one_less`",
             "`make none`",
             "`compare v3 9`",
             "`cargo test -p gone`",
