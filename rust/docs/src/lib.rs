@@ -7,6 +7,7 @@ pub mod edits;
 pub mod interface;
 pub mod layers;
 pub mod markdown;
+pub mod promises;
 
 use std::fmt::Display;
 use std::path::{Path, PathBuf};
