@@ -92,14 +92,14 @@ module _ (b : Blanks) (done : Done b) where
       (λ q. let x : 4 ≡ 0 = rw (t, p, q) at e in absurd (omega arith))
       (λ q. (ltb-false (length (b .call .samples)) n p, ltb-false (length (b .call .map)) n q))))
 
-  frame-length : length (frame-of (b .call)) ≡ n
+  pub frame-length : length (frame-of (b .call)) ≡ n
   frame-length = length-take-le n (b .call .samples) (enough .0)
 
   answer-is : b .answered ≡ blanked-done (count (marks-of (b .call))) (length (found (b .call)))
   unfolding blank-answer
   answer-is = b .yields .answered ∙ rw passed
 
-  samples-are : take n (b .samples) ≡ blanked (b .call .fill) (b .call .size) (frame-of (b .call)) (marks-of (b .call))
+  pub samples-are : take n (b .samples) ≡ blanked (b .call .fill) (b .call .size) (frame-of (b .call)) (marks-of (b .call))
   unfolding samples-after unless-refused
   samples-are =
       ap (take n) (b .yields .samples-left ∙ rw passed)

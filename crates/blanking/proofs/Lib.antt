@@ -7,4 +7,5 @@ pub mod EachSample
 pub mod Nearest
 pub mod Runs
 pub mod Isolation
+pub mod Returned
 pub mod Examples

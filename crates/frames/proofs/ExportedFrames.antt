@@ -79,6 +79,16 @@ module _ (e : Exports) (done : e .answered .answer .number ≡ 0) where
   pub blank-done : Done (blanks e)
   blank-done = number-is (e .export .blank) ∙ both .0
 
+  -- What it wrote is what the writer writes of the blanked samples.
+  pub writes : Write.Yields (write (e .export)) (record { answer = e .answered .answer; length = e .answered .length }) (e .stream) (e .offsets)
+  unfolding export-answer stream-after offsets-after if-blanked
+  writes =
+      record {
+        answered = ap (λ r. record { answer = r .answer; length = r .length }) (e .yields .answered) ∙ rw (both .0);
+        stream-left = e .yields .stream-left ∙ rw (both .0);
+        offsets-left = e .yields .offsets-left ∙ rw (both .0);
+      }
+
   abbrev z : Size
   z = e .export .blank .size
 

@@ -160,7 +160,7 @@ v2-marked : (k : Decoder) → k ≡ v2 → (s o : List ℕ) (z : Size) → frame
 unfolding frame-marks
 v2-marked k e s o z = rw e
 
-v2-answered : (c : Returned) → c .ask .decoder ≡ v2 → Ran (c .answered) → c .answered ≡ V2.read-frame (c .ask .stream) (c .ask .size) .answer
+pub v2-answered : (c : Returned) → c .ask .decoder ≡ v2 → Ran (c .answered) → c .answered ≡ V2.read-frame (c .ask .stream) (c .ask .size) .answer
 unfolding stream-answer
 v2-answered c e ran =
     c .yields .answered ∙ answer-passed (c .ask) (lengths (c .found)) (ran-passed c ran)

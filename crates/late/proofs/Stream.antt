@@ -75,7 +75,7 @@ row-words s h w row b =
     record { words = v .words; run = v .run; few = v .few }
 
 module _ (p : ℕ) (s : List ℕ) (h : V2Hdr) (w : ℕ) (wide : w ≤ 16_384) where
-  words-tell : (row : ℕ) → row ≤ 16_384 → (b : Bits) → PositionAt w row b → Tells p (aligned b) (read-row s h w row b .bits) (row-words s h w row b .words)
+  pub words-tell : (row : ℕ) → row ≤ 16_384 → (b : Bits) → PositionAt w row b → Tells p (aligned b) (read-row s h w row b .bits) (row-words s h w row b .words)
   words-tell row high b at = let v = row-words s h w row b in tells s p (v .run) (row-room w row wide high b at (length (v .words)) (v .few))
 
   first-least : (k row : ℕ) (b : Bits) → row ≤ first-past-from p s h w k row b

@@ -10,21 +10,18 @@ use lib.ListN.{length, take, drop, replicate, length-take}
 use lib.Seq.{take-at}
 use Rattle.rules.specs.declared.answer.Answer.{Answer}
 use Rattle.rules.specs.Frame.{cells}
-use Rattle.rules.specs.V0.{sample-kind, exchange}
 use Rattle.rules.specs.Answer as Plain
 use Rattle.rules.specs.Answer.{Decoder, done}
 use Rattle.rules.proofs.Isolation.{Returned, Samples, Step, IsV0, left-below}
 use Rattle.profile.proofs.Lists as Clean-lists
 use Rattle.writers.specs.declared.Written.{Written}
-use Rattle.writers.specs.Writer.{residuals, offsets-for}
 use Rattle.writers.specs.Calls as Writers
-use Rattle.writers.proofs.CallLaws.{passed}
+use Rattle.writers.proofs.CallLaws.{passed, table-length}
 use Rattle.writers.proofs.Decoded.{done-passed}
-use Rattle.writers.proofs.Rows.{offsets-length}
 use Rattle.packed.specs.Proposal.{Proposal, frame-of, asked, found, before, scratch-after, answer, Yields}
 use Rattle.packed.proofs.Exactly.{Accepted, done-accepted, accepted-done}
 use Rattle.packed.proofs.Written.{written-accepted}
-use Rattle.packed.proofs.Decoded.{asked-of, answered-done, samples-back, map-back, clean-done}
+use Rattle.packed.proofs.Decoded.{answer-alone, asked-of, answered-done, samples-back, map-back, clean-done}
 use Rattle.rules.proofs.Tests.{by-test}
 
 -- ── The statements ──
@@ -77,6 +74,9 @@ pub record Claim {C W D K : Type 0} (checked : C → Checked) (wrote : W → Wro
       → Samples (returned r .found .samples) → Back (checked c .proposal) (returned r)
   pub clean-takes : (c : C) → checked c .answered .number ≡ 0 → Samples (checked c .scratch) → (k : K) → cleaned k .ask ≡ asked (checked c .proposal)
       → Plain.refusal (cleaned k .ask) (Plain.lengths (Plain.buffers (cleaned k .samples) (cleaned k .map) none)) ≡ 0 → cleaned k .answered ≡ done
+  -- The answer rests on the proposal and on how much scratch is lent, and not on what the scratch held.
+  pub alone : (c d : C) → checked c .proposal ≡ checked d .proposal → length (checked c .scratch) ≡ length (checked d .scratch)
+      → Samples (checked c .scratch) → Samples (checked d .scratch) → checked c .answered ≡ checked d .answered
 
 -- ── Exactly ──
 
@@ -93,7 +93,7 @@ module _ (w : Wrote) (zero : w .answered .answer .number ≡ 0) where
   ok : Writers.write-refusal (w .call) ≡ 0
   ok = done-passed (w .call) (sym (ap (λ x. x .answer .number) (w .yields .answered)) ∙ zero)
 
-  length-is : w .answered .length ≡ length (Writers.stream-of (w .call))
+  pub length-is : w .answered .length ≡ length (Writers.stream-of (w .call))
   unfolding Writers.write-answer
   length-is = ap (λ x. x .length) (w .yields .answered) ∙ rw ok
 
@@ -103,15 +103,11 @@ module _ (w : Wrote) (zero : w .answered .answer .number ≡ 0) where
       ap (take (w .answered .length)) (w .yields .stream-left)
       ∙ rw ok (take-at (Writers.stream-of (w .call)) (drop (length (Writers.stream-of (w .call))) (w .call .stream)) (w .answered .length) (sym length-is))
 
-  rows : length (Writers.offsets-of (w .call)) ≡ w .call .size .height
-  unfolding offsets-for
-  rows = offsets-length (residuals (w .call .size .width) (exchange sample-kind (w .call .size) (Writers.frame-of (w .call)))) (w .call .size .height) 0 0
-
   offsets-are : take (w .call .size .height) (w .offsets) ≡ Writers.offsets-of (w .call)
   unfolding Writers.offsets-after Writers.unless-refused
   offsets-are =
       ap (take (w .call .size .height)) (w .yields .offsets-left)
-      ∙ rw ok (take-at (Writers.offsets-of (w .call)) (drop (length (Writers.offsets-of (w .call))) (w .call .offsets)) (w .call .size .height) rows)
+      ∙ rw ok (take-at (Writers.offsets-of (w .call)) (drop (length (Writers.offsets-of (w .call))) (w .call .offsets)) (w .call .size .height) (table-length (w .call)))
 
   pub writer-accepted : (others : List ℕ) (c : Checked) → c .proposal ≡ made w others → cells (w .call .size) ≤ length (c .scratch) → c .answered ≡ done
   writer-accepted others c e room =
@@ -146,6 +142,15 @@ module _ (c : Checked) (zero : c .answered .number ≡ 0) (low : Samples (c .scr
       let ok : Plain.refusal (asked (c .proposal)) l ≡ 0 = rw same at lends in
       k .yields .answered ∙ rw same (clean-done (c .proposal) (c .scratch) low accepted l ok)
 
+-- ── What the answer rests on ──
+
+alone : (c d : Checked) → c .proposal ≡ d .proposal → length (c .scratch) ≡ length (d .scratch) → Samples (c .scratch) → Samples (d .scratch)
+    → c .answered ≡ d .answered
+alone c d same long low low′ =
+    c .yields .answered ∙ answer-alone (c .proposal) (c .scratch) (d .scratch) long low low′ ∙ ap (λ p. answer p (d .scratch)) same ∙ sym (d .yields .answered)
+
+-- ── The claim ──
+
 pub claim : {C W D K : Type 0} (checked : C → Checked) (wrote : W → Wrote) (returned : D → Returned) (cleaned : K → Clean-lists.Checked)
     → Claim checked wrote returned cleaned
 claim checked wrote returned cleaned =
@@ -154,6 +159,7 @@ claim checked wrote returned cleaned =
       writer-taken = λ w c others zero same room. writer-accepted (wrote w) zero others (checked c) same room;
       decoded-back = λ c zero low r d v0 same lends below. decoded-back (checked c) zero low (returned r) d v0 same lends below;
       clean-takes = λ c zero low k same lends. clean-takes (checked c) zero low (cleaned k) same lends;
+      alone = λ c d same long low low′. alone (checked c) (checked d) same long low low′;
     }
 
 -- ── Among other calls ──

@@ -6,3 +6,4 @@ pub mod ColumnLaws
 pub mod HalfLaws
 pub mod FrameLaws
 pub mod Undone
+pub mod Kept

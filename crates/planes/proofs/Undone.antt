@@ -25,7 +25,7 @@ rows-all w h = sym (add-mul (even-count h) (odd-count h) w) ∙ ap (λ k. k * w)
 
 module _ {A : Type 0} where
   -- Rows of w samples each.
-  abbrev Wide : ℕ → List (List A) → Type 0
+  abbrev pub Wide : ℕ → List (List A) → Type 0
   Wide w rs = All (λ r. length r ≡ w) rs
 
   -- ── A frame is its rows ──
@@ -35,7 +35,7 @@ module _ {A : Type 0} where
   rows-length w zero f = refl
   rows-length w (suc n) f = ap suc (rows-length w n (drop w f))
 
-  rows-wide : (w n : ℕ) (f : List A) → n * w ≤ length f → Wide w (rows w n f)
+  pub rows-wide : (w n : ℕ) (f : List A) → n * w ≤ length f → Wide w (rows w n f)
   unfolding rows
   rows-wide w zero f l = nil
   rows-wide w (suc n) f l =
@@ -64,7 +64,7 @@ module _ {A : Type 0} where
   part-length part count counted w (more {a = r} {xs = rs} e es) =
       omega (arith, length-append (part r) (flatMap part rs), ap count e, counted r, part-length part count counted w es)
 
-  by-columns-length : (w : ℕ) {rs : List (List A)} → Wide w rs → length (by-columns rs) ≡ length rs * w
+  pub by-columns-length : (w : ℕ) {rs : List (List A)} → Wide w rs → length (by-columns rs) ≡ length rs * w
   unfolding by-columns
   by-columns-length w {rs} ws =
       length-append (flatMap evens rs) (flatMap odds rs) ∙ ap₂ (λ a b. a + b) (part-length evens even-count evens-length w ws) (part-length odds odd-count odds-length w ws) ∙ columns-all (length rs) w
@@ -130,7 +130,7 @@ module _ {A : Type 0} where
       ap₂ _++_ (c .0) (c .1)
       ∙ sym (take-add (n * even-count w) (n * odd-count w) p) ∙ ap (λ k. take k p) (columns-all n w)
 
-  from-columns-wide : (w n : ℕ) (p : List A) → n * w ≤ length p → Wide w (from-columns w n p)
+  pub from-columns-wide : (w n : ℕ) (p : List A) → n * w ≤ length p → Wide w (from-columns w n p)
   from-columns-wide w n p l = let r = columns-room w n p l in woven-wide w n _ _ (r .0) (r .1)
 
   -- ── Both parities ──

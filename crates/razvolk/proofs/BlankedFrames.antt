@@ -1,7 +1,7 @@
 -- Nothing of an earlier frame is left in a blanked one, of exported calls that have returned.
 --
--- Promised. Take every two lists of calls of the exports that write a sample buffer, as `Isolation.antt` has them, whose last calls
--- are alike, are lent a map, and end with done or 5 to 8. Let each be followed by `razvolk_blank_with`, with one fill, or each by
+-- Promised. Take every two lists of calls of the exports that write a sample buffer, all of which may stand in them (`Many`), whose last
+-- calls are alike, are lent a map, and end with done or 5 to 8. Let each be followed by `razvolk_blank_with`, with one fill, or each by
 -- `razvolk_blank`, lent the frame's samples and map bytes as its decoder left them, and both done. Then both answer the same, leave
 -- the same N samples, and list the same runs: a blanked frame depends on stream, offsets, size and fill alone. The same of
 -- `razvolk_export_v0`, and of the stream and the offsets that it writes.
@@ -10,7 +10,7 @@ use Prim.Native.Nat.{_<_}
 use mathlib.Core.Path.{_≡_, refl}
 use denote.Ref.{now}
 use lib.Dec.{lit<}
-use Rattle.rules.proofs.Isolation.{Step}
+use Rattle.rules.proofs.Isolation.{Step, Samples}
 use Rattle.rules.proofs.Isolation as Rules
 use Rattle.samsung.proofs.Isolation.{Made, Entry, step, ended}
 use Rattle.blanking.specs.Blanking.{stated, unstated}
@@ -21,20 +21,18 @@ use Rattle.blanking.proofs.Isolation as Blanked
 use Rattle.frames.specs.Export.{export}
 use Rattle.frames.proofs.ExportedFrames.{Exports, exported-isolation}
 use Rattle.frames.proofs.ExportedFrames as Exported
+use Rattle.frames.proofs.Moves.{to-step, from-step}
 use Rattle.packed.proofs.Returned.{step as packed-step}
+use Rattle.transcode.proofs.Converted.{step as convert-step}
 use Rattle.transcode.proofs.Proposed.{Checks, checks}
+use Rattle.razvolk.proofs.ColourPlanes.{ToPlanes, FromPlanes, to, from}
+use Rattle.razvolk.proofs.Converted.{Converts, converts}
 use Rattle.razvolk.proofs.blanks.razvolk_blank_with.Kinds as with-kinds
 use Rattle.razvolk.proofs.blanks.razvolk_blank_with.Reads as with-reads
-use Rattle.razvolk.proofs.blanks.razvolk_blank_with.Statement as with-stated
-use Rattle.razvolk.proofs.blanks.razvolk_blank_with.Met as with-thm
 use Rattle.razvolk.proofs.blanks.razvolk_blank.Kinds as plain-kinds
 use Rattle.razvolk.proofs.blanks.razvolk_blank.Reads as plain-reads
-use Rattle.razvolk.proofs.blanks.razvolk_blank.Statement as plain-stated
-use Rattle.razvolk.proofs.blanks.razvolk_blank.Met as plain-thm
 use Rattle.razvolk.proofs.blanks.razvolk_export_v0.Kinds as export-kinds
 use Rattle.razvolk.proofs.blanks.razvolk_export_v0.Reads as export-reads
-use Rattle.razvolk.proofs.blanks.razvolk_export_v0.Statement as export-stated
-use Rattle.razvolk.proofs.blanks.razvolk_export_v0.Met as export-thm
 
 -- ── Calls that blank ──
 
@@ -94,12 +92,17 @@ pub export-fill : (c : Exporting) → exports c .export .blank .fill ≡ stated 
 unfolding exports
 export-fill c = refl
 
--- ── Lists of calls, those that blank, export and check what was packed among them ──
+-- ── Lists of calls ──
 
+-- A call of an export that writes a sample buffer: decoders, those that blank and export, V0 into V2, both ways between frame and planes,
+-- and the check of what was packed, which decodes into its scratch. What is moved out of another buffer is 16-bit numbers.
 pub data Many : Type 0 where
   decoding : Entry → Many
   blanking : Blanking → Many
   exporting : Exporting → Many
+  converting : Converts → Many
+  moving-to-planes : (c : ToPlanes) → Samples (to c .read) → Many
+  moving-back : (c : FromPlanes) → Samples (from c .read) → Many
   checking : Checks → Many
 
 unfoldable pub steps : Many → Step
@@ -107,9 +110,12 @@ steps (decoding c) = step c
 steps (blanking b) = blank-step (blanks b .call) (blanks b .samples) (blanks b .yields .samples-left) (fits b)
 steps (exporting c) =
     blank-step (exports c .export .blank) (exports c .samples) (exports c .yields .samples-left) (rw (export-fill c) (stated-fits 0 (lit< tt)))
+steps (converting x) = convert-step (converts x)
+steps (moving-to-planes c low) = to-step (to c) low
+steps (moving-back c low) = from-step (from c) low
 steps (checking c) = packed-step (checks c)
 
--- Demand 3 holds of such lists, too.
+-- Demand 3 holds for such lists.
 abbrev pub Isolation : Type 0
 Isolation = Rules.Isolation steps ended
 
@@ -124,29 +130,9 @@ BlankedFrames = Blanked.Isolation steps ended blanks
 pub blanked-frames : BlankedFrames
 blanked-frames = blanked-isolation steps ended blanks clean
 
--- The same of what is exported.
+-- The same for what is exported.
 abbrev pub ExportedFrames : Type 0
 ExportedFrames = Exported.Isolation steps ended exports
 
 pub exported-frames : ExportedFrames
 exported-frames = exported-isolation steps ended exports export-fill
-
--- The claims, beside each export's theorem that its code meets the contract that they speak of.
-pub record OfTheCode (M : Type 1) : Type 2 where
-  pub blank-with : with-stated.statement M
-  pub blank : plain-stated.statement M
-  pub export-v0 : export-stated.statement M
-  pub isolation : Isolation
-  pub blanked-frames : BlankedFrames
-  pub exported-frames : ExportedFrames
-
-pub of-the-code : {M : Type 1} → OfTheCode M
-of-the-code =
-    record {
-      blank-with = with-thm.met;
-      blank = plain-thm.met;
-      export-v0 = export-thm.met;
-      isolation = isolation;
-      blanked-frames = blanked-frames;
-      exported-frames = exported-frames;
-    }

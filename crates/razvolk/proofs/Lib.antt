@@ -1,7 +1,8 @@
--- The claims of the exports, and the first of them at work.
-pub mod AtWork
+-- All that is promised (`Promises`), the claims of the exports that it holds, and demand 3's at work.
+pub mod Promises
 pub mod Isolation
-pub mod RoundTrip
-pub mod Proposed
 pub mod BlankedFrames
+pub mod RoundTrip
 pub mod Converted
+pub mod ColourPlanes
+pub mod AtWork

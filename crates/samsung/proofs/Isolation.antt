@@ -15,8 +15,8 @@
 -- nothing.
 --
 -- A call that has returned is what was handed in, what came out, and what the function's own contract, as `src/` states it, says of
--- them (`Learnt`); that the code meets those contracts is each function's theorem `met`. `of-the-code` in `razvolk`'s file of this name
--- holds the claim beside those of the exports, whose calls are calls of the entry points.
+-- them (`Learnt`); that the code meets those contracts is each function's theorem `met`. `razvolk/proofs/Promises.antt` holds the claim
+-- beside those theorems of the exports, whose calls are calls of the entry points.
 use mathlib.Core.Path.{_≡_, refl}
 use mathlib.Core.List.{List, []}
 use mathlib.Core.Option.{none, some}

@@ -1,20 +1,24 @@
 -- What a call of the V0 writer leaves when it is done: buffers that are decoded to the samples that it was lent.
-use Prim.Native.Nat.{ℕ, _^_, _<_, _≤_}
+use Prim.Native.Nat.{ℕ, _+_, _-_, _^_, _<_, _≤_}
 use mathlib.Core.Bool.{Bool, true, false, _||_, cond}
 use mathlib.Core.Path.{_≡_, refl, ap, _∙_}
 use mathlib.Core.List.{List, [], _∷_, _++_}
 use native.Mathlib.Omega.{arith}
 use lib.ListN.{length, take, drop, length-append, length-take, length-drop}
+use lib.Seq.{take-append-add}
 use lib.Dec.{ltb, lit<}
 use borrow.Author.Tests.{ltb-false, le-ltb}
 use Rattle.rules.specs.Frame.{cells}
+use Rattle.rules.specs.V0.{sample-kind, exchange}
 use Rattle.rules.specs.Answer.{too-large}
-use Rattle.rules.proofs.Cells.{All, nil, more, all-map, all-append, all-drop, all-get}
+use Rattle.rules.proofs.Cells.{All, nil, more, all-map, all-append, all-take, all-drop, all-get}
 use Rattle.rules.proofs.Tests.{neither}
 use Rattle.maps.specs.Greatest.{greatest}
 use Rattle.maps.proofs.GreatestLaws.{above-either}
+use Rattle.writers.specs.Writer.{residuals, offsets-for}
 use Rattle.writers.specs.Calls.{Call, frame-of, stream-of, offsets-of, any-above, too-bright, short-output, write-refusal, unless-refused, stream-after, offsets-after}
 use Rattle.writers.proofs.Ahead.{Stream}
+use Rattle.writers.proofs.Rows.{offsets-length}
 use Rattle.writers.proofs.V0RoundTrip.{Holds, written-holds, stream-below}
 
 -- ── Tests that were passed ──
@@ -69,21 +73,37 @@ passed c e =
 
 -- ── The round trip ──
 
--- Bytes over a buffer of bytes are a stream.
-pub over-stream : (xs buffer : List ℕ) → All (λ b. b < 256) xs → All (λ b. b < 256) buffer → length xs ≤ length buffer → length buffer < 2 ^ 64
-    → Stream (xs ++ drop (length xs) buffer)
-over-stream xs buffer p q l h =
+-- The first n of a list with others after it, where n reaches past the list.
+pub take-past : (xs ys : List ℕ) (n : ℕ) → length xs ≤ n → take n (xs ++ ys) ≡ xs ++ take (n - length xs) ys
+take-past xs ys n l =
+    let e : n ≡ length xs + (n - length xs) = omega arith in ap (λ k. take k (xs ++ ys)) e ∙ take-append-add xs ys (n - length xs)
+
+-- Bytes over a buffer of bytes are a stream, of which so many bytes are kept past them.
+pub over-stream : (xs buffer : List ℕ) (n : ℕ) → All (λ b. b < 256) xs → All (λ b. b < 256) buffer → length xs ≤ length buffer → length buffer < 2 ^ 64
+    → Stream (xs ++ take n (drop (length xs) buffer))
+over-stream xs buffer n p q l h =
+    let past = drop (length xs) buffer in
     record {
-      bytes = λ i. all-get (λ b. b < 256) (all-append (λ b. b < 256) p (all-drop (λ b. b < 256) (length xs) q)) i 0 (lit< tt);
-      fewer = omega (arith, length-append xs (drop (length xs) buffer), length-drop (length xs) buffer);
+      bytes = λ i. all-get (λ b. b < 256) (all-append (λ b. b < 256) p (all-take (λ b. b < 256) n (all-drop (λ b. b < 256) (length xs) q))) i 0 (lit< tt);
+      fewer = omega (arith, length-append xs (take n past), length-take n past, length-drop (length xs) buffer);
     }
 
--- The buffers after a call that is done, whatever lies past what was written, hold the samples that were lent.
+-- A table has an offset for each row.
+pub table-length : (c : Call) → length (offsets-of c) ≡ c .size .height
+unfolding offsets-for
+table-length c = offsets-length (residuals (c .size .width) (exchange sample-kind (c .size) (frame-of c))) (c .size .height) 0 0
+
+-- The buffers after a call that is done hold the samples that were lent: whole, or cut anywhere past what was written.
 pub write-holds : (c : Call) → All (λ b. b < 256) (c .stream) → length (c .stream) < 2 ^ 64 → write-refusal c ≡ 0
-    → Holds (stream-after c) (offsets-after c) (c .size) (frame-of c)
+    → (n k : ℕ) → length (stream-of c) ≤ n → c .size .height ≤ k
+    → Holds (take n (stream-after c)) (take k (offsets-after c)) (c .size) (frame-of c)
 unfolding stream-after offsets-after unless-refused
-write-holds c below fewer e =
+write-holds c below fewer e n k long rows =
     let p = passed c e in
+    let past = drop (length (stream-of c)) (c .stream) in
+    let others = drop (length (offsets-of c)) (c .offsets) in
+    let table : length (offsets-of c) ≤ k = omega (arith, table-length c) in
     rw e
-    (written-holds (c .size) (frame-of c) (p .enough) (p .dim) (drop (length (stream-of c)) (c .stream)) (drop (length (offsets-of c)) (c .offsets))
-    (over-stream (stream-of c) (c .stream) (stream-below (c .size) (frame-of c)) below (p .room) fewer))
+    (rw (take-past (stream-of c) past n long, take-past (offsets-of c) others k table)
+    (written-holds (c .size) (frame-of c) (p .enough) (p .dim) (take (n - length (stream-of c)) past) (take (k - length (offsets-of c)) others)
+    (over-stream (stream-of c) (c .stream) (n - length (stream-of c)) (stream-below (c .size) (frame-of c)) below (p .room) fewer)))

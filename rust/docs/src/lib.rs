@@ -8,6 +8,7 @@ pub mod edits;
 pub mod interface;
 pub mod layers;
 pub mod markdown;
+pub mod promises;
 pub mod references;
 
 use std::fmt::Display;

@@ -1,0 +1,49 @@
+//! The promises: README's list, and the record of theorems that holds one field for each of its lines.
+
+/// The lines of the numbered list below a heading, each by its number and the words in bold that it starts with:
+/// `1. **No earlier frame.** ..` is `p1-no-earlier-frame`. A line without such words gives its number alone.
+pub fn told(markdown: &str, heading: &str) -> Vec<String> {
+    let section =
+        markdown.lines().skip_while(|line| *line != heading).skip(1).take_while(|line| !line.starts_with('#'));
+    section.filter_map(numbered).map(|(number, text)| format!("p{number}{}", name(text))).collect()
+}
+
+/// The number of a list's line, and what follows it.
+fn numbered(line: &str) -> Option<(usize, &str)> {
+    let (number, text) = line.split_once(". ")?;
+    Some((number.parse().ok()?, text))
+}
+
+/// The words in bold at a text's start, with a hyphen before each.
+fn name(text: &str) -> String {
+    let bold = text.strip_prefix("**").and_then(|rest| rest.split_once(".**"));
+    bold.map_or("", |(words, _)| words).split_whitespace().map(|word| format!("-{}", word.to_lowercase())).collect()
+}
+
+/// The fields of a record of a proof file, in their order.
+pub fn fields(antt: &str, record: &str) -> Vec<String> {
+    let head = format!("pub record {record} ");
+    let body = antt.lines().skip_while(|line| !line.starts_with(&head)).skip(1);
+    let body = body.take_while(|line| line.starts_with("  "));
+    body.filter_map(|line| Some(line.strip_prefix("  pub ")?.split_once(" : ")?.0.to_string())).collect()
+}
+
+#[cfg(test)]
+mod tests {
+    use super::*;
+
+    #[test]
+    fn a_line_is_told_by_its_number_and_bold_words() {
+        let page = "# A\n1. **Not here.** x\n## B\n\n1. **No earlier frame.** x **y.**\n2. plain\n\nText. More.\n3. **V0 into V2.** z\n# C\n4. **Over.**\n";
+        assert_eq!(told(page, "## B"), ["p1-no-earlier-frame", "p2", "p3-v0-into-v2"]);
+        assert!(told(page, "## D").is_empty());
+    }
+
+    #[test]
+    fn the_fields_of_one_record_are_found() {
+        let file = "pub record Many (M : Type 1) : Type 2 where\n  pub a : X\n\npub record One (M : Type 1) : Type 2 where\n  -- b : c\n  pub b-c : Y : Z\n      → more\n  pub d : W\n\nb : Q\n";
+        assert_eq!(fields(file, "One"), ["b-c", "d"]);
+        assert_eq!(fields(file, "Many"), ["a"]);
+        assert!(fields(file, "None").is_empty());
+    }
+}
