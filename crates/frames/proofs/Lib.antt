@@ -5,3 +5,4 @@ pub mod WriterLaws
 pub mod BlankLaws
 pub mod ExportLaws
 pub mod ExportedFrames
+pub mod Examples
