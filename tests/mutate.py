@@ -14,6 +14,7 @@ refused in the run before, and the file keeps the others' outcomes: for use afte
 """
 
 import argparse
+import functools
 import os
 import queue
 import random
@@ -509,9 +510,12 @@ class Worker:
     """Tells of a change whether the examples refuse it, and if they don't whether the theorems do."""
 
     def __init__(self, crate, number):
-        home = ROOT / "target" / "mutate" / crate / str(number)
-        self.whole = Copy(crate, home / "whole", False)
-        self.examples = Copy(crate, home / "examples", True)
+        self.crate, self.home = crate, ROOT / "target" / "mutate" / crate / str(number)
+        self.examples = Copy(crate, self.home / "examples", True)
+
+    @functools.cached_property
+    def whole(self):
+        return Copy(self.crate, self.home / "whole", False)
 
     def outcome(self, change):
         status, said = self.examples.said_of(change, ["dev"])
