@@ -5,13 +5,16 @@
 
 The definitions are those of crates/CRATE/specs, but for lists of examples and for what is a theorem's statement; with --since
 those of lines that are new since a commit. Each change is made in a copy of the crate below target/mutate that has the worked
-examples and no theorem, and is checked there by `rt dev`, which checks again only what the change reaches; what passes is
-checked with the theorems, too, and what passes that once more from nothing by `rt check`. A change that is no definition (its
-file no longer parses or has no type) is counted apart. The last line has the figures; target/mutate/CRATE.txt has every
-change with its outcome.
+examples, no theorem and no function, and is checked there by `rt dev`, which checks again only what the change reaches. What
+passes is checked with the theorems and the functions, too, and what passes that once more from nothing by `rt check`: where
+these alone refuse a change, it may be that a function would only have to follow it, so such changes are printed, too. A change
+that is no definition (its file no longer parses or has no type) is counted apart. The last lines have the figures, of each file
+and of all; target/mutate/CRATE.txt has every change with its outcome. With --again only the changes are tried that no example
+refused in the run before, and the file keeps the others' outcomes: for use after examples were added.
 """
 
 import argparse
+import functools
 import os
 import queue
 import random
@@ -24,13 +27,18 @@ import threading
 from pathlib import Path
 
 ROOT = Path(__file__).resolve().parent.parent
-# Files of specs/ that hold no rule: roots, worked examples, and the ranges that V2's theorems state.
-NO_RULES = {"Lib", "Examples", "Cases", "Ranges"}
-# Files of proofs/ that hold worked examples.
-EXAMPLES = re.compile(r"/proofs/(Examples|Pins|Cases)\b")
+# Files that hold worked examples: their lists in specs/, and their claims in proofs/.
+EXAMPLES = {"Examples", "Pins", "Cases", "WrittenFrames", "V2Frames", "ACut", "ConvertExamples"}
+IN_EXAMPLES = re.compile(rf"/proofs/({'|'.join(sorted(EXAMPLES))})\b")
+# Files of specs/ on which no entry's contract rests: roots, worked examples, the ranges that V2's theorems state, and what inner
+# functions ask and leave, which their callers' proofs see through.
+NO_RULES = EXAMPLES | {"Lib", "Ranges", "Lent", "Exchanged", "Weight", "Pending"}
 SECONDS = 600
 
 # ---- Tokens
+
+# A function of a source file, from its first line to its last.
+FUNCTION = re.compile(r"^( *)(?:pub )?(?:extern \"C\" )?fn .*\n(?:.*\n)*?\1\}\n", re.M)
 
 TOKEN = re.compile(r"--(?=\s|$)[^\n]*|[(){};]|[^\s(){};]+")
 NUMBER = re.compile(r"0x[0-9a-fA-F_]+|0b[01_]+|[0-9][0-9_]*")
@@ -243,7 +251,9 @@ def records(crate):
 class Change:
     def __init__(self, clause, what, edits):
         self.file, self.name, self.what, self.edits = clause.file, clause.name, what, edits
-        self.line = self.file.text.count("\n", 0, min(e[0] for e in edits)) + 1
+        first = min(e[0] for e in edits)
+        self.line = self.file.text.count("\n", 0, first) + 1
+        self.column = first - self.file.text.rfind("\n", 0, first)
 
     def applied(self):
         text = self.file.text
@@ -254,7 +264,7 @@ class Change:
         return re.sub(r"^(?=use )", "".join(f"use {HOMES[name]}.{{{name}}}\n" for name in new), text, count=1, flags=re.M)
 
     def __str__(self):
-        return f"{self.file.path.stem}.antt:{self.line}: {self.name}: {self.what}"
+        return f"{self.file.path.stem}.antt:{self.line}:{self.column}: {self.name}: {self.what}"
 
 
 def short(text):
@@ -422,7 +432,7 @@ def needed(crate):
 
 class Copy:
     """The crate with all that it rests on, in a folder of its own, proved as it is; each change is made in it and taken back.
-    Of `examples` it has the worked examples and no theorem: `proved` tells whether its functions need none."""
+    Of `examples` it has the worked examples, and no theorem and no function."""
 
     def __init__(self, crate, home, examples):
         self.crate, self.home = crate, home
@@ -430,27 +440,40 @@ class Copy:
         for name in (crates := needed(crate)):
             kept = shutil.ignore_patterns("must-fail")
             shutil.copytree(ROOT / "crates" / name, home / "crates" / name, ignore=kept)
-        (home / "crates.txt").write_text("".join(f"{name}: {' '.join(uses)}\n" for name, uses in crates.items()))
+        (home / "crates.txt").write_text("".join(f"{' '.join([name + ':', *uses])}\n" for name, uses in crates.items()))
         for part in ("rlib", "stamp"):
             if (ROOT / "target" / part).is_dir():
-                shutil.copytree(ROOT / "target" / part, home / "target" / part, symlinks=True)
+                shutil.copytree(ROOT / "target" / part, home / "target" / part, symlinks=True, copy_function=os.link)
         if examples:
             self.leave_examples(home / "crates" / crate / "proofs")
+            self.leave_types(home / "crates" / crate / "src")
         said = [self.rt(verb) for verb in ("check", "dev")]
-        self.proved = all(status == 0 for status, _ in said)
-        if self.proved:
-            self.saved, self.base = home / "target" / "inc" / crate, home / "base"
-            shutil.copytree(self.saved, self.base)
-        elif not examples:
-            sys.exit(f"the crate as it is is not proved:\n{said}")
+        if any(status != 0 for status, _ in said):
+            raise RuntimeError(f"{home}: the crate as it is is not proved:\n{said}")
+        self.saved, self.base = home / "target" / "inc" / crate, home / "base"
+        shutil.copytree(self.saved, self.base)
 
     @staticmethod
     def leave_examples(proofs):
-        """Functions' proofs stand in folders of their functions' names; laws stand beside them."""
-        roots = [path for path in sorted(proofs.glob("*.antt")) if EXAMPLES.search(f"/proofs/{path.stem}")]
-        for path in set(proofs.glob("*.antt")) - set(roots):
-            path.unlink()
-        (proofs / "Lib.antt").write_text("".join(f"pub mod {path.stem}\n" for path in roots))
+        """Takes out all proofs but those of worked examples, which stand in files of their own and in folders of these names."""
+        for path in proofs.iterdir():
+            if path.stem not in EXAMPLES:
+                shutil.rmtree(path) if path.is_dir() else path.unlink()
+        (proofs / "Lib.antt").write_text("".join(f"pub mod {path.stem}\n" for path in sorted(proofs.glob("*.antt"))))
+
+    @staticmethod
+    def leave_types(source):
+        """Takes out all functions, and the names that nothing needs without them: types and constants stay, which definitions use."""
+        taken = set()
+        texts = {path: path.read_text() for path in source.glob("**/*.rt")}
+        for path, text in texts.items():
+            taken |= set(re.findall(r"^(?:pub )?(?:extern \"C\" )?fn (\w+)", text, flags=re.M))
+            texts[path] = FUNCTION.sub("", text)
+        for path, text in texts.items():
+            body = re.sub(r"^(ghost |pub )?use .*\n", "", text, flags=re.M)
+            used = lambda m: m[1] == "pub " and m[2] not in taken or re.search(rf"\b{m[2]}\b", body)
+            text = re.sub(r"^(pub )?use .*::(\w+);\n", lambda m: m[0] if used(m) else "", text, flags=re.M)
+            path.write_text(re.sub(r"^ghost use .*\n", "", text, flags=re.M))
 
     def rt(self, verb):
         run = subprocess.Popen(
@@ -487,14 +510,15 @@ class Worker:
     """Tells of a change whether the examples refuse it, and if they don't whether the theorems do."""
 
     def __init__(self, crate, number):
-        home = ROOT / "target" / "mutate" / str(number)
-        self.whole = Copy(crate, home / "whole", False)
-        self.examples = Copy(crate, home / "examples", True)
+        self.crate, self.home = crate, ROOT / "target" / "mutate" / crate / str(number)
+        self.examples = Copy(crate, self.home / "examples", True)
+
+    @functools.cached_property
+    def whole(self):
+        return Copy(self.crate, self.home / "whole", False)
 
     def outcome(self, change):
-        status = 0
-        if self.examples.proved:
-            status, said = self.examples.said_of(change, ["dev"])
+        status, said = self.examples.said_of(change, ["dev"])
         if status == 0:
             status, said = self.whole.said_of(change, ["dev", "check"])
         if status == 0:
@@ -504,7 +528,7 @@ class Worker:
             return "no definition", next(e for e in errors if "/specs/" in e)
         if status != 1:
             return "no answer", said[-300:]
-        where = [line for line in errors if EXAMPLES.search(line)]
+        where = [line for line in errors if IN_EXAMPLES.search(line)]
         first = (where or errors or [said[-300:]])[0]
         return ("refused by an example" if where else "refused by a law"), first.replace(f"{ROOT}/target/mutate/", "")
 
@@ -524,6 +548,7 @@ def main():
     parse.add_argument("--count", type=int, default=0)
     parse.add_argument("--seed", type=int, default=1)
     parse.add_argument("--workers", type=int, default=2)
+    parse.add_argument("--again", action="store_true", help="only what no example refused in the run before")
     parse.add_argument("--list", action="store_true", help="print the changes, and check none")
     given = parse.parse_args()
     folder = ROOT / "crates" / given.crate / "specs"
@@ -539,15 +564,33 @@ def main():
     if given.list:
         print("\n".join(map(str, changes)), f"{len(changes)} changes", sep="\n")
         return
-    left, done = queue.Queue(), {}
+    log = ROOT / "target" / "mutate" / f"{given.crate}.txt"
+    known = settled(log) if given.again else {}
+    done = {change: known[str(change)] for change in changes if str(change) in known}
+    try_all([change for change in changes if change not in done], done, given.crate, given.workers, log)
+    for file in sorted({change.file.path.stem for change in done}):
+        print(figures(file, [outcome for change, outcome in done.items() if change.file.path.stem == file]))
+    print(figures(given.crate, list(done.values())))
+    if len(done) != len(changes):
+        sys.exit(1)
+
+
+def settled(log):
+    """The outcomes of a run before that further examples leave as they are, by change."""
+    found = (line.split("  | ")[0].split(": ", 1) for line in log.read_text().splitlines())
+    return {change: outcome for outcome, change in found if outcome in {"no definition", "refused by an example"}}
+
+
+def try_all(changes, done, crate, workers, log):
+    """Tries changes, some at a time, and notes each one's outcome in `done` and in the log."""
+    left, printing = queue.Queue(), threading.Lock()
     for change in changes:
         left.put(change)
-    log = ROOT / "target" / "mutate" / f"{given.crate}.txt"
     log.parent.mkdir(parents=True, exist_ok=True)
-    printing = threading.Lock()
+    log.write_text("".join(f"{outcome}: {change}\n" for change, outcome in done.items()))
 
     def work(number):
-        worker = Worker(given.crate, number)
+        worker = Worker(crate, number)
         while True:
             try:
                 change = left.get_nowait()
@@ -557,23 +600,23 @@ def main():
             with printing, log.open("a") as out:
                 done[change] = found
                 print(f"{found}: {change}{'  | ' + why if why else ''}", file=out, flush=True)
-                if found in {"STILL PROVES", "no answer"}:
+                if found in {"STILL PROVES", "no answer", "refused by a law"}:
                     print(f"{found}: {change}", flush=True)
 
-    log.write_text("")
-    threads = [threading.Thread(target=work, args=(n,)) for n in range(min(given.workers, max(1, len(changes))))]
+    threads = [threading.Thread(target=work, args=(n,)) for n in range(min(workers, max(1, len(changes))))]
     for thread in threads:
         thread.start()
     for thread in threads:
         thread.join()
-    count = lambda outcome: sum(found == outcome for found in done.values())
+
+
+def figures(name, outcomes):
+    count = outcomes.count
     example, law = count("refused by an example"), count("refused by a law")
-    print(
-        f"{given.crate}: {len(done)} changes, {count('no definition')} no definition, {example + law} refused "
-        f"({example} by an example), {count('no answer')} without an answer, {count('STILL PROVES')} still prove"
+    return (
+        f"{name}: {len(outcomes)} changes, {count('no definition')} no definition, {example} refused by an example, "
+        f"{law} by a law alone, {count('no answer')} without an answer, {count('STILL PROVES')} still prove"
     )
-    if len(done) != len(changes):
-        sys.exit(1)
 
 
 if __name__ == "__main__":

@@ -2,3 +2,4 @@
 pub mod Bands
 pub mod Sequence
 pub mod Call
+pub mod Examples

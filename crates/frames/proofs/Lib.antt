@@ -6,3 +6,4 @@ pub mod BlankLaws
 pub mod ExportLaws
 pub mod ExportedFrames
 pub mod Moves
+pub mod Examples

@@ -12,7 +12,11 @@ use Rattle.rules.specs.Reader.{fetched, counted, held, read, fields, four, sign
 use Rattle.rules.specs.Frame.{change-cells}
 use Rattle.rules.specs.V0.{fresh-row, operated, operate, head, bounded, predictor, length-of, length-bits, residual-bits, sample, samples, blocks, row-blocks, rows, put, apply, write, write-all, swap, exchange-columns, exchange-rows, exchange, frame}
 use Rattle.rules.specs.Map.{v0-map}
+use Rattle.rules.specs.V0 as V0
+use Rattle.rules.specs.Answer as Plain
 use Rattle.profile.specs.Profile.{fits, all-fit, first-fault, block-fault, blocks-fault, row-fault, rows-verdict, verdict}
+use Rattle.profile.specs.Clean as Clean
+use Rattle.profile.specs.Examples.{defined, examples}
 
 abbrev told : Answer → List ℕ
 told v = v .number ∷ v .row ∷ v .filler ∷ []
@@ -125,3 +129,9 @@ pub none-skipped : (told (verdict (down-down ++ down-up) (0 ∷ 8 ∷ []) (size 
     × (v0-map (down-down ++ down-up) (0 ∷ 8 ∷ []) (size 17 2) ≡ replicate 34 0)
 unfolding v0-map verdict rows-verdict row-fault blocks-fault block-fault first-fault fits all-fit frame exchange exchange-rows exchange-columns swap rows row-blocks blocks write-all write apply put change-cells fresh-row operated operate head bounded predictor length-of length-bits residual-bits sample samples fetched counted held read fields four signed modulo read-residual
 none-skipped = (refl, refl)
+
+-- ── Calls ──
+
+pub calls-hold : map defined examples ≡ examples
+unfolding examples Clean.answer Clean.samples-after Clean.map-after Plain.too-large Plain.too-small Plain.short-offsets Plain.short-samples Plain.short-map Plain.short-scratch Plain.first-of Plain.refusal Plain.frame-samples Plain.frame-marks Plain.unless-refused Plain.samples-after Plain.map-after V0.decoded v0-map verdict rows-verdict row-fault blocks-fault block-fault first-fault fits all-fit frame exchange exchange-rows exchange-columns swap rows row-blocks blocks write-all write apply put change-cells fresh-row operated operate head bounded predictor length-of length-bits residual-bits sample samples fetched counted held read fields four signed modulo read-residual
+calls-hold = refl

@@ -88,9 +88,24 @@ late-stream w h f m buffer =
 unfoldable pub if-decoded : {A : Type 0} → Call → A → A → A
 if-decoded c new old = cond (eqb (early c) 0) new old
 
+abbrev pub call-answer : Call → Written
+call-answer c =
+    if-decoded c (late-answer (c .asked .size .width) (c .asked .size .height) (frame-of c) (marks-of c) (length (c .stream)))
+    (refused (early c))
+
+abbrev pub call-samples : Call → List ℕ
+call-samples c = if-decoded c (decoded-samples c) (c .samples)
+
+abbrev pub call-map : Call → List ℕ
+call-map c = if-decoded c (decoded-map c) (c .map)
+
+abbrev pub call-stream : Call → List ℕ
+call-stream c =
+    if-decoded c (late-stream (c .asked .size .width) (c .asked .size .height) (frame-of c) (marks-of c) (c .stream)) (c .stream)
+
 -- All that a call yields and leaves.
 pub record Yields (c : Call) (r : Written) (samples map stream : List ℕ) : Type 0 where
-  pub answered : r ≡ if-decoded c (late-answer (c .asked .size .width) (c .asked .size .height) (frame-of c) (marks-of c) (length (c .stream))) (refused (early c))
-  pub samples-left : samples ≡ if-decoded c (decoded-samples c) (c .samples)
-  pub map-left : map ≡ if-decoded c (decoded-map c) (c .map)
-  pub stream-left : stream ≡ if-decoded c (late-stream (c .asked .size .width) (c .asked .size .height) (frame-of c) (marks-of c) (c .stream)) (c .stream)
+  pub answered : r ≡ call-answer c
+  pub samples-left : samples ≡ call-samples c
+  pub map-left : map ≡ call-map c
+  pub stream-left : stream ≡ call-stream c

@@ -22,11 +22,12 @@ abbrev unchanged : Call → ℕ → Example
 unchanged c number = record { asked = c; answer = refused number; stream = c .stream; offsets = c .offsets }
 
 -- 3 by 2. Each row is one block of 16 columns, 13 of them past the row's end, so that its lengths 1 and 3 are 0, and each row is
--- padded. The samples 16,383 and 128 change places. Each buffer is longer than what is written, and keeps its end.
+-- padded. The samples 16,383 and 128 change places. The sample past N is above 16,383 and isn't looked
+-- at. Each buffer is longer than what is written, and keeps its end.
 abbrev small : Example
 small =
     record {
-      asked = call (0 ∷ 16_383 ∷ 127 ∷ 128 ∷ 5 ∷ 16_000 ∷ 9 ∷ []) 3 2 (replicate 26 7) (8 ∷ 8 ∷ 8 ∷ []);
+      asked = call (0 ∷ 16_383 ∷ 127 ∷ 128 ∷ 5 ∷ 16_000 ∷ 65_535 ∷ []) 3 2 (replicate 26 7) (8 ∷ 8 ∷ 8 ∷ []);
       answer = written 24;
       stream =
           64 ∷ 0 ∷ 192 ∷ 127 ∷ 0 ∷ 0 ∷ 128 ∷ 127
