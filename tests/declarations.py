@@ -51,7 +51,9 @@ def words_of(kind: str, place: str, structures: dict[str, list[tuple[str, str]]]
 
 def entry(function: Function, structures: dict[str, list[tuple[str, str]]]) -> tuple[str, str]:
     """Returns the C function that makes a call out of pointers and numbers, and the function's row in the table."""
-    given, row, copies = [], [], []
+    given: list[str] = []
+    row: list[str] = []
+    copies: list[str] = []
     rest = list(function.parameters)
     while rest:
         kind, name = rest.pop(0)
