@@ -1,4 +1,4 @@
-.PHONY: run test archive install dist refuse mutate compare compare-long bench memcheck fuzz frames picture soak fmt
+.PHONY: run test archive install dist refuse mutate compare compare-long bench memcheck fuzz hour frames picture soak fmt
 
 archive = target/staticlib/librazvolk.a
 cargo_run = cd rust && cargo run --release --offline --locked
@@ -102,6 +102,12 @@ fuzz: $(made)/tests/hostile frames
 	grep 'cov:' $(made)/look.log | tail -1
 	grep '^Done\|^stat' $(made)/look.log
 	$(made)/tests/hostile pages $(FOR)s $(SEED)
+
+# What proofs don't reach, tried on two processors for HOUR_SECONDS (docs/TESTING.md). It prints the seed, the clock's, and ends
+# with one line of counts.
+HOUR_SECONDS = 3600
+hour: $(archive)
+	nice -n 19 tests/hour $(HOUR_SECONDS)
 
 # Frames in a camera's container, to look at and to damage.
 frames: $(archive)
