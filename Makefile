@@ -1,4 +1,4 @@
-.PHONY: run test archive install dist refuse mutate compare compare-long bench memcheck fuzz frames picture soak fmt
+.PHONY: run test archive install dist refuse mutate compare compare-long bench memcheck fuzz fuzz-container hour frames picture soak fmt
 
 archive = target/staticlib/librazvolk.a
 cargo_run = cd rust && cargo run --release --offline --locked
@@ -102,6 +102,26 @@ fuzz: $(made)/tests/hostile frames
 	grep 'cov:' $(made)/look.log | tail -1
 	grep '^Done\|^stat' $(made)/look.log
 	$(made)/tests/hostile pages $(FOR)s $(SEED)
+
+# FOR seconds of the container's C functions on files, led by coverage.
+fuzz-container: include/razvolk_srw.h frames
+	cd rust && RUSTFLAGS='$(counters)' cargo rustc --release --offline --locked -p razvolk-srw --crate-type staticlib \
+		--target $(fuzz_target) --target-dir target/fuzz
+	clang -g -O1 -std=c99 -Wall -Wextra -Werror -fsanitize=fuzzer,address,undefined -fno-sanitize-recover=all -Iinclude tests/container.c \
+		rust/target/fuzz/$(fuzz_target)/release/librazvolk_srw.a -lgcc_s -lpthread -ldl -lm -o $(made)/find
+	mkdir -p $(made)/corpus-container
+	cp $(made)/frames/small*.srw $(made)/corpus-container/
+	cd $(made) && ./find -max_total_time=$(FOR) -max_len=4096 -rss_limit_mb=2048 -print_final_stats=1 corpus-container > find.log 2>&1 || \
+		{ tail -40 find.log; exit 1; }
+	grep '^INFO: Seed' $(made)/find.log
+	grep 'cov:' $(made)/find.log | tail -1
+	grep '^Done\|^stat' $(made)/find.log
+
+# What proofs don't reach, tried on two processors for HOUR_SECONDS (docs/TESTING.md). It prints the seed, the clock's, and ends
+# with one line of counts.
+HOUR_SECONDS = 3600
+hour: $(archive)
+	nice -n 19 tests/hour $(HOUR_SECONDS)
 
 # Frames in a camera's container, to look at and to damage.
 frames: $(archive)
