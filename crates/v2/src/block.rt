@@ -8,6 +8,7 @@ ghost use Rattle.rules.specs.V2.{tail, read-block, top, sample, block-cells, sa
 ghost use Rattle.rules.specs.Ranges.{Between};
 ghost use Rattle.v2_stream.specs.Colours.{colours};
 ghost use Rattle.v2.specs.Blocks.{Ready, written};
+use rules::Answer;
 use rules::Bits;
 use rules::V2Block;
 use rules::V2Hdr;
@@ -97,10 +98,10 @@ pub fn read_block(
     let m = next_motion(src, hdr, state.motion, b1);
     let b2 = m.bits;
     let refusal = refusal_of(at, m.value);
-    if refusal == 5 {
+    if refusal == Answer::EARLY_MOTION {
         return Outcome::early(V2Block::EarlyMotion(b2), lengths);
     }
-    if refusal == 6 {
+    if refusal == Answer::OUTSIDE {
         return Outcome::early(V2Block::Outside(b2), lengths);
     }
     let mut base = [0u16; 16];
