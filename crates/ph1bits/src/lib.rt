@@ -16,12 +16,7 @@ impl<'a> Ph1Bits<'a> {
     pub fn new(data: &'a [u8], pos: u64) -> Ph1Bits<'a>
         ensures { λ r. ⌜ (r .data ≡ «data» .entry) × (r .state ≡ fresh pos) ⌝ }
     {
-        let state = Bits {
-            pos,
-            word: 0,
-            count: 0,
-            filler: 0,
-        };
+        let state = Bits::new(pos);
         Ph1Bits { data, state }
     }
 

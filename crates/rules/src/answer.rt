@@ -99,6 +99,6 @@ pub struct Size {
 }
 
 impl Size {
-    // The greatest width and the greatest height.
+    // The greatest width and the greatest height. V0's rows and V2's header cite it, and refusal 1 goes by it for every call.
     pub const MOST: usize = 16_384;
 }

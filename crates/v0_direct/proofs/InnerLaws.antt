@@ -1,11 +1,14 @@
 -- An inner block: its operations are those of all sixteen residuals, read in one go.
 use mathlib.Core.Path.{_≡_, refl, sym, ap, _∙_}
-use mathlib.Core.Bool.{Bool}
+use mathlib.Core.Bool.{Bool, true, false, not, _&&_}
 use mathlib.Core.List.{List, [], _∷_}
-use Prim.Native.Nat.{ℕ, suc, _+_, _*_, _<_}
+use Prim.Native.Nat.{ℕ, suc, _+_, _*_, _≤_, _<_}
 use native.Mathlib.Omega.{arith}
+use lib.Dec.{leb, eqb}
 use lib.IntN.{ℤ}
 use lib.ListN.{length, getD, replicate}
+use borrow.Author.Tests.{le-leb, lt-leb, ne-eqb, leb-true, eqb-false, not-true}
+use Rattle.rules.proofs.Tests.{both}
 use Rattle.rules.specs.Reader.{read-residual}
 use Rattle.rules.specs.Phases.{residuals}
 use Rattle.rules.specs.V0.{apply, sample-kind, sample, samples, head, predictor, order, length-of, length-bits, residual-bits}
@@ -15,13 +18,41 @@ use Rattle.rules.specs.declared.reader.Bits.{Bits}
 use Rattle.rules.specs.declared.v0.Predictor.{Predictor}
 use Rattle.rules.specs.declared.v0.Predictor.the-variants.{Sample}
 use Rattle.rules.specs.declared.v0.V0Row.{V0Row}
-use Rattle.v0_cells.specs.Places.{Inner}
+use Rattle.v0_cells.specs.Places.{InFrame, Inner}
 use Rattle.v0_stream.specs.Block.{with-residuals, whole-block}
 use Rattle.v0_stream.specs.declared.block.ReadBlock.{ReadBlock}
 use Rattle.v0_stream.proofs.OrderLaws.{order-below}
 use Rattle.v0_direct.specs.Block.{block-ops, after-block, Decoded}
+use Rattle.v0_direct.specs.Run.{inner}
 use Rattle.v0_cells.specs.Inner.{source-of, inner-ops}
 use Rattle.v0_cells.proofs.InnerLaws.{marks-alike, inner-predictor}
+
+-- ── Which blocks ──
+
+-- What the three tests of an inner block decide, those before each having held.
+module _ (z : Size) (row col : ℕ) where
+  pub inner-early : row < 2 → false ≡ inner z row col
+  unfolding inner
+  inner-early early = rw (lt-leb 2 row early)
+
+  pub inner-first : 2 ≤ row → col ≡ 0 → false ≡ inner z row col
+  unfolding inner
+  inner-first late e = rw (le-leb 2 row late, e)
+
+  pub inner-within : 2 ≤ row → (col ≡ 0 → ⊥) → leb (col + 16) (z .width) ≡ inner z row col
+  unfolding inner
+  inner-within late some = rw (le-leb 2 row late, ne-eqb col 0 some)
+
+  -- What follows if it is one.
+  pub inner-is : InFrame z row col → inner z row col ≡ true → Inner z row col
+  unfolding inner
+  inner-is i e =
+      let a = both (leb 2 row) (not (eqb col 0) && leb (col + 16) (z .width)) e in
+      let b = both (not (eqb col 0)) (leb (col + 16) (z .width)) (a .1) in
+      let after : col ≡ 0 → ⊥ = eqb-false col 0 (not-true (eqb col 0) (b .0)) in
+      record { frame = i; late = leb-true 2 row (a .0); after = omega arith; inside = leb-true (col + 16) (z .width) (b .1) }
+
+-- ── Its operations ──
 
 -- Where every sample predicts from a sample, each one's bits are read, and its operation has what was read.
 module _ (s : List ℕ) (w base : ℕ) (up : Bool) (ls : List ℤ) (predict : ℕ → Predictor) where

@@ -25,12 +25,6 @@ use Rattle.v0_cells.proofs.CellLaws.{blocks-walk, Left, left-begun, left-on, le
 
 -- ── One block ──
 
-pub not-inner : (z : Size) (row col : ℕ) → false ≡ true → Inner z row col
-not-inner z row col e = absurd (let n : _≡_ {A = ℕ} 0 1 = cc in omega arith)
-
-pub inner-when : (z : Size) (row col : ℕ) → InFrame z row col → 2 ≤ row → (col ≡ 0 → ⊥) → leb (col + 16) (z .width) ≡ true → Inner z row col
-inner-when z row col i l some e = record { frame = i; late = l; after = omega arith; inside = leb-true (col + 16) (z .width) e }
-
 module _ (s : List ℕ) (z : Size) (row col : ℕ) (st : V0Row) (h : V0Head) (eh : h ≡ head s st) (b : Bits) where
   pub block-state : b ≡ samples-of s z row col h order (h .row .bits) .bits → record { lengths = h .row .lengths; bits = b } ≡ after-block s z row col st
   unfolding after-block block-ops

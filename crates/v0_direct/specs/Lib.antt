@@ -1,3 +1,4 @@
 pub mod Block
 pub mod Freed
 pub mod Lent
+pub mod Run

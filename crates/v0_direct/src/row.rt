@@ -1,5 +1,4 @@
 // A row: its blocks one after another, the inner ones in one go and the others by the literal rule.
-ghost use mathlib.Core.Bool.{true};
 ghost use mathlib.Core.Path.{_≡_};
 ghost use Prim.Native.Nat.{_+_, _*_, _^_, _<_};
 ghost use lib.ListN.{length};
@@ -12,6 +11,7 @@ ghost use Rattle.v0_cells.specs.Inner.{inner-ops};
 ghost use Rattle.v0_cells.specs.Places.{InFrame, Inner};
 ghost use Rattle.v0_direct.specs.Lent.{InRow, BlockLent, RunLent};
 ghost use Rattle.v0_direct.specs.Block.{Decoded, BlockRun};
+ghost use Rattle.v0_direct.specs.Run.{inner};
 use super::Place;
 use super::run::Run;
 use super::run::decode_run;
@@ -37,10 +37,10 @@ use window::SHORT_BITS;
 use window::stands_within;
 use window::state_at;
 
-// Whether a block is an inner one.
+// Whether a block is an inner one: from row 2 on, after column 0 and inside its row.
 pub fn is_inner(size: Size, row: usize, col: usize) -> bool
     requires { ⌜ InFrame size row col ⌝ }
-    ensures { λ r. ⌜ (r ≡ true → Inner size row col) ⌝ }
+    ensures { λ r. ⌜ r ≡ inner size row col ⌝ }
 {
     if row < 2 {
         return false;

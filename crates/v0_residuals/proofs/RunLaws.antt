@@ -1,21 +1,23 @@
 -- Blocks one after another: what each keeps all keep, and by position they are those that the record reads.
-use mathlib.Core.Path.{_≡_, refl, _∙_}
-use mathlib.Core.Bool.{cond}
+use mathlib.Core.Path.{_≡_, refl, ap, _∙_}
+use mathlib.Core.Bool.{true, false, cond, _&&_}
 use mathlib.Core.List.{List}
-use Prim.Native.Nat.{ℕ, suc, _+_, _*_, _≤_, _<_}
+use Prim.Native.Nat.{ℕ, suc, _+_, _-_, _*_, _/_, _≤_, _<_}
 use native.Mathlib.Omega.{arith}
 use lib.ListN.{length, set, length-set}
 use Rattle.rules.specs.V0.{order, blocks-in}
 use Rattle.rules.specs.Phases.{store-samples}
 use Rattle.rules.specs.declared.reader.Bits.{Bits}
 use Rattle.rules.specs.declared.v0.V0Row.{V0Row}
-use Rattle.window.specs.Window.{state-at}
+use Rattle.window.specs.Window.{state-at, Standing, standing-in}
 use Rattle.v0_stream.specs.Lengths.{Within}
 use Rattle.v0_stream.proofs.BlockLaws.{block-within}
-use Rattle.v0_windows.specs.ByWindow.{Ahead, HeadAt, Ends, residuals-of}
+use Rattle.v0_windows.specs.ByWindow.{Ahead, HeadAt, last-start, short, Ends, residuals-of}
+use Rattle.v0_windows.specs.Run.{run-length, blocks-of-run}
 use Rattle.v0_windows.specs.declared.WindowHead.{WindowHead}
 use Rattle.v0_windows.proofs.GroupLaws.{ahead-end}
-use Rattle.v0_residuals.specs.Ran.{Ran, none, also, RanAt}
+use Rattle.v0_windows.proofs.RunLaws.{run-over, run-late, run-long, run-more}
+use Rattle.v0_residuals.specs.Ran.{Ran, none, also, row-at, RanAt}
 use Rattle.v0_residuals.specs.declared.run.Point.{Point}
 use Rattle.v0_residuals.proofs.ResidualLaws.{Parsing, parsing-on, position-parsed}
 
@@ -77,3 +79,46 @@ module _ {s : List ℕ} {base w : ℕ} {p : Point} {out dirs : List ℕ} where
       → RanAt s base w p out dirs p′ out′ dirs′ → b ≡ state-at s base (p′ .q) f
       → Ran s w (p .k) st out dirs (p′ .k) (record { lengths = p′ .lengths; bits = b }) out′ dirs′
   run-ran {f = f} el es r eb = rw (el, es, eb) (r .reads f)
+
+-- ── How far ──
+
+-- Where the run from a point on ends, f words having been missing and no block beginning after bit `last`.
+abbrev pub ending : List ℕ → ℕ → ℕ → ℕ → ℕ → Point → ℕ
+ending s base w last f p = p .k + run-length s (base * 8 + last) (w / 16 - p .k) (row-at s base f p)
+
+module _ (s : List ℕ) (base w last : ℕ) (p : Point) where
+  -- The block there reaches past the row's end, begins too late, or is long.
+  pub ends-narrow : w < (p .k + 1) * 16 → (f : ℕ) → p .k ≡ ending s base w last f p
+  ends-narrow narrow f =
+      let n : w / 16 - p .k ≡ 0 = omega arith in
+      rw (n, run-over s (base * 8 + last) (row-at s base f p)) (omega arith)
+
+  pub ends-late : last < p .q → (f : ℕ) → p .k ≡ ending s base w last f p
+  ends-late late f = rw (run-late s base f last (p .q) (p .lengths) (w / 16 - p .k) late) (omega arith)
+
+  module _ (h : WindowHead) (soon : p .q ≤ last) (at : HeadAt s base (p .q) (p .lengths) h) where
+    pub ends-long : short (h .lengths) ≡ false → (f : ℕ) → p .k ≡ ending s base w last f p
+    ends-long e f = rw (run-long s base f last (p .q) (p .lengths) h at (w / 16 - p .k) soon e) (omega arith)
+
+    -- A short one is one of the run.
+    pub ends-on : (q′ : ℕ) → (p .k + 1) * 16 ≤ w → short (h .lengths) ≡ true → Ends s base h q′ → (f : ℕ)
+        → ending s base w last f p ≡ ending s base w last f (record { k = p .k + 1; q = q′; lengths = h .lengths })
+    ends-on q′ inside e ends f =
+        let n : w / 16 - p .k ≡ suc (w / 16 - (p .k + 1)) = omega arith in
+        rw (n, run-more s base f last (p .q) (p .lengths) h at (w / 16 - (p .k + 1)) q′ soon e ends) (omega arith)
+
+-- The row's state where a run begins is the one by position.
+pub run-begun-at : {s : List ℕ} {st : V0Row} (k : ℕ) → Standing s (st .bits) 80
+    → st ≡ row-at s (st .bits .pos - 12) (st .bits .filler) (record { k = k; q = 96 - st .bits .count; lengths = st .lengths })
+run-begun-at {st = st} k x = ap (λ (b : Bits). record { lengths = st .lengths; bits = b }) (x .is)
+
+-- Where a run begins it has the blocks that follow, and where none does it has none.
+module _ (s : List ℕ) (n : ℕ) (st : V0Row) where
+  pub run-ended : short (st .lengths) && standing-in s (st .bits) 80 ≡ true → (p : Point) → st ≡ row-at s (st .bits .pos - 12) (st .bits .filler) p
+      → run-length s ((st .bits .pos - 12) * 8 + last-start (length s - (st .bits .pos - 12))) n (row-at s (st .bits .pos - 12) (st .bits .filler) p) ≡ blocks-of-run s n st
+  unfolding blocks-of-run
+  run-ended e p es = rw (e, ← es)
+
+  pub run-none : (k : ℕ) → short (st .lengths) && standing-in s (st .bits) 80 ≡ false → k ≡ k + blocks-of-run s n st
+  unfolding blocks-of-run
+  run-none k e = rw e (omega arith)

@@ -1,14 +1,17 @@
 // Runs of short blocks: as long as a block lies within its row, its lengths are short and the stream has room for a block, blocks
 // follow one another by position, and the record is made again only after them. No way of reading long residuals stands in the loop,
 // so that the compiler keeps what it goes on with in registers.
+ghost use mathlib.Core.Bool.{true, _&&_};
 ghost use mathlib.Core.Path.{_≡_};
-ghost use Prim.Native.Nat.{_+_, _≤_};
+ghost use Prim.Native.Nat.{ℕ, _+_, _-_, _*_, _/_, _≤_};
 ghost use lib.ListN.{length};
 ghost use Rattle.rules.specs.V0.{order};
 ghost use Rattle.rules.specs.Phases.{store-samples};
-ghost use Rattle.v0_windows.specs.ByWindow.{Ahead, Short, Ends, residuals-of};
+ghost use Rattle.window.specs.Window.{Standing, standing-in};
+ghost use Rattle.v0_windows.specs.ByWindow.{Ahead, last-start, Short, short, Ends, residuals-of};
+ghost use Rattle.v0_windows.specs.Run.{run-length, blocks-of-run};
 ghost use Rattle.v0_residuals.specs.Lent.{RunLent};
-ghost use Rattle.v0_residuals.specs.Ran.{RanAt, Ran};
+ghost use Rattle.v0_residuals.specs.Ran.{RanAt, Ran, row-at};
 use super::direction_byte;
 use super::store_four;
 use rules::V0Row;
@@ -74,6 +77,7 @@ fn short_blocks(
 ) -> Point
     requires { ⌜ Ahead (now src) base (start .q) 608 × RunLent width (start .k) (start .lengths) (now out) (now dirs) ⌝ }
     ensures { λ r. ⌜ RanAt (now (src .entry)) base width start (now (out .entry)) (now (dirs .entry)) r (now (out .exit)) (now (dirs .exit)) ⌝ }
+    ensures { λ r. ⌜ ((f : ℕ) → r .k ≡ start .k + run-length (now (src .entry)) (base * 8 + last-start (length (now (src .entry)) - base)) (width / 16 - start .k) (row-at (now (src .entry)) base f start)) ⌝ }
 {
     let last = last_start(src.len() - base);
     let mut k = start.k;
@@ -93,8 +97,21 @@ fn short_blocks(
     Point { k, q, lengths }
 }
 
-// The short blocks from block k on: none where the lengths before it are long, so that a row of long blocks costs no more, or where
-// the record doesn't stand in the stream.
+// Whether a run begins at a block: after short lengths, so that a row of long blocks costs no more, and where the record stands in the
+// stream.
+fn begins(src: &[u8], row: V0Row) -> bool
+    ensures { λ r. ⌜ r ≡ short (row .lengths) && standing-in (now (src .entry)) (row .bits) 80 ⌝ }
+    ensures { λ r. ⌜ (r ≡ true → Standing (now (src .entry)) (row .bits) 80) ⌝ }
+{
+    let bits = row.bits;
+    let before = row.lengths;
+    if !are_short(before) {
+        return false;
+    }
+    stands_within(src, bits, BLOCK_BYTES)
+}
+
+// The run from block k on, of which there may be none. The record is made again after its last block.
 pub fn parse_run(
     src: &[u8],
     row: V0Row,
@@ -105,26 +122,27 @@ pub fn parse_run(
 ) -> Run
     requires { ⌜ RunLent width k (row .lengths) (now out) (now dirs) ⌝ }
     ensures { λ r. ⌜ Ran (now (src .entry)) width k row (now (out .entry)) (now (dirs .entry)) (r .k) (r .row) (now (out .exit)) (now (dirs .exit)) ⌝ }
+    ensures { λ r. ⌜ r .k ≡ k + blocks-of-run (now (src .entry)) (width / 16 - k) row ⌝ }
 {
+    if !begins(src, row) {
+        return Run { k, row };
+    }
     let bits = row.bits;
     let before = row.lengths;
-    if are_short(before) && stands_within(src, bits, BLOCK_BYTES) {
-        let base = bits.pos as usize - BACK_BYTES;
-        let start = Point {
-            k,
-            q: BACK_BITS - bits.count as usize,
-            lengths: before,
-        };
-        let end = short_blocks(src, base, start, width, out, dirs);
-        let lengths = end.lengths;
-        let after = V0Row {
-            lengths,
-            bits: state_at(src, base, end.q, bits.filler),
-        };
-        return Run {
-            k: end.k,
-            row: after,
-        };
+    let base = bits.pos as usize - BACK_BYTES;
+    let start = Point {
+        k,
+        q: BACK_BITS - bits.count as usize,
+        lengths: before,
+    };
+    let end = short_blocks(src, base, start, width, out, dirs);
+    let lengths = end.lengths;
+    let after = V0Row {
+        lengths,
+        bits: state_at(src, base, end.q, bits.filler),
+    };
+    Run {
+        k: end.k,
+        row: after,
     }
-    Run { k, row }
 }

@@ -1,7 +1,7 @@
 -- Residuals by position are those that the record reads: first four of one length out of windows, then the block.
 use mathlib.Core.Logic.{_⊎_, ⊎-elim}
 use mathlib.Core.Path.{_≡_, refl, sym, ap, subst, _∙_}
-use mathlib.Core.Bool.{Bool, true, false}
+use mathlib.Core.Bool.{Bool, true, false, _&&_}
 use mathlib.Core.List.{List, [], _∷_}
 use Prim.Native.Nat.{ℕ, _+_, _*_, _-_, _/_, _%_, _^_, _≤_, _<_}
 use native.Mathlib.Omega.{arith}
@@ -18,10 +18,11 @@ use Rattle.rules.specs.V0.{length-bits, head}
 use Rattle.rules.specs.declared.reader.Bits.{Bits}
 use Rattle.rules.specs.declared.v0.V0Row.{V0Row}
 use Rattle.rules.proofs.ReaderLaws.{four-fields}
+use Rattle.rules.proofs.Tests.{both}
 use Rattle.window.specs.Window.{bits-from, state-at, values-at, span, none, also, Window, Standing}
 use Rattle.window.proofs.WindowLaws.{fields-at, window-words, pair-top}
 use Rattle.v0_stream.specs.Block.{with-residuals, whole-block}
-use Rattle.v0_windows.specs.ByWindow.{residual, Room, HeadAt, head-of, Ahead, Plans, Short, Group, joined, residuals-of, Ends}
+use Rattle.v0_windows.specs.ByWindow.{residual, Room, HeadAt, head-of, Ahead, last-start, Plans, Short, short-length, short, Group, joined, residuals-of, Ends}
 use Rattle.v0_windows.specs.declared.WindowHead.{WindowHead}
 use Rattle.v0_windows.specs.declared.Plan.{Plan}
 use Rattle.v0_stream.proofs.BlockLaws.{bits-few-enough, Reading, reading-begun, reading-four, read-all}
@@ -86,15 +87,53 @@ counted l n fits e = rw (toZ-ofZ w32 l (record { sfits = fits })) at e
 
 -- ── Short ones ──
 
-pub short-bits : (l : ℤ) → leZ l (pos 16) ≡ true → length-bits l ≤ 16
+short-bits : (l : ℤ) → leZ l (pos 16) ≡ true → length-bits l ≤ 16
 unfolding length-bits
 short-bits (pos n) e = let few : n ≤ 16 = leb-true n 16 e in omega arith
 short-bits (negsuc n) e = omega arith
 
--- What a test of length j says, which goes through 32 bits.
-pub short-at : (ls : List ℤ) (j : ℕ) {r : Bool} → mag (getD ls j (pos 0)) < 2 ^ 31 → (r ≡ true → length-bits (toZ w32 (ofZ w32 (getD ls j (pos 0)))) ≤ 16) → r ≡ true
-    → length-bits (getD ls j (pos 0)) ≤ 16
-short-at ls j fits test t = rw (toZ-ofZ w32 (getD ls j (pos 0)) (record { sfits = fits })) at (test t)
+-- What the two tests of a length decide.
+pub short-below : (l : ℤ) → leZ (pos 0) l ≡ false → false ≡ short-length l
+unfolding short-length
+short-below l e = rw e
+
+pub short-from-0 : (l : ℤ) → leZ (pos 0) l ≡ true → leZ l (pos 16) ≡ short-length l
+unfolding short-length
+short-from-0 l e = rw e
+
+-- What is told of length j, which goes through 32 bits.
+pub short-at : (ls : List ℤ) (j : ℕ) {r : Bool} → mag (getD ls j (pos 0)) < 2 ^ 31 → r ≡ short-length (toZ w32 (ofZ w32 (getD ls j (pos 0)))) → r ≡ short-length (getD ls j (pos 0))
+short-at ls j fits e = rw (toZ-ofZ w32 (getD ls j (pos 0)) (record { sfits = fits })) at e
+
+-- What the tests of four lengths decide, those before each having held.
+module _ (ls : List ℤ) where
+  pub short-0 : false ≡ short-length (getD ls 0 (pos 0)) → false ≡ short ls
+  unfolding short
+  short-0 a = rw (← a)
+
+  pub short-1 : true ≡ short-length (getD ls 0 (pos 0)) → false ≡ short-length (getD ls 1 (pos 0)) → false ≡ short ls
+  unfolding short
+  short-1 a b = rw (← a, ← b)
+
+  pub short-2 : true ≡ short-length (getD ls 0 (pos 0)) → true ≡ short-length (getD ls 1 (pos 0)) → false ≡ short-length (getD ls 2 (pos 0)) → false ≡ short ls
+  unfolding short
+  short-2 a b c = rw (← a, ← b, ← c)
+
+  pub short-3 : true ≡ short-length (getD ls 0 (pos 0)) → true ≡ short-length (getD ls 1 (pos 0)) → true ≡ short-length (getD ls 2 (pos 0)) → short-length (getD ls 3 (pos 0)) ≡ short ls
+  unfolding short
+  short-3 a b c = rw (← a, ← b, ← c)
+
+-- What follows if all four are short.
+pub short-is : (ls : List ℤ) → short ls ≡ true → Short ls
+unfolding short short-length
+short-is ls e =
+    let a = both (short-length (getD ls 0 (pos 0))) (short-length (getD ls 1 (pos 0)) && (short-length (getD ls 2 (pos 0)) && short-length (getD ls 3 (pos 0)))) e in
+    let b = both (short-length (getD ls 1 (pos 0))) (short-length (getD ls 2 (pos 0)) && short-length (getD ls 3 (pos 0))) (a .1) in
+    let c = both (short-length (getD ls 2 (pos 0))) (short-length (getD ls 3 (pos 0))) (b .1) in
+    record { first = few _ (a .0); second = few _ (b .0); third = few _ (c .0); fourth = few _ (c .1) }
+  where
+    few : (l : ℤ) → leZ (pos 0) l && leZ l (pos 16) ≡ true → length-bits l ≤ 16
+    few l t = short-bits l (both (leZ (pos 0) l) (leZ l (pos 16)) t .1)
 
 -- ── Room ──
 
@@ -189,8 +228,8 @@ pub standing-ahead : {s : List ℕ} {b : Bits} → Standing s b 80 → Ahead s (
 standing-ahead x = record { late = omega arith; soon = omega arith; there = omega arith; far = omega arith }
 
 -- There is room for a block that begins no later than it may.
-pub room-for : {s : List ℕ} {base q last : ℕ} → 64 < q → base ≤ length s → length s < 2 ^ 64 → (last + 608 ≤ (length s - base) * 8) × (last < 2 ^ 20) → q ≤ last → Ahead s base q 608
-room-for late starts fits room soon = record { late = late; soon = omega arith; there = omega arith; far = omega arith }
+pub room-for : {s : List ℕ} {base q last : ℕ} → 64 < q → base ≤ length s → length s < 2 ^ 64 → last ≡ last-start (length s - base) → q ≤ last → Ahead s base q 608
+room-for late starts fits is soon = record { late = late; soon = omega arith; there = omega arith; far = omega arith }
 
 -- Its head begins in a window that is there, and its residuals after the head.
 pub ahead-room : {s : List ℕ} {base q : ℕ} → Ahead s base q 608 → Room s base q

@@ -1,3 +1,4 @@
 pub mod ChosenLaws
 pub mod GroupLaws
+pub mod RunLaws
 pub mod WindowHeadLaws

@@ -1,13 +1,14 @@
 -- A block by position. Its head's direction and operations are the first nine bits of a window; the lengths that operations 3 read
 -- follow, and then four groups of four residuals, each group of one length. What stands here ties each to what the reader's record
 -- would read from there on.
-use Prim.Native.Nat.{ℕ, _+_, _-_, _*_, _/_, _%_, _^_, _≤_, _<_}
-use mathlib.Core.Bool.{cond}
+use Prim.Native.Nat.{ℕ, _+_, _-_, _*_, _/_, _%_, _^_, _≤_, _<_, min}
+use mathlib.Core.Bool.{Bool, cond, _&&_}
 use mathlib.Core.List.{List, [], _∷_}
 use mathlib.Core.Path.{_≡_}
 use lib.Dec.{eqb}
 use lib.IntN.{ℤ, pos}
 use lib.ListN.{length, getD}
+use lib.Signed.{leZ}
 use Rattle.rules.specs.Reader.{signed, modulo}
 use Rattle.rules.specs.V0.{head, length-bits}
 use Rattle.rules.specs.declared.v0.V0Head.{V0Head}
@@ -52,6 +53,11 @@ pub record Ahead (s : List ℕ) (base q more : ℕ) : Type 0 where
   pub there : base * 8 + q + more ≤ length s * 8
   pub far : base * 8 + q + more < 2 ^ 67
 
+-- The last bit of some bytes that a block may begin at: 608 are there from it on. A row's blocks have fewer than 2^20 bits, and no more
+-- are counted.
+abbrev pub last-start : ℕ → ℕ
+last-start bytes = min (bytes * 8 - 608) 1_047_968
+
 -- ── Residuals ──
 
 -- The residual that n bits v are.
@@ -75,6 +81,15 @@ pub record Short (ls : List ℤ) : Type 0 where
   pub second : length-bits (getD ls 1 (pos 0)) ≤ 16
   pub third : length-bits (getD ls 2 (pos 0)) ≤ 16
   pub fourth : length-bits (getD ls 3 (pos 0)) ≤ 16
+
+-- Whether a length is the number of its residuals' bits, and they are at most 16; and whether each of four is.
+unfoldable pub short-length : ℤ → Bool
+short-length l = leZ (pos 0) l && leZ l (pos 16)
+
+unfoldable pub short : List ℤ → Bool
+short ls =
+    short-length (getD ls 0 (pos 0))
+    && (short-length (getD ls 1 (pos 0)) && (short-length (getD ls 2 (pos 0)) && short-length (getD ls 3 (pos 0))))
 
 -- Four residuals of n bits from bit q on.
 abbrev pub Group : List ℕ → ℕ → ℕ → ℕ → List ℕ → Type 0

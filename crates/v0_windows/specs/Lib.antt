@@ -1,1 +1,2 @@
 pub mod ByWindow
+pub mod Run

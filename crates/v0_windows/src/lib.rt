@@ -1,13 +1,12 @@
 // A block by position, where the reader's record stands in the stream: its head out of one window, and four residuals of one length
 // out of one or two. Nothing here is read twice, and no branch asks whether a word is to be fetched.
-ghost use mathlib.Core.Bool.{true, cond};
+ghost use mathlib.Core.Bool.{cond};
 ghost use mathlib.Core.Path.{_≡_};
 ghost use Prim.Native.Nat.{_+_, _-_, _*_, _/_, _%_, _^_, _≤_, _<_};
 ghost use lib.Dec.{eqb};
 ghost use lib.ListN.{length};
 ghost use lib.Signed.{mag};
-ghost use Rattle.v0_windows.specs.ByWindow.{residual, Room, length-in, HeadAt, Plans, Short, Group};
-ghost use Rattle.rules.specs.V0.{length-bits};
+ghost use Rattle.v0_windows.specs.ByWindow.{residual, Room, length-in, HeadAt, last-start, Plans, short-length, short, Group};
 ghost use Rattle.v0_stream.specs.Lengths.{Within, furthest};
 use fields::field;
 use fields::power;
@@ -24,7 +23,7 @@ pub const BLOCK_BYTES: usize = 80;
 // more are counted, which need not fit.
 pub fn last_start(bytes: usize) -> usize
     requires { ⌜ 76 ≤ bytes ⌝ }
-    ensures { λ r. ⌜ (r + 608 ≤ bytes * 8) × (r < 2 ^ 20) ⌝ }
+    ensures { λ r. ⌜ r ≡ last-start bytes ⌝ }
 {
     if bytes < 131_072 {
         return bytes * 8 - 608;
@@ -126,17 +125,16 @@ pub fn plan_of(head: WindowHead) -> Plan
 // The same limit as a length.
 const SHORT: i32 = SHORT_BITS as i32;
 
-// Whether the residuals of a length are short: four of them lie in one window. With both tests the length is known to be the number of
-// their bits; where it says no, another way reads them.
+// Whether a length is the number of its residuals' bits, and four of them lie in one window; where it isn't, another way reads them.
 fn is_short(length: i32) -> bool
-    ensures { λ r. ⌜ (r ≡ true → length-bits length ≤ 16) ⌝ }
+    ensures { λ r. ⌜ r ≡ short-length length ⌝ }
 {
     0 <= length && length <= SHORT
 }
 
-// Whether all residuals of a block are.
+// Whether all four lengths of a block are short.
 pub fn are_short(lengths: [i32; 4]) -> bool
-    ensures { λ r. ⌜ (r ≡ true → Short lengths) ⌝ }
+    ensures { λ r. ⌜ r ≡ short lengths ⌝ }
 {
     if !is_short(lengths[0]) {
         return false;

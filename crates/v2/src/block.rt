@@ -6,7 +6,9 @@ ghost use lib.ListN.{length, getD};
 ghost use Rattle.rules.specs.Frame.{tabulate};
 ghost use Rattle.rules.specs.V2.{tail, read-block, top, sample, block-cells, sample-kind};
 ghost use Rattle.rules.specs.Ranges.{Between};
+ghost use Rattle.v2_stream.specs.Colours.{colours};
 ghost use Rattle.v2.specs.Blocks.{Ready, written};
+use rules::Answer;
 use rules::Bits;
 use rules::V2Block;
 use rules::V2Hdr;
@@ -17,9 +19,26 @@ use v2_cells::base::refusal_of;
 use v2_cells::samples::build;
 use v2_differences::block_differences;
 use v2_stream::header::top_of;
+use v2_stream::lengths::Remembered;
 use v2_stream::lengths::block_lengths;
 use v2_stream::motion::next_motion;
 use v2_stream::scale::next_scale;
+
+// What a block gives: its outcome, and the remembered lengths beside it.
+pub struct Outcome {
+    pub block: V2Block,
+    pub remembered: Remembered,
+}
+
+impl Outcome {
+    // A refusal by 5 or 6, before any length is read: what was remembered stays.
+    fn early(block: V2Block, lengths: [[u32; 2]; 3]) -> Outcome
+        ensures { λ r. ⌜ (r .block ≡ block) × (colours (r .remembered) ≡ lengths) ⌝ }
+    {
+        let remembered = Remembered::of(lengths);
+        Outcome { block, remembered }
+    }
+}
 
 // The lengths, the differences and the samples from them.
 fn read_tail(
@@ -27,27 +46,35 @@ fn read_tail(
     hdr: V2Hdr,
     row: usize,
     state: V2Row,
-    mode: &mut [[u32; 2]; 3],
+    lengths: [[u32; 2]; 3],
     bits: Bits,
     base: &[u16; 16],
     samples: &mut [u16; 16],
-) -> V2Block
+) -> Outcome
     requires { ⌜ (hdr .depth ≤ 16) × (Between 512 4_605 (state .scale) × (length (now samples) ≡ 16)) ⌝ }
-    ensures { λ r. ⌜ r ≡ tail (now (src .entry)) hdr row state (now (mode .entry)) bits .outcome ⌝ }
-    ensures { λ r. ⌜ now (mode .exit) ≡ tail (now (src .entry)) hdr row state (now (mode .entry)) bits .mode ⌝ }
-    ensures { λ r. ⌜ now (samples .exit) ≡ written r (tabulate 16 0 (λ i. sample (top hdr) (state .scale) (getD (tail (now (src .entry)) hdr row state (now (mode .entry)) bits .differences) i (pos 0)) (getD (now (base .entry)) i 0))) (now (samples .entry)) ⌝ }
+    ensures { λ r. ⌜ r .block ≡ tail (now (src .entry)) hdr row state lengths bits .outcome ⌝ }
+    ensures { λ r. ⌜ colours (r .remembered) ≡ tail (now (src .entry)) hdr row state lengths bits .mode ⌝ }
+    ensures { λ r. ⌜ now (samples .exit) ≡ written (r .block) (tabulate 16 0 (λ i. sample (top hdr) (state .scale) (getD (tail (now (src .entry)) hdr row state lengths bits .differences) i (pos 0)) (getD (now (base .entry)) i 0))) (now (samples .entry)) ⌝ }
 {
-    let l = block_lengths(src, hdr, row, mode, bits);
-    let b1 = l.bits;
-    if l.long {
-        return V2Block::LongDifference(b1);
+    let l = block_lengths(src, hdr, row, lengths, bits);
+    let read = l.read;
+    let remembered = l.remembered;
+    let b1 = read.bits;
+    if read.long {
+        return Outcome {
+            block: V2Block::LongDifference(b1),
+            remembered,
+        };
     }
-    let four = l.four;
+    let four = read.four;
     let mut d = [0i32; 16];
     let b2 = block_differences(src, row, four, b1, &mut d);
     let most = top_of(hdr);
     build(base, &d, state.scale, most, samples);
-    V2Block::Next(b2, state)
+    Outcome {
+        block: V2Block::Next(b2, state),
+        remembered,
+    }
 }
 
 // The block at a place. Its samples are left in `samples`, and the frame is not changed.
@@ -58,24 +85,24 @@ pub fn read_block(
     out: &[u16],
     bits: Bits,
     state: V2Row,
-    mode: &mut [[u32; 2]; 3],
+    lengths: [[u32; 2]; 3],
     samples: &mut [u16; 16],
-) -> V2Block
+) -> Outcome
     requires { ⌜ Ready hdr (length (now out)) at state × (length (now samples) ≡ 16) ⌝ }
-    ensures { λ r. ⌜ r ≡ read-block (now (src .entry)) hdr (at .width) (at .row) (at .col) bits state (now (mode .entry)) .outcome ⌝ }
-    ensures { λ r. ⌜ now (mode .exit) ≡ read-block (now (src .entry)) hdr (at .width) (at .row) (at .col) bits state (now (mode .entry)) .mode ⌝ }
-    ensures { λ r. ⌜ now (samples .exit) ≡ written r (block-cells (sample-kind (top hdr)) (now (out .entry)) (read-block (now (src .entry)) hdr (at .width) (at .row) (at .col) bits state (now (mode .entry)) .block)) (now (samples .entry)) ⌝ }
+    ensures { λ r. ⌜ r .block ≡ read-block (now (src .entry)) hdr (at .width) (at .row) (at .col) bits state lengths .outcome ⌝ }
+    ensures { λ r. ⌜ colours (r .remembered) ≡ read-block (now (src .entry)) hdr (at .width) (at .row) (at .col) bits state lengths .mode ⌝ }
+    ensures { λ r. ⌜ now (samples .exit) ≡ written (r .block) (block-cells (sample-kind (top hdr)) (now (out .entry)) (read-block (now (src .entry)) hdr (at .width) (at .row) (at .col) bits state lengths .block)) (now (samples .entry)) ⌝ }
 {
     let c = next_scale(src, hdr, at.col, state.scale, bits);
     let b1 = c.bits;
     let m = next_motion(src, hdr, state.motion, b1);
     let b2 = m.bits;
     let refusal = refusal_of(at, m.value);
-    if refusal == 5 {
-        return V2Block::EarlyMotion(b2);
+    if refusal == Answer::EARLY_MOTION {
+        return Outcome::early(V2Block::EarlyMotion(b2), lengths);
     }
-    if refusal == 6 {
-        return V2Block::Outside(b2);
+    if refusal == Answer::OUTSIDE {
+        return Outcome::early(V2Block::Outside(b2), lengths);
     }
     let mut base = [0u16; 16];
     bases(out, hdr, at, m.value, &mut base);
@@ -83,5 +110,5 @@ pub fn read_block(
         motion: m.value,
         scale: c.scale,
     };
-    read_tail(src, hdr, at.row, next, mode, b2, &base, samples)
+    read_tail(src, hdr, at.row, next, lengths, b2, &base, samples)
 }

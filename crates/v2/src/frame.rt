@@ -31,12 +31,13 @@ pub fn decode_frame(src: &[u8], size: Size, out: &mut [u16], map: &mut [u8]) -> 
     'frame: while row < height {
         bits = align(bits);
         let mut state = V2Row::fresh();
-        let mut mode = V2Row::mode(row);
+        let mut lengths = V2Row::mode(row);
         let mut col: usize = 0;
         while col + V2Row::BLOCK <= width {
             let at = Place { width, row, col };
             let mut samples = [0u16; 16];
-            let outcome = read_block(src, hdr, at, &out[..], bits, state, &mut mode, &mut samples);
+            let read = read_block(src, hdr, at, &out[..], bits, state, lengths, &mut samples);
+            let outcome = read.block;
             let V2Block::Next(next_bits, next_state) = outcome else {
                 let after = outcome.bits();
                 answer = Answer {
@@ -50,6 +51,8 @@ pub fn decode_frame(src: &[u8], size: Size, out: &mut [u16], map: &mut [u8]) -> 
             mark_block(&mut map[..], at, next_state.motion, next_bits);
             bits = next_bits;
             state = next_state;
+            let remembered = read.remembered;
+            lengths = remembered.lengths();
             col += V2Row::BLOCK;
         }
         if bits.filler != 0 {

@@ -8,6 +8,7 @@ ghost use Rattle.rules.specs.V2.{motion-averages, average, refers-before, base-
 ghost use Rattle.rules.specs.Ranges.{offset-4, reference-5};
 ghost use Rattle.v2_cells.specs.Places.{Placed, Inside, references, along, Runs, cell-from};
 use super::Place;
+use rules::Answer;
 use rules::V2Hdr;
 use rules::V2Row;
 
@@ -94,10 +95,10 @@ pub fn refusal_of(at: Place, motion: u32) -> u32
         return 0;
     }
     if at.row < 2 {
-        return 5;
+        return Answer::EARLY_MOTION;
     }
     if refers_before(at, motion) {
-        return 6;
+        return Answer::OUTSIDE;
     }
     0
 }

@@ -1,12 +1,12 @@
 -- A block's lengths, one after another: what the stages before gave is a variable with its equation.
 use mathlib.Core.Bool.{true, false}
 use mathlib.Core.List.{List, [], _∷_}
-use mathlib.Core.Path.{_≡_}
+use mathlib.Core.Path.{_≡_, refl}
 use Prim.Native.Nat.{ℕ, zero, suc, _+_, _-_, _/_, _%_, _^_, _≤_, _<_}
 use native.Mathlib.Numerals.{add-one}
 use native.Mathlib.Omega.{arith}
 use lib.Dec.{eqb}
-use lib.ListN.{getD, set}
+use lib.ListN.{getD, set, length}
 use borrow.Author.Tests.{lt-ltb, le-ltb, ne-eqb}
 use Rattle.rules.specs.declared.reader.Bits.{Bits}
 use Rattle.rules.specs.declared.reader.Four.{Four}
@@ -45,17 +45,25 @@ module _ (s : List ℕ) (flag first : ℕ) (b : Bits) where
   length-read e = rw e
 
   -- Flag 1 adds one, flag 2 takes one off, modulo 2^32.
-  pub length-stepped : (flag ≡ 3 → ⊥) → flag < 4 → first < 2 ^ 32 → (v w : ℕ) → v ≡ (first + flag % 2) % 2 ^ 32 → w ≡ (v + (2 ^ 32 - flag / 2)) % 2 ^ 32
+  pub length-stepped : (flag ≡ 3 → ⊥) → flag < 4 → first < 2 ^ 32 → (v w : ℕ) → v ≡ (flag / 2 + (2 ^ 32 - flag % 2)) % 2 ^ 32 → w ≡ (first + (2 ^ 32 - v)) % 2 ^ 32
       → record { value = w; bits = b } ≡ read-length s flag first b
   unfolding read-length
   length-stepped n l f v w ev ew = go flag n l ev ew
     where
-      go : (flag : ℕ) → (flag ≡ 3 → ⊥) → flag < 4 → v ≡ (first + flag % 2) % 2 ^ 32 → w ≡ (v + (2 ^ 32 - flag / 2)) % 2 ^ 32
+      go : (flag : ℕ) → (flag ≡ 3 → ⊥) → flag < 4 → v ≡ (flag / 2 + (2 ^ 32 - flag % 2)) % 2 ^ 32 → w ≡ (first + (2 ^ 32 - v)) % 2 ^ 32
           → record { value = w; bits = b } ≡ read-length s flag first b
       go zero n l ev ew = let e : w ≡ first = omega arith in rw e
       go (suc zero) n l ev ew = let e : w ≡ (first + 1) % 2 ^ 32 = omega arith in rw e
       go (suc (suc zero)) n l ev ew = let e : w ≡ (first + 0xffff_ffff) % 2 ^ 32 = omega arith in rw e
       go (suc (suc (suc k))) n l ev ew = absurd (n (omega arith))
+
+-- A list of three has its elements.
+pub three : (m : List (List ℕ)) → length m ≡ 3 → getD m 0 [] ∷ getD m 1 [] ∷ getD m 2 [] ∷ [] ≡ m
+three [] e = absurd (omega (arith, e))
+three (a ∷ []) e = absurd (omega (arith, e))
+three (a ∷ b ∷ []) e = absurd (omega (arith, e))
+three (a ∷ b ∷ c ∷ []) e = refl
+three (a ∷ b ∷ c ∷ d ∷ m) e = absurd (omega (arith, e))
 
 -- One length, after those before it.
 module _ (s : List ℕ) (depth row : ℕ) (flags : List ℕ) (j : ℕ) (h : j < 4) (four : List ℕ) (b : Bits) (mode : List (List ℕ))

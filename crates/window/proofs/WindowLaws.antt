@@ -16,7 +16,7 @@ use Rattle.rules.specs.Reader.{word-at, fetched, held, read, fields}
 use Rattle.rules.proofs.ReaderLaws.{fetched-there, counted-there, held-is, read-held, read-next, above, fields-none, fields-more}
 use Rattle.rules.proofs.Tests.{both, by-test}
 use Rattle.rules.specs.declared.reader.Bits.{Bits}
-use Rattle.window.specs.Window.{bit, bits-from, state-at, Three, Window, FourAt, values-at, span, Narrow, also, stands-in, Stands}
+use Rattle.window.specs.Window.{bit, bits-from, state-at, Three, Window, FourAt, values-at, span, Narrow, also, stands-in, Stands, standing-in}
 
 -- ── Bits ──
 
@@ -407,3 +407,12 @@ module _ (s : List ℕ) (b : Bits) (more : ℕ) where
   pub stands-word : b .count < 32 → 4 ≤ b .pos → b .pos - 4 + more ≤ length s → stands-in s b more ≡ eqb (word-at s (b .pos - 4)) (b .word)
   unfolding stands-in
   stands-word few fetched h = simp (lt-ltb _ _ few, le-leb _ _ fetched, le-leb _ _ h)
+
+  -- Before byte 12 nothing stands with two words before it; from there on what stands does.
+  pub standing-early : b .pos < 12 → false ≡ standing-in s b more
+  unfolding standing-in
+  standing-early early = rw (lt-leb 12 (b .pos) early)
+
+  pub standing-late : 12 ≤ b .pos → stands-in s b more ≡ standing-in s b more
+  unfolding standing-in
+  standing-late late = rw (le-leb 12 (b .pos) late)

@@ -92,3 +92,7 @@ pub record Standing (s : List ℕ) (b : Bits) (more : ℕ) : Type 0 where
   pub there : b .pos - 12 + (more + 8) ≤ length s
   pub far : b .pos - 12 + (more + 8) < 2 ^ 64
   pub is : b ≡ state-at s (b .pos - 12) (96 - b .count) (b .filler)
+
+-- Whether it does.
+unfoldable pub standing-in : List ℕ → Bits → ℕ → Bool
+standing-in s b more = leb 12 (b .pos) && stands-in s b more

@@ -5,7 +5,7 @@ ghost use mathlib.Core.Path.{_≡_};
 ghost use Prim.Native.Nat.{_+_, _*_, _/_, _≤_, _<_, _^_};
 ghost use lib.ListN.{length};
 ghost use Rattle.rules.specs.Reader.{word-at};
-ghost use Rattle.window.specs.Window.{state-at, Window, stands-in, Standing};
+ghost use Rattle.window.specs.Window.{state-at, Window, stands-in, Standing, standing-in};
 use rules::Bits;
 
 // A record that stands in the stream is counted from three words before its position: how many bytes and bits these are.
@@ -70,10 +70,11 @@ fn stands(src: &[u8], bits: Bits, more: usize) -> bool
     word_there(src, at - 4) == bits.word as u64
 }
 
-// Whether it stands so with two words before the one fetched last: a window that ends in what follows may begin in them. Where it says
-// no, the record reads.
+// Whether a state stands in the stream with two words before the one fetched last: a window that ends in what follows may begin in
+// them. Where it doesn't, the record reads.
 pub fn stands_within(src: &[u8], bits: Bits, more: usize) -> bool
     requires { ⌜ 4 ≤ more ⌝ }
+    ensures { λ r. ⌜ r ≡ standing-in (now (src .entry)) bits more ⌝ }
     ensures { λ r. ⌜ (r ≡ true → Standing (now (src .entry)) bits more) ⌝ }
 {
     if bits.pos < 12 {

@@ -21,7 +21,7 @@ standing c = c .before .before
 
 -- The record stands in the stream, and there is room for the residuals after its head.
 stood : (c : tie.Then1) → Standing (now (start c .args .src)) (start c .args .state .bits) 80
-stood c = c .before .stands-within .ensures (c .if1 .taken)
+stood c = c .before .stands-within .ensures .1 (c .if1 .taken)
 
 ahead : (c : tie.After-window-head) → Ahead (now (start (standing c) .args .src)) (start (standing c) .args .state .bits .pos - 12) (c .window-head .result .q) 583
 ahead c = after-head (standing-ahead (stood (standing c))) (c .window-head .ensures)

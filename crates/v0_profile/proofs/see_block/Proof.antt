@@ -1,7 +1,8 @@
 -- Either way the block is read to its end: passed over where nothing is skipped, else sample by sample, over a frame of no cells.
-use mathlib.Core.Path.{refl, _∙_}
+use mathlib.Core.Path.{refl, sym, _∙_}
 use denote.Ref.{now}
 use borrow.Author.Needs.{needs}
+use Rattle.v0_direct.proofs.InnerLaws.{inner-is}
 use Rattle.v0_profile.proofs.BlockLaws.{seen-whole, seen-samples}
 use Rattle.v0_profile.proofs.see_block.Statement.{statement}
 use Rattle.v0_profile.proofs.see_block.Tie as tie
@@ -20,7 +21,9 @@ pass-block-requires : tie.Need-pass-block-requires
 pass-block-requires c κs = search needs
 
 returns : tie.Need-returns
-returns c = let i = c .before .before in let a = i .before .before .args in c .pass-block .ensures ∙ seen-whole (now (a .src)) (a .size) (a .row) (a .col) (a .state) (i .is-inner .ensures (c .before .if1 .taken)) _ refl
+returns c =
+    let i = c .before .before in let x = i .before .before in let a = x .args in
+    c .pass-block .ensures ∙ seen-whole (now (a .src)) (a .size) (a .row) (a .col) (a .state) (inner-is _ _ _ (x .pre .0) (sym (i .is-inner .ensures) ∙ c .before .if1 .taken)) _ refl
 
 read-block-head-requires : tie.Need-read-block-head-requires
 read-block-head-requires c κs = search needs

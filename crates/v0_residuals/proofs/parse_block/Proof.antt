@@ -28,7 +28,7 @@ stored c = c .before .before .before
 
 -- The record stands in the stream.
 stood : (c : tie.Then2) → Standing (now (entry c .args .src)) (entry c .args .row .bits) 80
-stood c = c .before .stands-within .ensures (c .if2 .taken)
+stood c = c .before .stands-within .ensures .1 (c .if2 .taken)
 
 -- The residuals begin after its head.
 ahead : (c : tie.After-window-head)

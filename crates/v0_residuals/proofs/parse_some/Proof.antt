@@ -31,7 +31,7 @@ blocks-in-requires c κs = search needs
 
 parse-block-requires : tie.Need-parse-block-requires
 parse-block-requires c κs =
-    let x = ran (next c .before) in let l = start x .pre in let r = x .parse-run .ensures in
+    let x = ran (next c .before) in let l = start x .pre in let r = x .parse-run .ensures .0 in
     record {
       near = near-enough _ (x .parse-run .result .k) (omega (arith, l .row .width)) (ran-within (l .near) r);
       row = record {
@@ -54,7 +54,7 @@ same-length-2 c = search needs
 returns : tie.Need-returns
 returns c =
     let b = parsed c in let t = next (b .before) in let x = ran (t .before) in
-    (also (x .parse-run .ensures) (omega arith) (b .parse-block .kept .1 .1 .1 .1 .0) (b .parse-block .ensures), omega (arith, ran-further (x .parse-run .ensures)))
+    (also (x .parse-run .ensures .0) (omega arith) (b .parse-block .kept .1 .1 .1 .1 .0) (b .parse-block .ensures), omega (arith, ran-further (x .parse-run .ensures .0)))
 
 same-length-3 : tie.Need-same-length-3
 same-length-3 c = search needs
@@ -63,7 +63,7 @@ same-length-4 : tie.Need-same-length-4
 same-length-4 c = search needs
 
 returns-2 : tie.Need-returns-2
-returns-2 c = let x = ran (c .before) in (x .parse-run .ensures, omega (arith, start x .pre .block-in))
+returns-2 c = let x = ran (c .before) in (x .parse-run .ensures .0, omega (arith, start x .pre .block-in))
 
 pub parse-some-spec : {M : Type 1} → statement M
 parse-some-spec =

@@ -1,5 +1,7 @@
 -- Either way the block's operations are done.
+use mathlib.Core.Path.{sym, _∙_}
 use borrow.Author.Needs.{needs}
+use Rattle.v0_direct.proofs.InnerLaws.{inner-is}
 use Rattle.v0_direct.proofs.RowLaws.{block-decoded}
 use Rattle.v0_direct.proofs.row.decode_block.Statement.{statement}
 use Rattle.v0_direct.proofs.row.decode_block.Tie as tie
@@ -18,7 +20,9 @@ is-inner-requires : tie.Need-is-inner-requires
 is-inner-requires c κs = search needs
 
 decode-inner-requires : tie.Need-decode-inner-requires
-decode-inner-requires c κs = let i = c .before .before .before in (i .is-inner .ensures (c .before .before .if1 .taken), at-start i .pre .1)
+decode-inner-requires c κs =
+    let i = c .before .before .before in
+    (inner-is _ _ _ (at-start i .pre .0) (sym (i .is-inner .ensures) ∙ c .before .before .if1 .taken), at-start i .pre .1)
 
 same-length : tie.Need-same-length
 same-length c = search needs

@@ -45,7 +45,7 @@ returns c = search needs
 decode-block-requires : tie.Need-decode-block-requires
 decode-block-requires c κs =
     let e = c .before .before in let x = ran e in let a = start x in
-    block-after (a .pre .0) (omega arith) (x .decode-run .ensures) (a .pre .1) (x .decode-run .kept .1 .1 .1 .0) (x .decode-run .kept .1 .1 .1 .1 .0)
+    block-after (a .pre .0) (omega arith) (x .decode-run .ensures .0) (a .pre .1) (x .decode-run .kept .1 .1 .1 .0) (x .decode-run .kept .1 .1 .1 .1 .0)
 
 mul-end-block : tie.Need-mul-end-block
 mul-end-block c = let e = more (decoded (c .before)) in record { fits = omega (arith, fit e) }
@@ -68,7 +68,7 @@ same-length-4 c = search needs
 returns-2 : tie.Need-returns-2
 returns-2 c =
     let x = decoded (c .before .before .before .before) in let e = more x in
-    ran-on (start (ran e) .pre .0) (omega arith) (ran e .decode-run .ensures) (x .decode-block .ensures) (c .before .before .end-block .ensures)
+    ran-on (start (ran e) .pre .0) (omega arith) (ran e .decode-run .ensures .0) (x .decode-block .ensures) (c .before .before .end-block .ensures)
 
 pub decode-blocks-spec : {M : Type 1} → statement M
 decode-blocks-spec =

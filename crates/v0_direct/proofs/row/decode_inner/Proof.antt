@@ -27,7 +27,7 @@ abbrev put : tie.After-mark-block → tie.After-put-groups
 put c = c .before .before .before .before
 
 stood : (c : tie.Then1) → Standing (now (start c .args .src)) (start c .args .state .bits) 80
-stood c = c .before .stands-within .ensures (c .if1 .taken)
+stood c = c .before .stands-within .ensures .1 (c .if1 .taken)
 
 ahead : (c : tie.After-window-head) → Ahead (now (start (standing c) .args .src)) (start (standing c) .args .state .bits .pos - 12) (c .window-head .result .q) 583
 ahead c = after-head (standing-ahead (stood (standing c))) (c .window-head .ensures)

@@ -36,24 +36,33 @@ abbrev after-refusal-of : tie.Else2 → tie.After-refusal-of
 after-refusal-of c = c .before .before
 
 abbrev else2 : tie.After-base2 → tie.Else2
-else2 c = c .before .before .before .before .before
+else2 c = c .before .before .before .before
+
+early-requires : tie.Need-early-requires
+early-requires c κs = search needs
 
 returns : tie.Need-returns
 returns c =
-    let a = at-start (after-next-scale (c .before)) in
+    let d = c .before .before in
+    let a = at-start (after-next-scale d) in
     let z = a .args .state .scale in
-    let ec = rw (toZ-ofZ w32 z (scale-fits z (ready-scale (now (a .args .src)) _ _ _ (a .args .bits) _ (a .pre .0)))) at (after-next-scale (c .before) .next-scale .ensures) in
-    let q = block-early _ _ _ _ _ _ _ (now (a .args .mode)) _ ec _ (c .before .before .before .next-motion .ensures) _ (c .before .refusal-of .ensures) (c .if1 .taken) in
-    (q .0, (q .1, kept-early _ _ _))
+    let ec = rw (toZ-ofZ w32 z (scale-fits z (ready-scale (now (a .args .src)) _ _ _ (a .args .bits) _ (a .pre .0)))) at (after-next-scale d .next-scale .ensures) in
+    let q = block-early _ _ _ _ _ _ _ (a .args .lengths) _ ec _ (d .before .before .next-motion .ensures) _ (d .refusal-of .ensures) (c .before .if1 .taken) in
+    let e = c .early .ensures in
+    (e .0 ∙ q .0, (e .1 ∙ q .1, rw (e .0) (kept-early _ _ _)))
+
+early-requires-2 : tie.Need-early-requires-2
+early-requires-2 c κs = search needs
 
 returns-2 : tie.Need-returns-2
 returns-2 c =
-    let d = after-next-scale (c .before .before) in
-    let a = at-start d in
+    let d = c .before .before .before in
+    let a = at-start (after-next-scale d) in
     let z = a .args .state .scale in
-    let ec = rw (toZ-ofZ w32 z (scale-fits z (ready-scale (now (a .args .src)) _ _ _ (a .args .bits) _ (a .pre .0)))) at (d .next-scale .ensures) in
-    let q = block-outside _ _ _ _ _ _ _ (now (a .args .mode)) _ ec _ (c .before .before .before .before .next-motion .ensures) _ (c .before .before .refusal-of .ensures) (c .if2 .taken) in
-    (q .0, (q .1, kept-outside _ _ _))
+    let ec = rw (toZ-ofZ w32 z (scale-fits z (ready-scale (now (a .args .src)) _ _ _ (a .args .bits) _ (a .pre .0)))) at (after-next-scale d .next-scale .ensures) in
+    let q = block-outside _ _ _ _ _ _ _ (a .args .lengths) _ ec _ (d .before .before .next-motion .ensures) _ (d .refusal-of .ensures) (c .before .if2 .taken) in
+    let e = c .early2 .ensures in
+    (e .0 ∙ q .0, (e .1 ∙ q .1, rw (e .0) (kept-outside _ _ _)))
 
 bases-requires : tie.Need-bases-requires
 bases-requires c κs =
@@ -82,14 +91,14 @@ returns-3 c =
     let ek = d .refusal-of .ensures in
     let e5 = ne-eqb _ _ (else2 (c .before .before) .before .if1 .left) in
     let e6 = ne-eqb _ _ (else2 (c .before .before) .if2 .left) in
-    let m = now (a .args .mode) in
+    let m = a .args .lengths in
     let r = simp (toZ-ofZ w32 y (scale-fits y (own-scale _ _ _ _ _ _ (a .pre .0) _ ec))) at (c .read-tail .ensures) in (
       r .0 ∙ sym (block-outcome _ _ _ _ _ _ _ m _ ec _ em _ ek e5 e6),
       (
         r .1 .0 ∙ sym (block-mode _ _ _ _ _ _ _ m _ ec _ em _ ek e5 e6),
         r .1 .1
-            ∙ ap (λ (new : List ℕ). written (c .read-tail .result) new (now (a .args .samples)))
-            (block-samples _ _ _ _ _ _ _ m _ ec _ em _ ek e5 e6 (now (a .args .out)) _ (c .before .before .before .before .before .bases .ensures)),
+            ∙ ap (λ (new : List ℕ). written (c .read-tail .result .block) new (now (a .args .samples)))
+            (block-samples _ _ _ _ _ _ _ m _ ec _ em _ ek e5 e6 (now (a .args .out)) _ (c .before .before .before .before .bases .ensures)),
       ),
     )
 
@@ -100,7 +109,9 @@ read-block-spec =
     next-scale-requires
     next-motion-requires
     refusal-of-requires
+    early-requires
     returns
+    early-requires-2
     returns-2
     bases-requires
     read-tail-requires

@@ -14,7 +14,7 @@ block-lengths-requires c κs = search needs
 
 returns : tie.Need-returns
 returns c =
-    let e = c .before .before .block-lengths .ensures in
+    let e = c .before .before .before .before .block-lengths .ensures in
     (tail-long _ _ _ _ _ _ _ _ e (c .if1 .taken), (tail-mode _ _ _ _ _ _ _ _ e, kept-long _ _ _))
 
 block-differences-requires : tie.Need-block-differences-requires
@@ -25,7 +25,7 @@ top-of-requires c κs = search needs
 
 -- Places that the answers look back at.
 abbrev at-start : tie.Else1 → tie.Start
-at-start c = c .before .before .before .before .before
+at-start c = c .before .before .before .before .before .before
 
 abbrev else1 : tie.After-d2 → tie.Else1
 else1 c = c .before .before .before .before .before
@@ -35,7 +35,7 @@ build-requires c κs =
     let b = else1 (c .before .before) in
     let a = at-start b in
     let z = a .args .state .scale in
-    let e = b .before .before .block-lengths .ensures in
+    let e = b .before .before .before .before .block-lengths .ensures in
     rw (toZ-ofZ w32 z (scale-fits z (a .pre .1 .0)))
     (tail-small _ _ _ (a .args .state) _ _ _ _ e _ _ (c .before .before .before .before .block-differences .ensures) (a .pre .0) (b .if1 .left), (a .pre .1 .0, (omega (arith, c .before .before .before .top-of .ensures, top-below (a .args .hdr) (a .pre .0)), a .pre .1 .1)))
 
@@ -44,7 +44,7 @@ returns-2 c =
     let b = else1 (c .before .before .before) in
     let a = at-start b in
     let z = a .args .state .scale in
-    let e = b .before .before .block-lengths .ensures in
+    let e = b .before .before .before .before .block-lengths .ensures in
     let ed = c .before .before .before .before .before .block-differences .ensures in (
       tail-next _ _ _ _ _ _ _ _ e _ _ ed (b .if1 .left),
       (

@@ -18,12 +18,12 @@ use Rattle.v2.proofs.frame.decode_frame.Statement.{statement}
 use Rattle.v2.proofs.frame.decode_frame.Tie as tie
 
 abbrev Inv-loop : tie.InvT-loop
-Inv-loop src out₀ map₀ width height hdr bits₀ row state₀ mode₀ col₀ out map bits state mode col =
+Inv-loop src out₀ map₀ width height hdr bits₀ row state₀ lengths₀ col₀ out map bits state lengths col =
     (length out ≡ width * height) × ((length map ≡ length map₀)
-    × RowGoing (top hdr) src hdr width row (blocks src hdr width row (width / 16) 0 bits₀ state₀ mode₀) out₀ map₀ col bits state mode out map)
+    × RowGoing (top hdr) src hdr width row (blocks src hdr width row (width / 16) 0 bits₀ state₀ lengths₀) out₀ map₀ col bits state lengths out map)
 
 abbrev μ-loop : tie.MeasureT-loop
-μ-loop src out₀ map₀ width height hdr bits₀ row state₀ mode₀ col₀ out map bits state mode col = width - col
+μ-loop src out₀ map₀ width height hdr bits₀ row state₀ lengths₀ col₀ out map bits state lengths col = width - col
 
 abbrev Inv-frame : tie.InvT-frame
 Inv-frame src out₀ map₀ width height hdr bits₀ answer₀ row₀ out map bits answer row =
@@ -53,7 +53,7 @@ abbrev at-loop : tie.After-struct-known Inv-loop μ-loop Inv-frame μ-frame → 
 at-loop c = c .before .before
 
 abbrev in-loop : tie.After-read-block Inv-loop μ-loop Inv-frame μ-frame → tie.In-loop Inv-loop μ-loop Inv-frame μ-frame
-in-loop c = c .before .before .before .before
+in-loop c = c .before .before .before
 
 abbrev after-read-block : tie.After-number Inv-loop μ-loop Inv-frame μ-frame → tie.After-read-block Inv-loop μ-loop Inv-frame μ-frame
 after-read-block c = c .before .before .before
@@ -101,10 +101,10 @@ room c =
 
 read-block-requires : tie.Need-read-block-requires Inv-loop μ-loop Inv-frame μ-frame
 read-block-requires c κs =
-    let g = c .before .before .before .before .loop .inv in (
+    let g = c .before .before .before .loop .inv in (
       record {
-        depth = depth-is _ _ (after-read-header (in-frame (c .before .before .before .before)) .read-header .ensures);
-        inside = record { placed = placed (c .before .before .before); room = omega (arith, g .0, room (c .before .before .before)) };
+        depth = depth-is _ _ (after-read-header (in-frame (c .before .before .before)) .read-header .ensures);
+        inside = record { placed = placed (c .before .before); room = omega (arith, g .0, room (c .before .before)) };
         motion = g .1 .1 .motion;
         scale = g .1 .1 .scale;
       },
@@ -140,9 +140,12 @@ mark-block-requires c κs =
     let y = at-match-keys1 (after-first c) .before .read-block .ensures in
     markable _ _ _ _ _ _ _ _ _ _ _ (sym (y .0) ∙ after-first c .before .before .before .outcome .given .1) (l .inv .1 .1 .motion) (placed l₀) (room l₀) (l .inv .1 .0 ∙ in-frame (l₀ .before) .before .frame .inv .1 .1 .0) (at-start (after-read-header (in-frame (l₀ .before))) .pre .map-lent)
 
+lengths-requires : tie.Need-lengths-requires Inv-loop μ-loop Inv-frame μ-frame
+lengths-requires c κs = search needs
+
 add-col : tie.Need-add-col Inv-loop μ-loop Inv-frame μ-frame
 add-col c =
-    let l = in-loop (at-match-keys1 (after-first (after-mark-block c .before)) .before) in
+    let l = in-loop (at-match-keys1 (after-first (after-mark-block (c .before .before) .before)) .before) in
     omega (arith, l .loop-test .taken, at-start (after-read-header (in-frame (l .before))) .pre .width)
 
 loop-less : tie.Need-loop-less Inv-loop μ-loop Inv-frame μ-frame
@@ -150,14 +153,15 @@ loop-less c = search needs
 
 loop-again : tie.Need-loop-again Inv-loop μ-loop Inv-frame μ-frame
 loop-again c =
-    let d = after-first (after-mark-block c .before) in
+    let s = c .before .before in
+    let d = after-first (after-mark-block s .before) in
     let l₀ = in-loop (at-match-keys1 d .before) in
     let l = l₀ .before .loop in
     let y = at-match-keys1 d .before .read-block .ensures in (
-      after-mark-block c .before .before .before .before .store .kept .0 ∙ l .inv .0,
+      after-mark-block s .before .before .before .before .store .kept .0 ∙ l .inv .0,
       (
-        c .before .before .mark-block .kept .0 ∙ l .inv .1 .0,
-        row-goes _ _ _ _ _ _ _ _ _ _ _ _ _ _ (l .inv .1 .1) (l₀ .loop-test .taken) _ (y .0) _ _ (d .before .before .before .outcome .given .1) _ (y .1 .0) _ _ _ _ _ (d .first .ensures) (y .1 .1) (after-mark-block c .before .before .before .before .store .ensures) (c .before .before .mark-block .ensures _),
+        s .before .before .mark-block .kept .0 ∙ l .inv .1 .0,
+        row-goes _ _ _ _ _ _ _ _ _ _ _ _ _ _ (l .inv .1 .1) (l₀ .loop-test .taken) _ (y .0) _ _ (d .before .before .before .outcome .given .1) _ (c .lengths .ensures ∙ y .1 .0) _ _ _ _ _ (d .first .ensures) (y .1 .1) (after-mark-block s .before .before .before .before .store .ensures) (s .before .before .mark-block .ensures _),
       ),
     )
 
@@ -219,7 +223,7 @@ returns-2 c =
     let l₁ = in-frame (l₀ .before) in
     let l = l₀ .before .loop in
     let y = after-read-block c .read-block .ensures in
-    let no-next : (b : Bits) (st : V2Row) → after-read-block c .read-block .result ≡ Next b st → ⊥ = (λ b st q. ⊎-elim (λ e. omega arith) (⊎-elim (λ e. omega arith) (λ e. omega arith)) (rw q at (c .before .before .match .keys2))) in
+    let no-next : (b : Bits) (st : V2Row) → after-read-block c .read-block .result .block ≡ Next b st → ⊥ = (λ b st q. ⊎-elim (λ e. omega arith) (⊎-elim (λ e. omega arith) (λ e. omega arith)) (rw q at (c .before .before .match .keys2))) in
     let x = row-stops _ _ _ _ _ _ _ _ _ _ _ _ _ _ (l .inv .1 .1) (l₀ .loop-test .taken) _ (y .0) no-next in
     frame-is _ _ _ _ _ _ _ _ (after-read-header l₁ .read-header .ensures)
     (frame-refuses _ _ _ _ _ _ _ _ _ _ _ _ (l₁ .before .frame .inv .1 .1 .1 .1) (l₁ .frame-test .taken) _ (whole-row _ _ _ _ _ _ _ _ (l₀ .before .before .before .before .align .ensures) (l₀ .before .before .before .fresh .ensures) (l₀ .before .before .mode .ensures)) _ _ (x .1 .1) _ _ (x .0 ∙ sym (c .number .ensures)) (rw (c .number .ensures) (refusal-number _ no-next)) (x .1 .0 ∙ sym (c .before .bits2 .ensures)))
@@ -261,6 +265,7 @@ decode-frame-spec =
     first-requires
     store-requires
     mark-block-requires
+    lengths-requires
     add-col
     loop-less
     loop-again

@@ -10,13 +10,13 @@ use Rattle.v2_stream.proofs.lengths.four_lengths.Statement.{statement}
 use Rattle.v2_stream.proofs.lengths.four_lengths.Tie as tie
 
 abbrev Inv-loop : tie.InvT-loop
-Inv-loop src depth row mode₀ flags four₀ at₀ j₀ mode four at j =
+Inv-loop src depth row flags remembered₀ four₀ at₀ j₀ remembered four at j =
     (j ≤ 4)
-    × (lengths-from src depth row flags 4 0 (record { lengths = record { four = four₀; long = false; bits = at₀ }; mode = mode₀ })
-    ≡ lengths-from src depth row flags (4 - j) j (record { lengths = record { four = four; long = false; bits = at }; mode = mode }))
+    × (lengths-from src depth row flags 4 0 (record { lengths = record { four = four₀; long = false; bits = at₀ }; mode = remembered₀ })
+    ≡ lengths-from src depth row flags (4 - j) j (record { lengths = record { four = four; long = false; bits = at }; mode = remembered }))
 
 abbrev μ-loop : tie.MeasureT-loop
-μ-loop src depth row mode₀ flags four₀ at₀ j₀ mode four at j = 4 - j
+μ-loop src depth row flags remembered₀ four₀ at₀ j₀ remembered four at j = 4 - j
 
 -- Places that the answers look back at.
 abbrev after-read-flags : tie.At-loop Inv-loop μ-loop → tie.After-read-flags Inv-loop μ-loop
@@ -64,11 +64,11 @@ index-1-if1 c = search needs
 index-2-if1 : tie.Need-index-2-if1 Inv-loop μ-loop
 index-2-if1 c = search needs
 
-mul-pair : tie.Need-mul-pair Inv-loop μ-loop
-mul-pair c = search needs
+mul-remembered : tie.Need-mul-remembered Inv-loop μ-loop
+mul-remembered c = search needs
 
-element-set-from-pair : tie.Need-element-set-from-pair Inv-loop μ-loop
-element-set-from-pair c = search needs
+array-set-from-remembered : tie.Need-array-set-from-remembered Inv-loop μ-loop
+array-set-from-remembered c = search needs
 
 mul-four : tie.Need-mul-four Inv-loop μ-loop
 mul-four c = search needs
@@ -79,11 +79,16 @@ array-write-four c = search needs
 add-if1 : tie.Need-add-if1 Inv-loop μ-loop
 add-if1 c = search needs
 
+of-requires : tie.Need-of-requires Inv-loop μ-loop
+of-requires c κs = search needs
+
 returns : tie.Need-returns Inv-loop μ-loop
 returns c =
-    let m = at-loop (after-colour-of (c .before)) .loop in
-    sym (flagged-are _ _ _ _ _ _ (after-read-flags (at-loop (after-colour-of (c .before))) .read-flags .ensures) ∙ m .inv .1
-    ∙ length-too-long _ _ _ _ _ (after-colour-of (c .before) .before .loop-test .taken) _ _ _ _ (after-colour-of (c .before) .colour-of .ensures .0) _ (c .before .before .before .before .next-length .ensures) (c .if1 .taken))
+    let d = c .before in
+    let m = at-loop (after-colour-of (d .before)) .loop in
+    c .of .ensures
+    ∙ sym (flagged-are _ _ _ _ _ _ (after-read-flags (at-loop (after-colour-of (d .before))) .read-flags .ensures) ∙ m .inv .1
+    ∙ length-too-long _ _ _ _ _ (after-colour-of (d .before) .before .loop-test .taken) _ _ _ _ (after-colour-of (d .before) .colour-of .ensures .0) _ (d .before .before .before .before .next-length .ensures) (d .if1 .taken))
 
 add-j : tie.Need-add-j Inv-loop μ-loop
 add-j c = search needs
@@ -98,8 +103,13 @@ loop-again c =
       m .inv .1 ∙ length-goes-on _ _ _ _ _ (after-colour-of (c .before) .before .loop-test .taken) _ _ _ _ (after-colour-of (c .before) .colour-of .ensures .0) _ (c .before .before .before .before .next-length .ensures) (c .if1 .left),
     )
 
+of-requires-2 : tie.Need-of-requires-2 Inv-loop μ-loop
+of-requires-2 c κs = search needs
+
 returns-2 : tie.Need-returns-2 Inv-loop μ-loop
-returns-2 c = sym (flagged-are _ _ _ _ _ _ (c .before .before .before .before .read-flags .ensures) ∙ c .before .loop .inv .1 ∙ lengths-end _ _ _ _ _ _ (c .loop-test .left))
+returns-2 c =
+    let d = c .before in
+    c .of2 .ensures ∙ sym (flagged-are _ _ _ _ _ _ (d .before .before .before .before .read-flags .ensures) ∙ d .before .loop .inv .1 ∙ lengths-end _ _ _ _ _ _ (d .loop-test .left))
 
 pub four-lengths-spec : {M : Type 1} → statement M
 four-lengths-spec =
@@ -119,13 +129,15 @@ four-lengths-spec =
     mul-if1
     index-1-if1
     index-2-if1
-    mul-pair
-    element-set-from-pair
+    mul-remembered
+    array-set-from-remembered
     mul-four
     array-write-four
     add-if1
+    of-requires
     returns
     add-j
     loop-less
     loop-again
+    of-requires-2
     returns-2)
