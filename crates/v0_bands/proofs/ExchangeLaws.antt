@@ -1,4 +1,4 @@
--- The exchange of columns, of a part, and of what a step frees: what is left from here comes to the whole from the start.
+-- The exchange of a part, and of what a step frees: what is left from here comes to the whole from the start.
 use Prim.Native.Nat.{ℕ, suc, _+_, _-_, _*_, _/_, _%_, _≤_, _<_}
 use mathlib.Core.Path.{_≡_, refl, sym, ap, _∙_}
 use mathlib.Core.Logic.{_≢_}
@@ -6,48 +6,18 @@ use mathlib.Core.List.{List}
 use native.Mathlib.Omega.{arith}
 use native.Mathlib.Numerals.{add-one}
 use native.Mathlib.Nat.{mul-le-mul-right, mul-le-mul, div-lt-iff-lt-mul, mod-lt, div-le-self}
-use lib.ListN.{length, getD, set, length-set}
+use lib.ListN.{length}
 use borrow.Author.Tests.{eq-eqb, ne-eqb}
-use Rattle.rules.specs.V0.{swap, exchange-columns, sample-kind}
-use Rattle.v0_cells.proofs.CellLaws.{product}
+use Rattle.rules.specs.V0.{exchange-columns, sample-kind}
+use Rattle.v0_cells.specs.Places.{InColumns}
 use Rattle.bands.specs.Bands.{Cut, cut, sized, blocks-per-band}
 use Rattle.bands.proofs.AnySequence.{Fitting, fitting, reach}
 use Rattle.bands.proofs.CheckLaws.{bands-most}
 use Rattle.bands.proofs.Counters.{some-block}
 use Rattle.v0_bands.specs.Freed.{exchange-part, freed-rows, freed-columns, exchange-freed}
-use Rattle.v0_bands.specs.Lent.{PairLent, PartLent, RowLent, ColumnLent, StepLent}
+use Rattle.v0_bands.specs.Lent.{PartLent, RowLent, ColumnLent, StepLent}
 use Rattle.v0_bands.proofs.PartLaws.{columns-length}
 use Rattle.v0_bands.proofs.FreedLaws.{rows-up, rows-even, rows-most, columns-is, columns-end, columns-up, columns-most, some-late, begins}
-
--- ── A pair of rows ──
-
-module _ {w row from to : ℕ} {f : List ℕ} (p : PairLent w row from to f) where
-  pub pair-fits : (row + 1) * w ≤ 268_550_144
-  pair-fits = product (row + 1) w (omega (arith, p .row-in)) (omega (arith, p .width))
-
-module _ (w row from to : ℕ) where
-  pub record Columns (f₀ f : List ℕ) (col : ℕ) : Type 0 where
-    pub within : col ≤ to + 1
-    pub same-length : length f ≡ length f₀
-    pub cells-are : exchange-columns sample-kind w row ((to - col) / 2) col f ≡ exchange-columns sample-kind w row ((to - from) / 2) from f₀
-
-  pub columns-begun : (f : List ℕ) → from ≤ to → Columns f f from
-  columns-begun f l = record { within = omega arith; same-length = refl; cells-are = refl }
-
-  pub columns-on : (f₀ f : List ℕ) (col : ℕ) → col + 1 < to → Columns f₀ f col
-      → Columns f₀ (set (set f (row * w + col + 1) (getD f ((row + 1) * w + col) 0)) ((row + 1) * w + col) (getD f (row * w + col + 1) 0)) (col + 2)
-  unfolding exchange-columns swap
-  columns-on f₀ f col l p =
-      let q : (to - col) / 2 ≡ suc ((to - (col + 2)) / 2) = omega arith in
-      record {
-        within = omega arith;
-        same-length = simp length-set (p .same-length);
-        cells-are = rw q at (p .cells-are);
-      }
-
-  pub columns-done : (f₀ f : List ℕ) (col : ℕ) → to ≤ col + 1 → Columns f₀ f col → f ≡ exchange-columns sample-kind w row ((to - from) / 2) from f₀
-  unfolding exchange-columns
-  columns-done f₀ f col l p = let q : (to - col) / 2 ≡ 0 = omega arith in rw q at (p .cells-are)
 
 -- ── A part ──
 
@@ -62,7 +32,7 @@ module _ (w row end from to : ℕ) where
   pairs-begun f p = record { even = p .pairs .0; within = p .rows; same-length = refl; cells-are = refl }
 
   -- A pair of rows that is left lies in the part.
-  pub pair-lent : (f₀ f : List ℕ) (r : ℕ) → r < end → PartLent w row end from to f₀ → Pairs f₀ f r → PairLent w r from to f
+  pub pair-lent : (f₀ f : List ℕ) (r : ℕ) → r < end → PartLent w row end from to f₀ → Pairs f₀ f r → InColumns w r from to f
   pair-lent f₀ f r l p q =
       let e = q .even in
       let e′ = p .pairs .1 in
@@ -72,7 +42,7 @@ module _ (w row end from to : ℕ) where
         row-in = omega (arith, p .rows-in);
         columns = p .columns;
         columns-in = p .columns-in;
-        lent = omega (arith, p .lent, q .same-length);
+        inside = omega (arith, p .lent, q .same-length);
       }
 
   pub pairs-on : (f₀ f f′ : List ℕ) (r : ℕ) → r < end → PartLent w row end from to f₀ → f′ ≡ exchange-columns sample-kind w r ((to - from) / 2) from f

@@ -20,15 +20,7 @@ pub record BandLent (w b block row n : ℕ) (f dirs : List ℕ) : Type 0 where
   pub rows-lent : (row + n) * w ≤ length f
   pub directions-lent : (row + n - 2) * blocks-in w ≤ length dirs
 
--- A pair of rows, with columns from one up to another.
-pub record PairLent (w row from to : ℕ) (f : List ℕ) : Type 0 where
-  pub width : w ≤ 16_384
-  pub row-in : row < 16_384
-  pub columns : from ≤ to
-  pub columns-in : to ≤ w
-  pub lent : (row + 2) * w ≤ length f
-
--- The same for pairs of rows from one up to another.
+-- Pairs of rows from one up to another, with columns from one up to another.
 pub record PartLent (w row end from to : ℕ) (f : List ℕ) : Type 0 where
   pub width : w ≤ 16_384
   pub rows : row ≤ end

@@ -3,19 +3,20 @@ ghost use mathlib.Core.Path.{_≡_};
 ghost use Prim.Native.Nat.{_-_, _/_, _≤_, min};
 ghost use lib.ListN.{length, drop};
 ghost use mathlib.Core.List.{_++_};
-ghost use Rattle.rules.specs.V0.{exchange-columns, sample-kind};
+ghost use Rattle.rules.specs.V0.{sample-kind};
 ghost use Rattle.rules.specs.Answer.{scratch-bytes};
 ghost use Rattle.rules.specs.Phases as Phases;
 ghost use Rattle.rules.specs.Phases.{sample-stage};
 ghost use Rattle.v0_cells.specs.Places.{PhaseLent};
 ghost use Rattle.bands.specs.Bands.{sized, cut, predict-band, in-bands};
 ghost use Rattle.v0_bands.specs.Freed.{exchange-part, freed-rows, freed-columns, exchange-freed, steps-freed};
-ghost use Rattle.v0_bands.specs.Lent.{BandLent, PairLent, PartLent, RowLent, ColumnLent, StepLent, StepsLent, FrameLent};
+ghost use Rattle.v0_bands.specs.Lent.{BandLent, PartLent, RowLent, ColumnLent, StepLent, StepsLent, FrameLent};
 use bands::blocks_in_band;
 use bands::late_rows;
 use rules::Size;
 use rules::V0Row;
 use v0_cells::exchange::exchange;
+use v0_cells::exchange::exchange_columns;
 use v0_direct::frame::decode_v0_head;
 use v0_predictions::add_part;
 use v0_residuals::parse_rows;
@@ -50,23 +51,7 @@ fn add_band(
     }
 }
 
-// The exchange in a pair of rows, for the columns from one up to another.
-fn exchange_columns(out: &mut [u16], w: usize, row: usize, from: usize, to: usize)
-    requires { ⌜ PairLent w row from to (now out) ⌝ }
-    ensures { λ _. ⌜ now (out .exit) ≡ exchange-columns sample-kind w row ((to - from) / 2) from (now (out .entry)) ⌝ }
-{
-    let mut col = from;
-    while col + 1 < to {
-        let above = row * w + col + 1;
-        let below = (row + 1) * w + col;
-        let sample = out[above];
-        out[above] = out[below];
-        out[below] = sample;
-        col += 2;
-    }
-}
-
-// The same in the pairs of rows from one up to another.
+// The exchange in the pairs of rows from one up to another, for the columns from one up to another.
 fn exchange_part(out: &mut [u16], w: usize, row: usize, end: usize, from: usize, to: usize)
     requires { ⌜ PartLent w row end from to (now out) ⌝ }
     ensures { λ _. ⌜ now (out .exit) ≡ exchange-part w ((to - from) / 2) from ((end - row) / 2) row (now (out .entry)) ⌝ }

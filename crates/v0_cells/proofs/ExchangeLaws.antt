@@ -4,24 +4,59 @@ use mathlib.Core.Logic.{inl, inr}
 use mathlib.Core.List.{List, [], _∷_}
 use Prim.Native.Nat.{ℕ, zero, suc, _+_, _-_, _*_, _/_, _%_, _≤_, _<_}
 use native.Mathlib.Omega.{arith}
-use native.Mathlib.Nat.{mul-le-mul-right, mul-comm}
+use native.Mathlib.Nat.{mul-le-mul-right, mul-comm, mod-lt, mod-eq-of-lt, div-eq-of-lt, add-mul-mod-self-right, add-mul-div-right}
 use lib.ListN.{length, getD, set, length-set}
+use lib.Seq.{getD-set-other, set-getD}
 use Rattle.rules.specs.V0.{Kind, swap, exchange-columns, exchange-rows, exchange}
 use Rattle.rules.specs.Frame.{cells}
 use Rattle.rules.specs.declared.answer.Size.{Size}
-use Rattle.v0_cells.specs.Places.{Whole, InPair, MapInPair, PairsLent}
+use Rattle.v0_cells.specs.Places.{Whole, InColumns, InPair, MapInPair, PairsLent}
 use Rattle.v0_cells.proofs.CellLaws.{product}
 
 -- ── Places ──
 
-module _ (w row : ℕ) (f : List ℕ) (i : InPair w row f) where
-  pub pair-fits : (row + 1) * w ≤ 268_550_144
-  pair-fits = product (row + 1) w (omega (arith, i .row-in)) (omega (arith, i .width))
+pub pair-fits : (w row : ℕ) → w ≤ 16_384 → row < 16_384 → (row + 1) * w ≤ 268_550_144
+pair-fits w row lw lr = product (row + 1) w (omega arith) (omega arith)
+
+-- ── Two cells as one number ──
+
+joined-first : (b a c : ℕ) → a < b → (a + c * b) % b ≡ a
+joined-first b a c l = add-mul-mod-self-right a c b ∙ mod-eq-of-lt l
+
+joined-second : (b a c : ℕ) → a < b → (a + c * b) / b ≡ c
+joined-second b a c l = add-mul-div-right a c {z = b} (omega arith) ∙ ap (λ n. n + c) (div-eq-of-lt l) ∙ omega arith
 
 module _ (k : Kind ℕ) where
-  pub swap-is : (i j : ℕ) (f : List ℕ) → set (set f i (getD f j (k .constant 0))) j (getD f i (k .constant 0)) ≡ swap k i j f
+  abbrev cell : List ℕ → ℕ → ℕ
+  cell f p = getD f p (k .constant 0)
+
+  -- The pairs of cells at i and at j, each held as one number by a base: stored again with the second of the one and the first of the
+  -- other in each other's places, they leave what the rule's swap leaves.
+  pub pairs-crossed : (b i j x y : ℕ) (f f₁ f₂ : List ℕ) → x / b < b → i + 1 < j
+      → (x % b ≡ cell f i) × (x / b ≡ cell f (i + 1)) → (y % b ≡ cell f j) × (y / b ≡ cell f (j + 1))
+      → f₁ ≡ set (set f i ((x % b + y % b * b) % b)) (i + 1) ((x % b + y % b * b) / b)
+      → f₂ ≡ set (set f₁ j ((x / b + y / b * b) % b)) (j + 1) ((x / b + y / b * b) / b) → f₂ ≡ swap k (i + 1) j f
   unfolding swap
-  swap-is i j f = refl
+  pairs-crossed b i j x y f f₁ f₂ fits far ex ey e₁ e₂ = second ∙ ap (set swapped (j + 1)) (sym kept) ∙ set-getD swapped (j + 1) (k .constant 0)
+    where
+      swapped : List ℕ
+      swapped = set (set f (i + 1) (cell f j)) j (cell f (i + 1))
+
+      kept : cell swapped (j + 1) ≡ cell f (j + 1)
+      kept = getD-set-other (set f (i + 1) (cell f j)) j (j + 1) _ _ (λ e. omega arith) ∙ getD-set-other f (i + 1) (j + 1) _ _ (λ e. omega arith)
+
+      low : x % b < b
+      low = mod-lt x (omega arith)
+
+      first : f₁ ≡ set f (i + 1) (cell f j)
+      first =
+          e₁ ∙ ap₂ (λ u v. set (set f i u) (i + 1) v) (joined-first b (x % b) (y % b) low ∙ ex .0) (joined-second b (x % b) (y % b) low ∙ ey .0)
+          ∙ ap (λ g. set g (i + 1) (cell f j)) (set-getD f i (k .constant 0))
+
+      second : f₂ ≡ set swapped (j + 1) (cell f (j + 1))
+      second =
+          e₂ ∙ ap₂ (λ u v. set (set f₁ j u) (j + 1) v) (joined-first b (x / b) (y / b) fits ∙ ex .1) (joined-second b (x / b) (y / b) fits ∙ ey .1)
+          ∙ ap (λ g. set (set g j (cell f (i + 1))) (j + 1) (cell f (j + 1))) first
 
   swap-length : (i j : ℕ) (f : List ℕ) → length (swap k i j f) ≡ length f
   unfolding swap
@@ -29,30 +64,33 @@ module _ (k : Kind ℕ) where
 
   -- ── The columns of a pair of rows ──
 
-  pub record Pairing (w row : ℕ) (f₀ f : List ℕ) (col : ℕ) : Type 0 where
-    pub even : col % 2 ≡ 0
-    pub below : col ≤ w + 1
+  pub record Pairing (w row from to : ℕ) (f₀ f : List ℕ) (col : ℕ) : Type 0 where
+    pub below : col ≤ to + 1
     pub same-length : length f ≡ length f₀
-    pub cells-are : exchange-columns k w row ((w - col) / 2) col f ≡ exchange-columns k w row (w / 2) 0 f₀
+    pub cells-are : exchange-columns k w row ((to - col) / 2) col f ≡ exchange-columns k w row ((to - from) / 2) from f₀
 
-  pub pairing-begun : (w row : ℕ) (f : List ℕ) → Pairing w row f f 0
-  pairing-begun w row f = let q : w - 0 ≡ w = omega arith in record { even = refl; below = omega arith; same-length = refl; cells-are = rw q }
+  pub pairing-begun : (w row from to : ℕ) (f : List ℕ) → from ≤ to → Pairing w row from to f f from
+  pairing-begun w row from to f l = record { below = omega arith; same-length = refl; cells-are = refl }
 
-  pub pairing-on : (w row : ℕ) (f₀ f f′ : List ℕ) (col : ℕ) → col + 1 < w → f′ ≡ swap k (row * w + col + 1) ((row + 1) * w + col) f
-      → Pairing w row f₀ f col → Pairing w row f₀ f′ (col + 2)
+  pub pairing-on : (w row from to : ℕ) (f₀ f f′ : List ℕ) (col : ℕ) → col + 1 < to → f′ ≡ swap k (row * w + col + 1) ((row + 1) * w + col) f
+      → Pairing w row from to f₀ f col → Pairing w row from to f₀ f′ (col + 2)
   unfolding exchange-columns
-  pairing-on w row f₀ f f′ col l e r =
-      let q : (w - col) / 2 ≡ suc ((w - (col + 2)) / 2) = omega arith in
+  pairing-on w row from to f₀ f f′ col l e r =
+      let q : (to - col) / 2 ≡ suc ((to - (col + 2)) / 2) = omega arith in
       record {
-        even = omega (arith, r .even);
         below = omega arith;
         same-length = ap length e ∙ swap-length (row * w + col + 1) ((row + 1) * w + col) f ∙ r .same-length;
-        cells-are = ap (exchange-columns k w row ((w - (col + 2)) / 2) (col + 2)) e ∙ (rw q at (r .cells-are));
+        cells-are = ap (exchange-columns k w row ((to - (col + 2)) / 2) (col + 2)) e ∙ (rw q at (r .cells-are));
       }
 
-  pub paired : (w row : ℕ) (f₀ f : List ℕ) (col : ℕ) → w ≤ col + 1 → Pairing w row f₀ f col → f ≡ exchange-columns k w row (w / 2) 0 f₀
+  pub paired : (w row from to : ℕ) (f₀ f : List ℕ) (col : ℕ) → to ≤ col + 1 → Pairing w row from to f₀ f col
+      → f ≡ exchange-columns k w row ((to - from) / 2) from f₀
   unfolding exchange-columns
-  paired w row f₀ f col l r = let q : (w - col) / 2 ≡ 0 = omega arith in rw q at (r .cells-are)
+  paired w row from to f₀ f col l r = let q : (to - col) / 2 ≡ 0 = omega arith in rw q at (r .cells-are)
+
+  -- All columns.
+  pub paired-all : (w row : ℕ) (f₀ f : List ℕ) → f ≡ exchange-columns k w row ((w - 0) / 2) 0 f₀ → f ≡ exchange-columns k w row (w / 2) 0 f₀
+  paired-all w row f₀ f e = let q : w - 0 ≡ w = omega arith in rw q at e
 
   -- ── The pairs of rows of a frame ──
 
@@ -120,8 +158,10 @@ module _ (z : Size) (from to : ℕ) (out₀ map₀ : List ℕ) (i : PairsLent z 
       let h : (pair * 2 + 2) * z .width ≤ z .height * z .width = mul-le-mul-right (z .width) (omega arith) in
       record { width = i .width; row-in = omega (arith, i .height); inside = omega (arith, mul-comm (z .width) (z .height)) }
 
-  pub samples-in-pair : (out : List ℕ) → length out ≡ length out₀ → InPair (z .width) (pair * 2) out
-  samples-in-pair out e = pair-inside out (e ∙ i .samples-lent)
+  pub samples-in-pair : (out : List ℕ) → length out ≡ length out₀ → InColumns (z .width) (pair * 2) 0 (z .width) out
+  samples-in-pair out e =
+      let p = pair-inside out (e ∙ i .samples-lent) in
+      record { width = p .width; row-in = p .row-in; columns = omega arith; columns-in = omega arith; inside = p .inside }
 
   pub marks-in-pair : (map : List ℕ) → length map ≡ length map₀ → MapInPair (z .width) (pair * 2) map
   marks-in-pair map e = go (i .map-lent)

@@ -37,6 +37,14 @@ pub record Inside (w base : ℕ) (f : List ℕ) : Type 0 where
 abbrev pub Low : ℕ → Type 0
 Low base = base < 1_000_000_000
 
+-- A pair of rows, with columns from one up to another.
+pub record InColumns (w row from to : ℕ) (f : List ℕ) : Type 0 where
+  pub width : w ≤ 16_384
+  pub row-in : row < 16_384
+  pub columns : from ≤ to
+  pub columns-in : to ≤ w
+  pub inside : (row + 2) * w ≤ length f
+
 -- Two rows that lie in a frame of row length w.
 pub record InPair (w row : ℕ) (f : List ℕ) : Type 0 where
   pub width : w ≤ 16_384

@@ -7,7 +7,7 @@ use native.Mathlib.Omega.{arith}
 use native.Mathlib.Numerals.{add-one}
 use lib.ListN.{length, getD}
 use Rattle.rules.specs.Reader.{most-filler}
-use Rattle.rules.specs.V0.{Kind, Block, write-all, exchange-rows, exchange, frame, decoded, sample-kind, rows, row-blocks, rows-filler, frame-filler}
+use Rattle.rules.specs.V0.{Kind, Block, write-all, exchange-rows, frame, decoded, sample-kind, rows, row-blocks, rows-filler, frame-filler}
 use Rattle.rules.specs.Map.{v0-marks}
 use Rattle.rules.specs.Phases.{first-rows}
 use Rattle.rules.specs.declared.answer.Size.{Size}
@@ -16,7 +16,7 @@ use Rattle.v0_direct.specs.Lent.{Lends, InRow}
 use Rattle.rules.proofs.V0Cells.{write-all-length, write-all-append}
 use Rattle.v0_cells.specs.Places.{PairsLent}
 use Rattle.v0_cells.proofs.ExchangeLaws.{rows-length}
-use Rattle.v0_direct.proofs.FreedLaws.{exchange-past, exchange-append}
+use Rattle.v0_direct.proofs.FreedLaws.{exchange-past, freed-on, freed-then-left}
 
 -- What is lent whole still holds its pairs of rows, as long as no length changed.
 pairs-lent : (z : Size) (offsets out₀ map₀ out map : List ℕ) (from to : ℕ) → Lends z offsets out₀ map₀ → from ≤ to → to ≤ z .height / 2
@@ -25,10 +25,6 @@ pairs-lent z offsets out₀ map₀ out map from to i l h eo em =
     record { width = i .width; height = i .height; pairs = l; pairs-in = h; samples-lent = eo ∙ i .samples-lent; map-lent = rw em (i .map-lent) }
 
 -- ── Samples, or marks ──
-
--- The freed pairs end two rows above a row, and so no row from there on looks at them.
-freed-end : (row : ℕ) → freed-pairs row * 2 ≤ row - 2
-freed-end row = omega arith
 
 freed-length : (k : Kind ℕ) (s offsets : List ℕ) (z : Size) (count : ℕ) (f : List ℕ) → length (rows-freed k s offsets z count f) ≡ length f
 unfolding rows-freed
@@ -57,7 +53,10 @@ module _ (k : Kind ℕ) (s offsets : List ℕ) (z : Size) (count : ℕ) (f₀ : 
   freeing-on f f′ f″ row offset from to l e ew ef et ex r =
       record {
         same-length = ap length ex ∙ rows-length k w (to - from) (from * 2) f′ ∙ ap length ew ∙ write-all-length k _ f ∙ r .same-length;
-        cells-are = ap₂ (λ n x. exchange-rows k w (freed-pairs count - n) (n * 2) (write-all k rest x)) (sym et) ex ∙ sym split ∙ r .cells-are;
+        cells-are =
+            ap (λ x. exchange-rows k w (freed-pairs count - freed-pairs (row + 1)) (freed-pairs (row + 1) * 2) (write-all k rest x)) ex
+            ∙ sym (freed-on k w count row from to (write-all k rest) f′ l ef et (exchange-past k s offsets z (to - from) (from * 2) (count - (row + 1)) (row + 1) (omega arith) f′))
+            ∙ sym (ap (exchange-rows k w (freed-pairs count - freed-pairs row) (freed-pairs row * 2)) first) ∙ r .cells-are;
       }
     where
       w : ℕ
@@ -73,18 +72,6 @@ module _ (k : Kind ℕ) (s offsets : List ℕ) (z : Size) (count : ℕ) (f₀ : 
           ∙ ap₂ (λ o n. write-all k (row-blocks s z row o .blocks ++ rows s offsets z (count - (row + 1)) n) f) (sym e) (sym (add-one row))
           ∙ write-all-append k (row-blocks s z row offset .blocks) rest f
           ∙ ap (write-all k rest) (sym ew)
-
-      -- Its pairs go past the rows after it, and the later pairs follow.
-      split : finished row f ≡ exchange-rows k w (freed-pairs count - to) (to * 2) (write-all k rest (exchange-rows k w (to - from) (from * 2) f′))
-      split =
-          let pairs : freed-pairs count - freed-pairs row ≡ to - from + (freed-pairs count - to) = omega arith in
-          let start : freed-pairs row * 2 ≡ from * 2 = omega arith in
-          let next : from * 2 + 2 * (to - from) ≡ to * 2 = omega arith in
-          let above : from * 2 + 2 * (to - from) ≤ row + 1 - 2 = rw (next, et) (freed-end (row + 1)) in
-          ap₂ (λ n x. exchange-rows k w n (freed-pairs row * 2) x) pairs first
-          ∙ ap (λ a. exchange-rows k w (to - from + (freed-pairs count - to)) a (write-all k rest f′)) start
-          ∙ exchange-append k w (to - from) (freed-pairs count - to) (from * 2) (write-all k rest f′)
-          ∙ ap₂ (exchange-rows k w (freed-pairs count - to)) next (exchange-past k s offsets z (to - from) (from * 2) (count - (row + 1)) (row + 1) above f′)
 
   -- No row is left.
   pub freed-all : (f : List ℕ) (row : ℕ) → row ≡ count → Freeing f row → f ≡ rows-freed k s offsets z count f₀
@@ -180,14 +167,8 @@ module _ (s offsets : List ℕ) (z : Size) (from to : ℕ) (ef : from ≡ freed-
   -- All rows with the pairs that they free, and then the pair that is left, are the frame.
   pub frame-is : (k : Kind ℕ) (f g r : List ℕ) → g ≡ rows-freed k s offsets z (z .height) f → r ≡ exchange-rows k (z .width) (to - from) (from * 2) g
       → r ≡ frame k s offsets z f
-  unfolding rows-freed frame exchange
-  frame-is k f g r eg er =
-      let pairs : freed-pairs (z .height) + (to - from) ≡ z .height / 2 = omega arith in
-      let start : from * 2 ≡ 0 + 2 * freed-pairs (z .height) = omega arith in
-      er
-      ∙ ap₂ (exchange-rows k (z .width) (to - from)) start eg
-      ∙ sym (exchange-append k (z .width) (freed-pairs (z .height)) (to - from) 0 _)
-      ∙ ap (λ n. exchange-rows k (z .width) n 0 (write-all k (rows s offsets z (z .height) 0) f)) pairs
+  unfolding rows-freed frame
+  frame-is k f g r eg er = freed-then-left k z from to _ g r ef et eg er
 
   pub decoded-is : (f g r : List ℕ) → g ≡ rows-freed sample-kind s offsets z (z .height) f → r ≡ exchange-rows sample-kind (z .width) (to - from) (from * 2) g
       → r ≡ decoded s offsets z f

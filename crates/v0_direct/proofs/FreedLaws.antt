@@ -11,7 +11,7 @@ use lib.ListN.{set}
 use lib.Seq.{getD-set-other, set-comm}
 use borrow.Author.Tests.{eqb-false}
 use Rattle.rules.specs.Frame.{change-cells}
-use Rattle.rules.specs.V0.{Kind, Block, put, apply, write, write-all, swap, exchange-columns, exchange-rows, predictor, bounded, limit, rows-up, head, order, blocks, blocks-in, row-blocks, rows}
+use Rattle.rules.specs.V0.{Kind, Block, put, apply, write, write-all, swap, exchange-columns, exchange-rows, exchange, predictor, bounded, limit, rows-up, head, order, blocks, blocks-in, row-blocks, rows}
 use Rattle.rules.specs.declared.answer.Size.{Size}
 use Rattle.rules.specs.declared.v0.Predictor.{Predictor}
 use Rattle.rules.specs.declared.v0.Predictor.the-variants.{Skipped, Constant, Sample}
@@ -21,21 +21,46 @@ use Rattle.rules.proofs.Cells.{All, nil, more, all-append, all-every}
 use Rattle.rules.proofs.Spill.{cell, samples-all}
 use Rattle.rules.proofs.Tests.{by-test}
 use Rattle.rules.proofs.V0Blocks.{block, after}
+use Rattle.v0_direct.specs.Freed.{freed-pairs}
+
+-- ── What keeps off some places ──
+
+module _ {A : Type 0} (k : Kind A) (S : ℕ → Type 0) where
+  -- It neither reads nor changes a cell of those.
+  pub record Apart (g : List A → List A) : Type 0 where
+    pub reads : (f : List A) (p : ℕ) → S p → cell k (g f) p ≡ cell k f p
+    pub stores : (f : List A) (p : ℕ) (v : A) → S p → g (set f p v) ≡ set (g f) p v
+
+  -- Nothing, and one after another.
+  pub apart-none : Apart (λ f. f)
+  apart-none = record { reads = λ f p l. refl; stores = λ f p v l. refl }
+
+  pub apart-then : (g h : List A → List A) → Apart g → Apart h → Apart (λ f. h (g f))
+  apart-then g h a b = record {
+    reads = λ f p l. b .reads (g f) p l ∙ a .reads f p l;
+    stores = λ f p v l. ap h (a .stores f p v l) ∙ b .stores (g f) p v l;
+  }
+
+-- A predictor that reads no other cell.
+abbrev pub Reads : (ℕ → Type 0) → Predictor → Type 0
+Reads S Skipped = Unit {0}
+Reads S Constant = Unit {0}
+Reads S (Sample p) = S p
+
+-- An operation on those cells goes past it.
+pub put-past : {A : Type 0} (k : Kind A) (S : ℕ → Type 0) (g : List A → List A) → Apart k S g
+    → (place : ℕ) (p : Predictor) (d : ℕ) (f : List A) → S place → Reads S p → g (put k place p d f) ≡ put k place p d (g f)
+unfolding put
+put-past k S g e place Skipped d f l r = refl
+put-past k S g e place Constant d f l r = e .stores f place _ l
+put-past k S g e place (Sample p) d f l r = e .stores f place _ l ∙ ap (λ x. set (g f) place (k .plus x d)) (sym (e .reads f p r))
 
 -- ── What stays before a place ──
 
 module _ {A : Type 0} (k : Kind A) (m : ℕ) where
   -- It neither reads nor changes a cell from m on.
-  pub record Early (g : List A → List A) : Type 0 where
-    pub reads : (f : List A) (p : ℕ) → m ≤ p → cell k (g f) p ≡ cell k f p
-    pub stores : (f : List A) (p : ℕ) (v : A) → m ≤ p → g (set f p v) ≡ set (g f) p v
-
-  -- One after another.
-  early-then : (g h : List A → List A) → Early g → Early h → Early (λ f. h (g f))
-  early-then g h a b = record {
-    reads = λ f p l. b .reads (g f) p l ∙ a .reads f p l;
-    stores = λ f p v l. ap h (a .stores f p v l) ∙ b .stores (g f) p v l;
-  }
+  abbrev pub Early : (List A → List A) → Type 0
+  Early g = Apart k (λ p. m ≤ p) g
 
   -- Two cells before m that change places.
   swap-early : (i j : ℕ) → i < m → j < m → Early (swap k i j)
@@ -52,26 +77,24 @@ module _ {A : Type 0} (k : Kind A) (m : ℕ) where
     -- A pair of rows that ends before m.
     columns-early : (row n col : ℕ) → col + 2 * n ≤ w → (row + 2) * w ≤ m → Early (exchange-columns k w row n col)
     unfolding exchange-columns
-    columns-early row zero col l h = record { reads = λ f p q. refl; stores = λ f p v q. refl }
+    columns-early row zero col l h = apart-none k _
     columns-early row (suc n) col l h =
-        early-then _ _ (swap-early (row * w + col + 1) ((row + 1) * w + col) (omega arith) (omega arith)) (columns-early row n (col + 2) (omega arith) h)
+        apart-then k _ _ _ (swap-early (row * w + col + 1) ((row + 1) * w + col) (omega arith) (omega arith)) (columns-early row n (col + 2) (omega arith) h)
 
     -- Pairs of rows that end before m.
-    rows-early : (n row : ℕ) → (row + 2 * n) * w ≤ m → Early (exchange-rows k w n row)
+    pub rows-early : (n row : ℕ) → (row + 2 * n) * w ≤ m → Early (exchange-rows k w n row)
     unfolding exchange-rows
-    rows-early zero row h = record { reads = λ f p q. refl; stores = λ f p v q. refl }
+    rows-early zero row h = apart-none k _
     rows-early (suc n) row h =
         let first : (row + 2) * w ≤ (row + 2 * suc n) * w = mul-le-mul-right w (omega arith) in
         let end : row + 2 + 2 * n ≡ row + 2 * suc n = omega arith in
-        early-then _ _ (columns-early row (w / 2) 0 (omega arith) (omega arith)) (rows-early n (row + 2) (rw end h))
+        apart-then k _ _ _ (columns-early row (w / 2) 0 (omega arith) (omega arith)) (rows-early n (row + 2) (rw end h))
 
 -- ── What stays after it ──
 
 -- A predictor that reads no cell before a place.
 abbrev From : ℕ → Predictor → Type 0
-From m Skipped = Unit {0}
-From m Constant = Unit {0}
-From m (Sample p) = m ≤ p
+From m = Reads (λ p. m ≤ p)
 
 -- An operation, or a block, that neither reads nor changes one.
 record LateOp (m : ℕ) (o : V0Op) : Type 0 where
@@ -84,20 +107,14 @@ record Late (m : ℕ) (b : Block) : Type 0 where
 
 -- ── The one goes past the other ──
 
--- The same frame is left, whichever of them is first: for an operation, a list of them, cells with filler, a block, and blocks.
+-- The same frame is left, whichever of them is first: for a list of operations, cells with filler, a block, and blocks.
 module _ {A : Type 0} (k : Kind A) (m : ℕ) (g : List A → List A) (e : Early k m g) where
-  put-past : (place : ℕ) (p : Predictor) (d : ℕ) (f : List A) → m ≤ place → From m p → g (put k place p d f) ≡ put k place p d (g f)
-  unfolding put
-  put-past place Skipped d f l r = refl
-  put-past place Constant d f l r = e .stores f place _ l
-  put-past place (Sample p) d f l r = e .stores f place _ l ∙ ap (λ x. set (g f) place (k .plus x d)) (sym (e .reads f p r))
-
   apply-past : {os : List V0Op} → All (LateOp m) os → (f : List A) → g (apply k os f) ≡ apply k os (g f)
   unfolding apply
   apply-past nil f = refl
   apply-past (more {a = o} {xs = os} h hs) f =
       apply-past hs (put k (o .place) (o .predictor) (o .residual) f)
-      ∙ ap (apply k os) (put-past (o .place) (o .predictor) (o .residual) f (h .place) (h .reads))
+      ∙ ap (apply k os) (put-past k _ g e (o .place) (o .predictor) (o .residual) f (h .place) (h .reads))
 
   change-past : (n p : ℕ) (f : List A) → m ≤ p
       → g (change-cells (k .filled) (k .constant 0) n p f) ≡ change-cells (k .filled) (k .constant 0) n p (g f)
@@ -179,3 +196,28 @@ module _ {A : Type 0} (k : Kind A) where
       let n : suc a + b ≡ suc (a + b) = omega arith in
       let e : row + 2 + 2 * a ≡ row + 2 * suc a = omega arith in
       rw n (exchange-append w a b (row + 2) (exchange-columns k w row (w / 2) 0 f) ∙ rw e)
+
+  -- The pairs that a row frees are exchanged before the rows after it, where they go past those; the later pairs follow.
+  pub freed-on : (w count row from to : ℕ) (rest : List A → List A) (f : List A) → row < count → from ≡ freed-pairs row → to ≡ freed-pairs (row + 1)
+      → exchange-rows k w (to - from) (from * 2) (rest f) ≡ rest (exchange-rows k w (to - from) (from * 2) f)
+      → exchange-rows k w (freed-pairs count - freed-pairs row) (freed-pairs row * 2) (rest f)
+      ≡ exchange-rows k w (freed-pairs count - freed-pairs (row + 1)) (freed-pairs (row + 1) * 2) (rest (exchange-rows k w (to - from) (from * 2) f))
+  freed-on w count row from to rest f l ef et past =
+      let pairs : freed-pairs count - freed-pairs row ≡ to - from + (freed-pairs count - freed-pairs (row + 1)) = omega arith in
+      let start : freed-pairs row * 2 ≡ from * 2 = omega arith in
+      let next : from * 2 + 2 * (to - from) ≡ freed-pairs (row + 1) * 2 = omega arith in
+      ap₂ (λ n a. exchange-rows k w n a (rest f)) pairs start
+      ∙ exchange-append w (to - from) (freed-pairs count - freed-pairs (row + 1)) (from * 2) (rest f)
+      ∙ ap₂ (exchange-rows k w (freed-pairs count - freed-pairs (row + 1))) next past
+
+  -- All the pairs that rows free, and then those that are left, are the whole exchange.
+  pub freed-then-left : (z : Size) (from to : ℕ) (f g r : List A) → from ≡ freed-pairs (z .height) → to ≡ z .height / 2
+      → g ≡ exchange-rows k (z .width) (freed-pairs (z .height)) 0 f → r ≡ exchange-rows k (z .width) (to - from) (from * 2) g → r ≡ exchange k z f
+  unfolding exchange
+  freed-then-left z from to f g r ef et eg er =
+      let pairs : freed-pairs (z .height) + (to - from) ≡ z .height / 2 = omega arith in
+      let start : from * 2 ≡ 0 + 2 * freed-pairs (z .height) = omega arith in
+      er
+      ∙ ap₂ (exchange-rows k (z .width) (to - from)) start eg
+      ∙ sym (exchange-append (z .width) (freed-pairs (z .height)) (to - from) 0 f)
+      ∙ ap (λ n. exchange-rows k (z .width) n 0 f) pairs

@@ -14,7 +14,7 @@ use v0_cells::exchange::exchange_pairs;
 use v0_stream::block::held_sum;
 
 // How many pairs of rows no row from this one on reads.
-fn freed_pairs(row: usize) -> usize
+pub fn freed_pairs(row: usize) -> usize
     ensures { λ r. ⌜ r ≡ freed-pairs row ⌝ }
 {
     if row < 2 { 0 } else { (row - 2) / 2 }

@@ -1,9 +1,9 @@
--- A row from row 2 on that is lent as parts is finished where it lies, before the rows after it.
+-- A row from row 2 on that is lent as parts is finished where it lies.
 use mathlib.Core.Path.{_≡_, sym, ap, _∙_}
 use mathlib.Core.List.{List, _++_, map, append-assoc}
-use Prim.Native.Nat.{ℕ, suc, _+_, _-_, _*_, _≤_}
+use Prim.Native.Nat.{ℕ, _+_, _-_, _*_, _≤_}
 use native.Mathlib.Omega.{arith}
-use lib.ListN.{length, getD, take, drop}
+use lib.ListN.{length, take, drop}
 use lib.Seq.{length-take-le, take-at, drop-at}
 use borrow.Rule.Slice.PartMut.{midOf, putMid}
 use Rattle.rules.specs.V0.{blocks-in}
@@ -12,7 +12,6 @@ use Rattle.rules.proofs.TwoPhase.{row-directions-length}
 use Rattle.v0_residuals.proofs.RowsLaws.{row-stored, row-directed}
 use Rattle.v0_predictions.proofs.PredictionLaws.{whole-row}
 use Rattle.v0_two_phase.specs.LateRow.{late-row}
-use Rattle.v0_two_phase.proofs.RowByRow.{two-phases, row-first}
 
 module _ (s : List ℕ) (w r offset : ℕ) where
   abbrev n : ℕ
@@ -53,8 +52,3 @@ module _ (s : List ℕ) (w r offset : ℕ) where
       let directed = row-directed s w r offset n ds zs (rw ek at ez) in
       let added = whole-row sample-stage w (r + 2) (r * n) n _ _ _ (rw ek at e₂) in
       (row-finished ds _ f _ f₂ room directed (row-stored s w r offset f ys ey) added, rw ek directed)
-
--- It is the first of what is left.
-pub row-on : (s offsets : List ℕ) (w row : ℕ) (f f′ : List ℕ) → f′ ≡ late-row s w row (getD offsets row 0) f
-    → (m : ℕ) → two-phases sample-stage s offsets w (suc m) row f ≡ two-phases sample-stage s offsets w m (suc row) f′
-row-on s offsets w row f f′ e m = row-first sample-stage s offsets w m row f ∙ ap (two-phases sample-stage s offsets w m (suc row)) (sym e)

@@ -4,7 +4,7 @@ use native.Mathlib.Omega.{arith}
 use borrow.Author.Needs.{needs}
 use Rattle.rules.specs.V0.{sample-kind}
 use Rattle.rules.specs.Map.{v0-marks}
-use Rattle.v0_cells.proofs.ExchangeLaws.{Pairs, pairs-begun, pairs-on, pairs-done, samples-in-pair, marks-in-pair}
+use Rattle.v0_cells.proofs.ExchangeLaws.{paired-all, Pairs, pairs-begun, pairs-on, pairs-done, samples-in-pair, marks-in-pair}
 use Rattle.v0_cells.proofs.exchange.exchange_pairs.Statement.{statement}
 use Rattle.v0_cells.proofs.exchange.exchange_pairs.Tie as tie
 
@@ -18,20 +18,20 @@ abbrev μ-loop : tie.MeasureT-loop
 abbrev at-start : tie.At-loop Inv-loop μ-loop → tie.Start Inv-loop μ-loop
 at-start c = c .before .before .before
 
-abbrev at-loop : tie.After-exchange-pair-arg Inv-loop μ-loop → tie.At-loop Inv-loop μ-loop
+abbrev at-loop : tie.After-exchange-columns-arg Inv-loop μ-loop → tie.At-loop Inv-loop μ-loop
 at-loop c = c .before .before
 
-abbrev after-pair : tie.After-exchange-marks-arg Inv-loop μ-loop → tie.After-exchange-pair Inv-loop μ-loop
+abbrev after-pair : tie.After-exchange-marks-arg Inv-loop μ-loop → tie.After-exchange-columns Inv-loop μ-loop
 after-pair c = c .before .before .before
 
 loop-holds : tie.Need-loop-holds Inv-loop μ-loop
 loop-holds c = (pairs-begun _ _ _ _ _, pairs-begun _ _ _ _ _)
 
-mul-exchange-pair : tie.Need-mul-exchange-pair Inv-loop μ-loop
-mul-exchange-pair c = let i = at-start (at-loop c) .pre in omega (arith, i .pairs-in, i .height)
+mul-exchange-columns : tie.Need-mul-exchange-columns Inv-loop μ-loop
+mul-exchange-columns c = let i = at-start (at-loop c) .pre in omega (arith, i .pairs-in, i .height)
 
-exchange-pair-requires : tie.Need-exchange-pair-requires Inv-loop μ-loop
-exchange-pair-requires c κs = let p = at-loop c in samples-in-pair _ _ _ _ _ (at-start p .pre) (p .loop .pair) (omega arith) _ (p .loop .inv .0 .same-length)
+exchange-columns-requires : tie.Need-exchange-columns-requires Inv-loop μ-loop
+exchange-columns-requires c κs = let p = at-loop c in samples-in-pair _ _ _ _ _ (at-start p .pre) (p .loop .pair) (omega arith) _ (p .loop .inv .0 .same-length)
 
 mul-exchange-marks : tie.Need-mul-exchange-marks Inv-loop μ-loop
 mul-exchange-marks c = let i = at-start (at-loop (after-pair c .before)) .pre in omega (arith, i .pairs-in, i .height)
@@ -47,7 +47,7 @@ loop-less c = omega arith
 
 loop-again : tie.Need-loop-again Inv-loop μ-loop
 loop-again c = let marks = c .before .before in let pair = after-pair (marks .before) in let i = at-loop (pair .before) .loop .inv in (
-  pairs-on sample-kind _ _ _ _ _ _ _ (omega arith) (pair .exchange-pair .ensures) (i .0),
+  pairs-on sample-kind _ _ _ _ _ _ _ (omega arith) (paired-all _ _ _ _ _ (pair .exchange-columns .ensures)) (i .0),
   pairs-on v0-marks _ _ _ _ _ _ _ (omega arith) (marks .exchange-marks .ensures) (i .1),
 )
 
@@ -67,8 +67,8 @@ exchange-pairs-spec =
     Inv-loop
     μ-loop
     loop-holds
-    mul-exchange-pair
-    exchange-pair-requires
+    mul-exchange-columns
+    exchange-columns-requires
     mul-exchange-marks
     exchange-marks-requires
     add-pair
