@@ -9,8 +9,9 @@ examples, no theorem and no function, and is checked there by `rt dev`, which ch
 passes is checked with the theorems and the functions, too, and what passes that once more from nothing by `rt check`: where
 these alone refuse a change, it may be that a function would only have to follow it, so such changes are printed, too. A change
 that is no definition (its file no longer parses or has no type) is counted apart. The last lines have the figures, of each file
-and of all; target/mutate/CRATE.txt has every change with its outcome. With --again only the changes are tried that no example
-refused in the run before, and the file keeps the others' outcomes: for use after examples were added.
+and of all; target/mutate/CRATE.txt has every change with its outcome. A run that was broken off goes on with --resume. With
+--again the changes are tried once more that no example refused: for use after examples were added, which leave the others'
+outcomes as they are.
 """
 
 import argparse
@@ -34,6 +35,9 @@ IN_EXAMPLES = re.compile(rf"/proofs/({'|'.join(sorted(EXAMPLES))})\b")
 # functions ask and leave, which their callers' proofs see through.
 NO_RULES = EXAMPLES | {"Lib", "Ranges", "Lent", "Exchanged", "Weight", "Pending"}
 SECONDS = 600
+# What may become of a change; further examples leave the first two as they are.
+ALL = ("no definition", "refused by an example", "refused by a law", "no answer", "STILL PROVES")
+SETTLED = ALL[:2]
 
 # ---- Tokens
 
@@ -436,22 +440,42 @@ class Copy:
 
     def __init__(self, crate, home, examples):
         self.crate, self.home = crate, home
+        self.saved, self.base = home / "target" / "inc" / crate, home / "base"
         shutil.rmtree(home, ignore_errors=True)
         for name in (crates := needed(crate)):
             kept = shutil.ignore_patterns("must-fail")
             shutil.copytree(ROOT / "crates" / name, home / "crates" / name, ignore=kept)
         (home / "crates.txt").write_text("".join(f"{' '.join([name + ':', *uses])}\n" for name, uses in crates.items()))
-        for part in ("rlib", "stamp"):
-            if (ROOT / "target" / part).is_dir():
-                shutil.copytree(ROOT / "target" / part, home / "target" / part, symlinks=True, copy_function=os.link)
+        for name in crates:
+            self.take_over(ROOT / "target" / "rlib" / f"{name}.rlib", home / "target" / "rlib" / f"{name}.rlib")
+            self.take_over(ROOT / "target" / "stamp" / name, home / "target" / "stamp" / name)
         if examples:
             self.leave_examples(home / "crates" / crate / "proofs")
             self.leave_types(home / "crates" / crate / "src")
         said = [self.rt(verb) for verb in ("check", "dev")]
         if any(status != 0 for status, _ in said):
             raise RuntimeError(f"{home}: the crate as it is is not proved:\n{said}")
-        self.saved, self.base = home / "target" / "inc" / crate, home / "base"
         shutil.copytree(self.saved, self.base)
+
+    @staticmethod
+    def take_over(proved, to):
+        """What is proved already need not be proved again in a copy."""
+        to.parent.mkdir(parents=True, exist_ok=True)
+        if proved.is_dir():
+            shutil.copytree(proved, to, symlinks=True, copy_function=os.link)
+        elif proved.is_file():
+            shutil.copy2(proved, to)
+
+    def restore(self):
+        """Brings back what was saved of the crate as it is: the files that differ in time or size."""
+        told = lambda folder: {path.relative_to(folder): path.stat() for path in folder.rglob("*") if path.is_file()}
+        base, now = told(self.base), told(self.saved)
+        for path in now.keys() - base.keys():
+            (self.saved / path).unlink()
+        for path, stat in base.items():
+            if path not in now or (now[path].st_mtime_ns, now[path].st_size) != (stat.st_mtime_ns, stat.st_size):
+                (self.saved / path).parent.mkdir(parents=True, exist_ok=True)
+                shutil.copy2(self.base / path, self.saved / path)
 
     @staticmethod
     def leave_examples(proofs):
@@ -501,8 +525,7 @@ class Copy:
             if status != 0:
                 break
         path.write_text(change.file.text)
-        shutil.rmtree(self.saved)
-        shutil.copytree(self.base, self.saved)
+        self.restore()
         return status, said
 
 
@@ -548,7 +571,8 @@ def main():
     parse.add_argument("--count", type=int, default=0)
     parse.add_argument("--seed", type=int, default=1)
     parse.add_argument("--workers", type=int, default=2)
-    parse.add_argument("--again", action="store_true", help="only what no example refused in the run before")
+    parse.add_argument("--resume", action="store_true", help="only what has no outcome so far")
+    parse.add_argument("--again", action="store_true", help="only what no example refused so far")
     parse.add_argument("--list", action="store_true", help="print the changes, and check none")
     given = parse.parse_args()
     folder = ROOT / "crates" / given.crate / "specs"
@@ -565,20 +589,20 @@ def main():
         print("\n".join(map(str, changes)), f"{len(changes)} changes", sep="\n")
         return
     log = ROOT / "target" / "mutate" / f"{given.crate}.txt"
-    known = settled(log) if given.again else {}
-    done = {change: known[str(change)] for change in changes if str(change) in known}
+    done = known(log, changes, ALL if given.resume else SETTLED) if given.resume or given.again else {}
     try_all([change for change in changes if change not in done], done, given.crate, given.workers, log)
     for file in sorted({change.file.path.stem for change in done}):
-        print(figures(file, [outcome for change, outcome in done.items() if change.file.path.stem == file]))
+        print(figures(file, [line for change, line in done.items() if change.file.path.stem == file]))
     print(figures(given.crate, list(done.values())))
     if len(done) != len(changes):
         sys.exit(1)
 
 
-def settled(log):
-    """The outcomes of a run before that further examples leave as they are, by change."""
-    found = (line.split("  | ")[0].split(": ", 1) for line in log.read_text().splitlines())
-    return {change: outcome for outcome, change in found if outcome in {"no definition", "refused by an example"}}
+def known(log, changes, outcomes):
+    """The lines of a log that have one of some outcomes, by change."""
+    lines = {line.split("  | ")[0]: line for line in log.read_text().splitlines()} if log.exists() else {}
+    found = ((change, lines.get(f"{outcome}: {change}")) for change in changes for outcome in outcomes)
+    return {change: line for change, line in found if line}
 
 
 def try_all(changes, done, crate, workers, log):
@@ -587,7 +611,7 @@ def try_all(changes, done, crate, workers, log):
     for change in changes:
         left.put(change)
     log.parent.mkdir(parents=True, exist_ok=True)
-    log.write_text("".join(f"{outcome}: {change}\n" for change, outcome in done.items()))
+    log.write_text("".join(f"{line}\n" for line in done.values()))
 
     def work(number):
         worker = Worker(crate, number)
@@ -598,9 +622,9 @@ def try_all(changes, done, crate, workers, log):
                 return
             found, why = worker.outcome(change)
             with printing, log.open("a") as out:
-                done[change] = found
-                print(f"{found}: {change}{'  | ' + why if why else ''}", file=out, flush=True)
-                if found in {"STILL PROVES", "no answer", "refused by a law"}:
+                done[change] = f"{found}: {change}{'  | ' + why if why else ''}"
+                print(done[change], file=out, flush=True)
+                if found not in SETTLED:
                     print(f"{found}: {change}", flush=True)
 
     threads = [threading.Thread(target=work, args=(n,)) for n in range(min(workers, max(1, len(changes))))]
@@ -610,12 +634,11 @@ def try_all(changes, done, crate, workers, log):
         thread.join()
 
 
-def figures(name, outcomes):
-    count = outcomes.count
-    example, law = count("refused by an example"), count("refused by a law")
+def figures(name, lines):
+    none, example, law, open_, proves = (sum(line.startswith(outcome) for line in lines) for outcome in ALL)
     return (
-        f"{name}: {len(outcomes)} changes, {count('no definition')} no definition, {example} refused by an example, "
-        f"{law} by a law alone, {count('no answer')} without an answer, {count('STILL PROVES')} still prove"
+        f"{name}: {len(lines)} changes, {none} no definition, {example} refused by an example, {law} by a law alone, "
+        f"{open_} without an answer, {proves} still prove"
     )
 
 

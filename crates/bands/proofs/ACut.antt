@@ -2,6 +2,7 @@
 use mathlib.Core.Bool.{true, false}
 use mathlib.Core.Path.{_≡_, refl}
 use mathlib.Core.List.{[], _∷_, map}
+use lib.ListN.{replicate}
 use Rattle.bands.specs.Bands.{Cut, cut, sized, fits, band-start, blocks-per-band, step-count, step-band, step-block}
 
 -- 7 late rows in 3 bands of 2, 2 and 3 rows, and 40 columns in blocks of 16, the last of 8.
@@ -25,6 +26,6 @@ pub cuts-that-fit : map fits (uneven ∷ cut (sized 40 3) 1 16 ∷ cut (sized 40
 unfolding fits
 cuts-that-fit = refl
 
-pub cuts-that-fail : map fits (cut (sized 40 9) 4 16 ∷ cut (sized 40 9) 0 16 ∷ cut (sized 40 9_000) 65 16 ∷ cut (sized 40 9) 3 8 ∷ cut (sized 40 9) 3 0 ∷ []) ≡ false ∷ false ∷ false ∷ false ∷ false ∷ []
+pub cuts-that-fail : map fits (cut (sized 40 9) 4 16 ∷ cut (sized 40 9) 0 16 ∷ cut (sized 40 9_000) 65 16 ∷ cut (sized 40 9) 3 8 ∷ cut (sized 40 9) 3 0 ∷ cut (sized 40 4) 2 16 ∷ cut (sized 40 2) 2 16 ∷ []) ≡ replicate 7 false
 unfolding fits
 cuts-that-fail = refl

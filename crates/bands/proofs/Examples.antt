@@ -26,6 +26,16 @@ pub bad-lists : map (good square) ((1 ∷ 0 ∷ 2 ∷ 3 ∷ []) ∷ (2 ∷ 0 ∷
 unfolding good in-turn ready after blocks-per-band
 bad-lists = refl
 
+-- 3 bands of 1 block: the band above is the one before, and not the first. And 17 bands of 2 blocks, more bands than a block has
+-- columns.
+pub three-bands : map (good (cut (sized 16 8) 3 16)) ((0 ∷ 1 ∷ 2 ∷ []) ∷ (0 ∷ 2 ∷ 1 ∷ []) ∷ []) ≡ true ∷ false ∷ []
+unfolding good in-turn ready after blocks-per-band
+three-bands = refl
+
+pub many-bands : good (cut (sized 17 36) 17 16) (Frame.tabulate 34 0 (λ i. i)) ≡ true
+unfolding good in-turn ready after blocks-per-band Frame.tabulate
+many-bands = refl
+
 -- The cut is tested before the list.
 pub refusals : list-refusal square (0 ∷ 1 ∷ 2 ∷ 3 ∷ []) ∷ list-refusal square [] ∷ list-refusal (cut (sized 32 6) 3 16) [] ∷ [] ≡ 0 ∷ 12 ∷ 11 ∷ []
 unfolding list-refusal fits good in-turn ready after blocks-per-band

@@ -82,10 +82,11 @@ early =
     ∷ unchanged (proposal up [] 2 1 (128 ∷ 128 ∷ [])) (7 ∷ 7 ∷ []) (refused 3)
     ∷ []
 
--- 17, 18 and 19 with their rows, the first of them before 21.
+-- 17, 18 and 19 with their rows, row 0 among them, and the first that comes before 21.
 abbrev unclean : List Example
 unclean =
-    unchanged (proposal (down ++ up ++ (0 ∷ [])) (0 ∷ 4 ∷ []) 1 2 (128 ∷ 128 ∷ [])) (7 ∷ 7 ∷ []) (fault-at 1 17)
+    unchanged (proposal (up ++ (0 ∷ [])) (0 ∷ []) 1 1 (128 ∷ [])) (7 ∷ []) (fault-at 0 17)
+    ∷ unchanged (proposal (down ++ up ++ (0 ∷ [])) (0 ∷ 4 ∷ []) 1 2 (128 ∷ 128 ∷ [])) (7 ∷ 7 ∷ []) (fault-at 1 17)
     ∷ unchanged (proposal (down-down ++ below) (0 ∷ 8 ∷ []) 17 2 (replicate 34 128)) (replicate 34 7) (fault-at 1 18)
     ∷ unchanged (proposal down (0 ∷ 0 ∷ 4 ∷ []) 1 3 (128 ∷ 128 ∷ 128 ∷ [])) (7 ∷ 7 ∷ 7 ∷ []) (fault-at 2 19)
     ∷ []

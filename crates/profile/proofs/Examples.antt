@@ -108,12 +108,18 @@ pub outside : map told (verdict below (0 ∷ []) (size 33 1) ∷ verdict above (
 unfolding verdict rows-verdict row-fault blocks-fault block-fault first-fault fits all-fit fresh-row operated operate head bounded predictor length-of length-bits residual-bits sample samples fetched counted held read fields four signed modulo read-residual
 outside = refl
 
--- 19: the head's word is there and those of its residuals aren't, before the next row's 17; no word at all, in row 2.
+-- A block with four lengths 1, of direction 0, and no more than its first word.
+abbrev ones : List ℕ
+ones = 0x80 ∷ 0x88 ∷ 0x88 ∷ 0x7F ∷ []
+
+-- 19: the head's word is there and those of its residuals aren't, before the next row's 17; no word at all, in row 2; and at width 1
+-- all sixteen residuals are read, since none that takes 128 is skipped.
 pub missing : map told (
     verdict (up ++ replicate 4 0) (4 ∷ 0 ∷ []) (size 1 2)
     ∷ verdict down (0 ∷ 0 ∷ 4 ∷ []) (size 1 3)
+    ∷ verdict ones (0 ∷ []) (size 1 1)
     ∷ []
-    ) ≡ (19 ∷ 0 ∷ 0 ∷ []) ∷ (19 ∷ 2 ∷ 0 ∷ []) ∷ []
+    ) ≡ (19 ∷ 0 ∷ 0 ∷ []) ∷ (19 ∷ 2 ∷ 0 ∷ []) ∷ (19 ∷ 0 ∷ 0 ∷ []) ∷ []
 unfolding verdict rows-verdict row-fault blocks-fault block-fault first-fault fits all-fit fresh-row operated operate head bounded predictor length-of length-bits residual-bits sample samples fetched counted held read fields four signed modulo read-residual
 missing = refl
 
