@@ -190,7 +190,7 @@ blanked-isolation step returned blanks clean b b′ x y h h′ cs ds c d rest re
 -- ── Among other calls on one sample buffer ──
 
 -- What a call that blanks finds and leaves there.
-pub blank-step : (c : Call) (left : List ℕ) → left ≡ samples-after c → Fits (c .fill) → Step
+unfoldable pub blank-step : (c : Call) (left : List ℕ) → left ≡ samples-after c → Fits (c .fill) → Step
 unfolding samples-after unless-refused
 blank-step c left e fits = record {
   found = c .samples;

@@ -92,10 +92,10 @@ planes to from =
 -- ── Among other calls on one sample buffer ──
 
 -- A way that makes 16-bit samples of such.
-abbrev Keeps : Way → Type 0
+abbrev pub Keeps : Way → Type 0
 Keeps way = (z : Size) (f : List ℕ) → Samples f → Samples (way z f)
 
-moved-step : {way : Way} → Keeps way → (c : Moved way) → Samples (c .read) → Step
+unfoldable pub moved-step : {way : Way} → Keeps way → (c : Moved way) → Samples (c .read) → Step
 unfolding after
 moved-step keeps c low = record {
   found = c .found;
@@ -105,8 +105,8 @@ moved-step keeps c low = record {
       (λ e. rw e h));
 }
 
-pub to-step : (c : Moved to-planes) → Samples (c .read) → Step
+unfoldable pub to-step : (c : Moved to-planes) → Samples (c .read) → Step
 to-step = moved-step (λ z f h. all-to (λ v. v < 65_536) z h)
 
-pub from-step : (c : Moved from-planes) → Samples (c .read) → Step
+unfoldable pub from-step : (c : Moved from-planes) → Samples (c .read) → Step
 from-step = moved-step (λ z f h. all-from (λ v. v < 65_536) z h)

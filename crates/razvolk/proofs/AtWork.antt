@@ -1,6 +1,7 @@
--- The claim of `Isolation.antt` at work. For every input there is a call of each export, and after every list of calls on a
--- buffer it may follow, lent all of the buffer or its first samples: so the claim speaks of lists of every length, on buffers longer
--- than a frame too. Then two calls that are alike and end with done over buffers that differ: document 01's frame of 2 by 2.
+-- Demand 3 at work. For every input there is a call of each decoder, of V0 into V2 and of both ways between frame and planes, and after
+-- every list of calls on a buffer each call may follow, lent all of the buffer or its first samples: so the claim speaks of lists of
+-- every length, on buffers longer than a frame too. Then two calls that are alike and end with done over buffers that differ: document
+-- 01's frame of 2 by 2.
 use Prim.Native.Nat.{ℕ, _+_, _%_}
 use mathlib.Core.Path.{_≡_, refl, sym, ap, _∙_}
 use mathlib.Core.Logic.{inl}
@@ -23,10 +24,22 @@ use Rattle.bands.proofs.Lists as Bands-lists
 use Rattle.profile.specs.Clean as Profile
 use Rattle.profile.proofs.Lists as Clean-lists
 use Rattle.rules.proofs.Cells.{nil, more}
-use Rattle.rules.proofs.Isolation.{Calls, start, call, Samples, Same, is-direct, position-of, amount-of}
+use Rattle.rules.proofs.Isolation.{Step, Calls, start, call, Samples, Same, is-direct, position-of, amount-of}
 use Rattle.samsung.proofs.Isolation.{Made, Banded, Cleaned, Entry, returned, checked, plain, in-bands, for-clean, step, last, last-in-bands, last-clean, ended, isolation}
 use Rattle.razvolk.proofs.direct.razvolk_decode_v0_reference.Kinds as direct-kinds
 use Rattle.razvolk.proofs.direct.razvolk_decode_v0_reference_map.Kinds as direct-map-kinds
+use Rattle.planes.specs.Planes.{to-planes, from-planes}
+use Rattle.writers.specs.Calls as Writers
+use Rattle.blanking.proofs.Isolation.{blank-step}
+use Rattle.frames.specs.Moved as Moved
+use Rattle.frames.proofs.Moves.{to-step, from-step, moved-step}
+use Rattle.packed.proofs.Returned as Proposals
+use Rattle.transcode.specs.Convert as Convert
+use Rattle.transcode.proofs.Converted as Conversions
+use Rattle.transcode.proofs.Proposed.{Checks, checks}
+use Rattle.razvolk.proofs.BlankedFrames.{Blanking, blanks, Exporting, exports, steps, blanking, exporting, converting, moving-to-planes, moving-back, checking}
+use Rattle.razvolk.proofs.ColourPlanes.{ToPlanes, FromPlanes, to, from}
+use Rattle.razvolk.proofs.Converted.{Converts, converts}
 use Rattle.razvolk.proofs.Isolation.{Export}
 use Rattle.razvolk.proofs.Isolation as Exports
 
@@ -175,10 +188,87 @@ module _ (s offsets : List ℕ) (w h : ℕ) (samples : List ℕ) where
   unfolding ended Clean-lists.returned checked
   clean-ends m done = (refl, refl)
 
+-- ── The other calls that write a sample buffer ──
+
+-- Each finds the samples that it is lent, and leaves what its contract says.
+pub blanking-finds : (b : Blanking) → (steps (blanking b) .found ≡ blanks b .call .samples) × (steps (blanking b) .left ≡ blanks b .samples)
+unfolding steps blank-step
+blanking-finds b = (refl, refl)
+
+pub exporting-finds : (c : Exporting) → (steps (exporting c) .found ≡ exports c .export .blank .samples) × (steps (exporting c) .left ≡ exports c .samples)
+unfolding steps blank-step
+exporting-finds c = (refl, refl)
+
+pub converting-finds : (x : Converts) → (steps (converting x) .found ≡ converts x .samples) × (steps (converting x) .left ≡ converts x .samples-left)
+unfolding steps Conversions.step
+converting-finds x = (refl, refl)
+
+pub to-planes-finds : (c : ToPlanes) (low : Samples (to c .read)) → (steps (moving-to-planes c low) .found ≡ to c .found) × (steps (moving-to-planes c low) .left ≡ to c .left)
+unfolding steps to-step moved-step
+to-planes-finds c low = (refl, refl)
+
+pub from-planes-finds : (c : FromPlanes) (low : Samples (from c .read)) → (steps (moving-back c low) .found ≡ from c .found) × (steps (moving-back c low) .left ≡ from c .left)
+unfolding steps from-step moved-step
+from-planes-finds c low = (refl, refl)
+
+pub checking-finds : (c : Checks) → (steps (checking c) .found ≡ checks c .scratch) × (steps (checking c) .left ≡ checks c .left)
+unfolding steps Proposals.step
+checking-finds c = (refl, refl)
+
+-- There is a call of V0 into V2 for every input, and one each way between frame and planes.
+abbrev pub convert-call : List ℕ → List ℕ → ℕ → ℕ → List ℕ → List ℕ → List ℕ → Converts
+convert-call s offsets w h samples map stream =
+    let c = Convert.call s offsets w h samples map stream in
+    record {
+      κs = ([], ([], ([], ([], ([], tt)))));
+      args = (slice s, (slice offsets, (w, (h, (slice samples, (slice map, (slice stream, tt)))))));
+      result = Convert.if-decoded c (Convert.late-answer w h (Convert.frame-of c) (Convert.marks-of c) (length stream)) (Writers.refused (Convert.early c));
+      exit = (
+        slice s,
+        (
+          slice offsets,
+          (
+            w,
+            (
+              h,
+              (
+                slice (Convert.if-decoded c (Convert.decoded-samples c) samples),
+                (
+                  slice (Convert.if-decoded c (Convert.decoded-map c) map),
+                  (slice (Convert.if-decoded c (Convert.late-stream w h (Convert.frame-of c) (Convert.marks-of c) stream) stream), tt),
+                ),
+              ),
+            ),
+          ),
+        ),
+      );
+      learnt = record { answered = refl; samples-left = refl; map-left = refl; stream-left = refl };
+    }
+
+abbrev pub to-planes-call : List ℕ → ℕ → ℕ → List ℕ → ToPlanes
+to-planes-call samples w h planes =
+    record {
+      κs = ([], ([], tt));
+      args = (slice samples, (w, (h, (slice planes, tt))));
+      result = Moved.answer w h samples planes;
+      exit = (slice samples, (w, (h, (slice (Moved.after to-planes w h samples planes), tt))));
+      learnt = (refl, refl);
+    }
+
+abbrev pub from-planes-call : List ℕ → ℕ → ℕ → List ℕ → FromPlanes
+from-planes-call planes w h samples =
+    record {
+      κs = ([], ([], tt));
+      args = (slice planes, (w, (h, (slice samples, tt))));
+      result = Moved.answer w h planes samples;
+      exit = (slice planes, (w, (h, (slice (Moved.after from-planes w h planes samples), tt))));
+      learnt = (refl, refl);
+    }
+
 -- ── A list, and one call more ──
 
 -- After every list of calls each call may follow that is lent the first k samples of the buffer as it is now; the others stay.
-pub one-more : {b x : List ℕ} → Calls step b x → (k : ℕ) (c : Entry) → step c .found ≡ take k x → Calls step b (step c .left ++ drop k x)
+pub one-more : {C : Type 0} {step : C → Step} {b x : List ℕ} → Calls step b x → (k : ℕ) (c : C) → step c .found ≡ take k x → Calls step b (step c .left ++ drop k x)
 one-more {x = x} cs k c e = call cs c (drop k x) (sym (rw e (take-append-drop k x)))
 
 -- ── Document 01's frame of 2 by 2 ──

@@ -5,4 +5,5 @@ pub mod BlankedFrames
 pub mod RoundTrip
 pub mod Converted
 pub mod ColourPlanes
+pub mod Numbers
 pub mod AtWork

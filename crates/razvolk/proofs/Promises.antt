@@ -1,15 +1,15 @@
 -- All that is promised, on one page: README's list "What is promised, and what is not", in its order and under its numbers. Each field of
--- `Promises` is one line of that list, stated over calls of the exports that have returned, and `promises` proves all of them. A call that
--- has returned is what was handed in, what came out, and what the export's contract, as `src/` has it, says of the two (`Made` in
--- `samsung/proofs/Isolation.antt`); that every run of the code is such a call is what the first promise says of each export.
+-- `Promises` is one line of that list, and `promises` proves all of them. They speak of calls that have returned: what was handed in,
+-- what came out, and what the function's contract, as `src/` has it, says of the two (`Made` in `samsung/proofs/Isolation.antt`). That
+-- every run of an export is such a call, and as well one of its entry, is what the first promise says of each export.
 use Prim.Native.Nat.{ℕ}
-use mathlib.Core.Path.{_≡_, refl}
-use mathlib.Core.List.{List}
+use mathlib.Core.Path.{_≡_, refl, sym, subst}
+use mathlib.Core.List.{List, [], _∷_}
 use contract.Lifetimes.{Lfts}
 use borrow.Fn.Kinds.{PK, RK, Dens, In, Out}
 use Rattle.rules.specs.Answer.{Yields}
 use Rattle.samsung.proofs.Answered.{Answered, answered}
-use Rattle.samsung.proofs.Isolation.{returned, ended}
+use Rattle.samsung.proofs.Isolation.{Banded, Cleaned, called, yielded, checked, returned, ended}
 use Rattle.samsung.proofs.TwoPhase.{Paired, SameFrame, entries-same}
 use Rattle.samsung.proofs.CutUpload.{CutFinal, cut-final}
 use Rattle.samsung.proofs.InBands.{InBands, in-bands}
@@ -17,12 +17,15 @@ use Rattle.samsung.proofs.CleanFrames.{CleanFrames, clean-frames}
 use Rattle.writers.specs.Calls as Writers
 use Rattle.blanking.proofs.Returned.{MarkedAlone, marked-alone}
 use Rattle.late.proofs.LateFault.{LateFault, late-fault}
-use Rattle.transcode.proofs.Proposed.{Packed, packed}
+use Rattle.transcode.proofs.Proposed.{Checks, checks, Writes, writes, Packed, packed}
 use Rattle.razvolk.proofs.Isolation.{Export}
-use Rattle.razvolk.proofs.BlankedFrames.{Blanking, blanks, Isolation, isolation, BlankedFrames, blanked-frames, ExportedFrames, exported-frames}
+use Rattle.razvolk.proofs.BlankedFrames.{Blanking, blanks, Exporting, exports as exports-of, Isolation, isolation, BlankedFrames, blanked-frames, ExportedFrames, exported-frames}
 use Rattle.razvolk.proofs.RoundTrip.{Writing, wrote, ReadBack, read-back}
+use Rattle.razvolk.proofs.Converted.{Converts, converts}
 use Rattle.razvolk.proofs.Converted as Converted
-use Rattle.razvolk.proofs.ColourPlanes.{Planes, planes}
+use Rattle.razvolk.proofs.ColourPlanes.{ToPlanes, FromPlanes, to, from, Planes, planes}
+use Rattle.razvolk.proofs.Numbers as Numbers
+use Rattle.razvolk.proofs.Numbers.{OneOf, bands-number, clean-number, writer-number, blanking-number, export-number, planes-number, convert-number, check-number}
 use Rattle.razvolk.proofs.direct.razvolk_decode_v0_reference as reference
 use Rattle.samsung.proofs.direct.decode_v0_reference as reference-entry
 use Rattle.razvolk.proofs.direct.razvolk_decode_v0_reference_map as reference-map
@@ -93,10 +96,20 @@ pub record Exports (M : Type 1) : Type 2 where
 
 -- ── Promises of several parts ──
 
--- Every export returns on every input; a decoder's answer is done or one of 1 to 8, and 1 to 4 change nothing.
+-- Every export returns on every input. A decoder's answer is done or one of 1 to 8, and 1 to 4 change nothing; the others' are done or
+-- one of a list.
 pub record EveryInput (M : Type 1) : Type 2 where
   pub exports : Exports M
   pub decoders : (c : Export) → Answered (returned c)
+  pub in-bands : (c : Banded) → OneOf (0 ∷ 1 ∷ 3 ∷ 4 ∷ 11 ∷ 12 ∷ []) (c .result .number)
+  pub for-clean : (c : Cleaned) → OneOf (0 ∷ 1 ∷ 3 ∷ 4 ∷ 17 ∷ 18 ∷ 19 ∷ []) (checked c .answered .number)
+  pub writer : (w : Writes) → OneOf (0 ∷ 1 ∷ 3 ∷ 9 ∷ 10 ∷ []) (writes w .answered .answer .number)
+  pub blanking : (b : Blanking) → OneOf (0 ∷ 1 ∷ 3 ∷ 4 ∷ 13 ∷ 14 ∷ []) (blanks b .answered .answer .number)
+  pub export : (c : Exporting) → OneOf (0 ∷ 1 ∷ 3 ∷ 4 ∷ 9 ∷ 10 ∷ 13 ∷ 14 ∷ []) (exports-of c .answered .answer .number)
+  pub to-planes : (c : ToPlanes) → OneOf (0 ∷ 1 ∷ 3 ∷ []) (to c .answered .number)
+  pub from-planes : (c : FromPlanes) → OneOf (0 ∷ 1 ∷ 3 ∷ []) (from c .answered .number)
+  pub into-v2 : (x : Converts) → OneOf (0 ∷ 1 ∷ 2 ∷ 3 ∷ 4 ∷ 9 ∷ 10 ∷ 15 ∷ 16 ∷ []) (converts x .answered .answer .number)
+  pub check-packed : (c : Checks) → OneOf (0 ∷ 1 ∷ 3 ∷ 9 ∷ 17 ∷ 18 ∷ 19 ∷ 20 ∷ 21 ∷ []) (checks c .answered .number)
 
 -- A decoder's answer and what it leaves in every buffer are the rules'; the two-phase decoder gives what the direct one gives.
 pub record ByTheRules : Type 0 where
@@ -167,10 +180,29 @@ exports =
       razvolk-reset-at = record { asks-nothing = λ κs args. tt; asks-its-entrys = refl; says-its-entrys = refl; met = reset-at.Met.met };
     }
 
+every-input : {M : Type 1} → EveryInput M
+every-input =
+    record {
+      exports = exports;
+      decoders = λ c. answered (returned c);
+      in-bands = λ c. told Numbers.in-bands (λ x. x .number) (yielded c .answered) (bands-number (called c));
+      for-clean = λ c. told Numbers.for-clean (λ x. x .number) (checked c .yields .answered) (clean-number (checked c .ask) _ (checked c .direct));
+      writer = λ w. told Numbers.by-writer (λ x. x .answer .number) (writes w .yields .answered) (writer-number (writes w .call));
+      blanking = λ b. told Numbers.by-blanking (λ x. x .answer .number) (blanks b .yields .answered) (blanking-number (blanks b .call));
+      export = λ c. told Numbers.by-export (λ x. x .answer .number) (exports-of c .yields .answered) (export-number (exports-of c .export));
+      to-planes = λ c. told Numbers.by-planes (λ x. x .number) (to c .answers) (planes-number (to c .width) (to c .height) (to c .read) (to c .found));
+      from-planes = λ c. told Numbers.by-planes (λ x. x .number) (from c .answers) (planes-number (from c .width) (from c .height) (from c .read) (from c .found));
+      into-v2 = λ x. told Numbers.into-v2 (λ y. y .answer .number) (converts x .yields .answered) (convert-number _);
+      check-packed = λ c. told Numbers.by-check (λ x. x .number) (checks c .yields .answered) (check-number (checks c .proposal) (checks c .scratch));
+    }
+  where
+    told : {A : Type 0} (ns : List ℕ) (number : A → ℕ) {x y : A} → x ≡ y → OneOf ns (number y) → OneOf ns (number x)
+    told ns number e h = subst (λ z. OneOf ns (number z)) (sym e) h
+
 pub promises : {M : Type 1} → Promises M
 promises =
     record {
-      p1-answered = record { exports = exports; decoders = λ c. answered (returned c) };
+      p1-answered = every-input;
       p2-by-the-rules = record { rules = λ c. returned c .yields; two-phase = entries-same };
       p3-no-earlier-frame = isolation;
       p4-cut-uploads = cut-final;
