@@ -1,6 +1,8 @@
-.PHONY: run test archive install dist refuse mutate compare compare-long bench memcheck fuzz frames picture soak fmt
+.PHONY: run test archive container install dist wheel bench-python refuse mutate compare compare-long bench memcheck fuzz frames picture soak fmt
 
 archive = target/staticlib/librazvolk.a
+shared = target/staticlib/librazvolk.so.0
+container = rust/target/made/librazvolk_srw.so.0
 cargo_run = cd rust && cargo run --release --offline --locked
 made = rust/target/made
 # What proves ends here without the toolchain.
@@ -18,19 +20,32 @@ test:
 	$(need_rt)
 	bash .ci/run
 
-# The archive for C and Rust: proves what it is made of, and compiles it.
-archive: $(archive)
+# The archive for C and Rust, and the shared library of it: proves what they are made of, and compiles it.
+archive: $(archive) $(shared)
 
 $(archive): crates.txt $(shell find crates -type f)
 	$(need_rt)
 	rt staticlib razvolk
 
-# Header, archive and pkg-config file below PREFIX.
+$(shared): $(archive) include/razvolk.h dist/shared
+	dist/shared $(archive) include/razvolk.h $@
+
+# The library that finds the frame in a camera's file, for C. It is in Rust: tested, and not proved.
+container: $(container)
+
+$(container): $(archive) $(shell find rust/src rust/container rust/Cargo.toml rust/build.rs -type f)
+	cd rust && cargo build --quiet --offline --locked --profile container -p razvolk-srw --target-dir target
+	install -D -m 644 rust/target/container/librazvolk_srw.so $@
+
+# Headers, archive, shared libraries and pkg-config files below PREFIX.
 PREFIX = /usr/local
-install: $(archive)
-	install -D -m 644 include/razvolk.h $(DESTDIR)$(PREFIX)/include/razvolk.h
-	install -D -m 644 $(archive) $(DESTDIR)$(PREFIX)/lib/librazvolk.a
-	install -D -m 644 dist/razvolk.pc $(DESTDIR)$(PREFIX)/lib/pkgconfig/razvolk.pc
+install: $(archive) $(shared) $(container)
+	for name in razvolk razvolk_srw; do \
+		install -D -m 644 include/$$name.h $(DESTDIR)$(PREFIX)/include/$$name.h || exit 1; done
+	for name in $(archive) $(shared) $(container); do \
+		install -D -m 644 $$name $(DESTDIR)$(PREFIX)/lib/$$(basename $$name) || exit 1; done
+	for name in razvolk razvolk-shared razvolk-srw; do \
+		install -D -m 644 dist/$$name.pc $(DESTDIR)$(PREFIX)/lib/pkgconfig/$$name.pc || exit 1; done
 
 # A release, target/dist/razvolk-VERSION.tar.gz, which needs no Rattle toolchain.
 dist: $(archive)
