@@ -82,6 +82,10 @@ razvolk_srw_answer razvolk_srw_find(const uint8_t *file, size_t file_len, razvol
  * the words have without the zero: 0 if the file has a frame. */
 size_t razvolk_srw_text(const uint8_t *file, size_t file_len, char *text, size_t text_len);
 
+/* Why a function of razvolk.h refused, in words: of the number and the row that it answered. As much as fits is written to text, and
+ * a zero after it. Returns how many bytes the words have without the zero: 0 for number 0, which is done. */
+size_t razvolk_srw_refusal_text(uint32_t number, uint32_t row, char *text, size_t text_len);
+
 #ifdef __cplusplus
 }
 #endif

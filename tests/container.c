@@ -1,4 +1,4 @@
-/* Calls both functions of include/razvolk_srw.h from C, and from C++: that header and library agree on how the structures are laid
+/* Calls every function of include/razvolk_srw.h from C, and from C++: that header and library agree on how the structures are laid
  * out, and that any bytes are answered. Each file touches a page that can't be read, so that a read past its end ends the program. */
 #define _DEFAULT_SOURCE
 #include "razvolk_srw.h"
@@ -137,6 +137,14 @@ static void faults(void) {
     expect(razvolk_srw_text(NULL, 0, NULL, 0) == 15, "not a TIFF file has 15 letters, though none is written");
     expect(razvolk_srw_text(NULL, 0, text, 4) == 15 && strcmp(text, "not") == 0, "and only three fit four bytes");
     expect(text[4] == 'r', "what lies behind them is as it was");
+    expect(razvolk_srw_refusal_text(0, 0, text, 8) == 0 && text[0] == 0, "done has no words");
+    for (uint32_t refusal = 1; refusal < 23; refusal++) {
+        char told[100], again[100];
+        size_t words = razvolk_srw_refusal_text(refusal, 435, told, sizeof told);
+        expect(words > 0 && words < sizeof told && strlen(told) == words, "each refusal has words");
+        razvolk_srw_refusal_text(refusal - 1, 435, again, sizeof again);
+        expect(strcmp(told, again) != 0, "and its own");
+    }
     const struct {
         size_t i;
         uint32_t tag, value, number, told;

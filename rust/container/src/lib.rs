@@ -4,6 +4,7 @@
 //! No memory is kept from call to call: what a call finds are positions in the file that it was lent, and numbers.
 #![warn(missing_docs)]
 
+use razvolk::Refusal;
 use razvolk::srw::{self, Coding, Fault, Frame};
 use std::{ptr, slice};
 
@@ -169,7 +170,23 @@ fn copy_offsets(coding: &Coding, into: &mut [u32]) -> Answer {
 pub unsafe extern "C" fn razvolk_srw_text(file: *const u8, file_len: usize, text: *mut u8, text_len: usize) -> usize {
     // SAFETY: the caller's promise.
     let (file, text) = unsafe { (lent(file, file_len), lent_mut(text, text_len)) };
-    let told = srw::frame(file).err().map(|fault| fault.to_string()).unwrap_or_default();
+    tell(&srw::frame(file).err().map(|fault| fault.to_string()).unwrap_or_default(), text)
+}
+
+/// Tells in words why a decoder or a writer refused a frame. See the header.
+///
+/// # Safety
+///
+/// As the header says: `text` is good for `text_len` bytes.
+#[unsafe(no_mangle)]
+pub unsafe extern "C" fn razvolk_srw_refusal_text(number: u32, row: u32, text: *mut u8, text_len: usize) -> usize {
+    // SAFETY: the caller's promise.
+    let text = unsafe { lent_mut(text, text_len) };
+    tell(&Refusal::of(number, row, 0).map(|refusal| refusal.to_string()).unwrap_or_default(), text)
+}
+
+/// Writes as many words as fit, and a zero after them. Returns how many bytes the words have.
+fn tell(told: &str, text: &mut [u8]) -> usize {
     if let Some(most) = text.len().checked_sub(1) {
         let kept = &told.as_bytes()[..told.len().min(most)];
         text[..kept.len()].copy_from_slice(kept);
