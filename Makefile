@@ -1,4 +1,4 @@
-.PHONY: run test archive container install dist wheel bench-python refuse mutate compare compare-long bench memcheck fuzz frames picture soak fmt
+.PHONY: run test archive container install dist wheel bench-python refuse mutate compare compare-long bench memcheck fuzz fuzz-srw frames picture soak fmt
 
 archive = target/staticlib/librazvolk.a
 shared = target/staticlib/librazvolk.so.0
@@ -50,6 +50,15 @@ install: $(archive) $(shared) $(container)
 # A release, target/dist/razvolk-VERSION.tar.gz, which needs no Rattle toolchain.
 dist: $(archive)
 	dist/make
+
+# The Python package, target/wheel/razvolk-VERSION-py3-none-manylinux*_x86_64.whl, with both shared libraries inside.
+PYTHON = /usr/bin/python3
+wheel: $(shared) $(container)
+	PYTHON=$(PYTHON) dist/wheel target/wheel $(shared) $(container)
+
+# The wheel in a fresh environment: what a call takes beside C's own, and two threads beside one.
+bench-python: wheel
+	PYTHON=$(PYTHON) python/bench/run $(made)/bench-python target/wheel/razvolk-*.whl
 
 # Every wrong edit that the proofs must refuse, also those of edits/, which cost too much for the gate (edits/README.md).
 refuse:
@@ -117,6 +126,18 @@ fuzz: $(made)/tests/hostile frames
 	grep 'cov:' $(made)/look.log | tail -1
 	grep '^Done\|^stat' $(made)/look.log
 	$(made)/tests/hostile pages $(FOR)s $(SEED)
+
+# The same of the container for C, for FOR seconds.
+fuzz-srw: frames
+	cd rust && RUSTFLAGS='$(counters)' cargo build --release --offline --locked -p fuzz-srw --target $(fuzz_target) \
+		--target-dir target/fuzz
+	clang -fsanitize=fuzzer rust/target/fuzz/$(fuzz_target)/release/libfuzz_srw.a -lgcc_s -lpthread -ldl -lm -o $(made)/find
+	mkdir -p $(made)/corpus-srw
+	cp $(made)/frames/small*.srw $(made)/corpus-srw/
+	cd $(made) && ./find -max_total_time=$(FOR) -max_len=4096 -rss_limit_mb=1024 -print_final_stats=1 corpus-srw > find.log 2>&1 || \
+		{ tail -40 find.log; exit 1; }
+	grep 'cov:' $(made)/find.log | tail -1
+	grep '^Done\|^stat' $(made)/find.log
 
 # Frames in a camera's container, to look at and to damage.
 frames: $(archive)

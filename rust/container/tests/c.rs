@@ -1,7 +1,8 @@
 //! What C is told of a file is what `razvolk::srw` finds in it.
 
+use razvolk::Refusal;
 use razvolk::srw::{Coding, Colour, Fault, Frame, frame};
-use razvolk_srw::{Answer, Found, razvolk_srw_find, razvolk_srw_text};
+use razvolk_srw::{Answer, Found, razvolk_srw_find, razvolk_srw_refusal_text, razvolk_srw_text};
 use std::mem::MaybeUninit;
 use std::slice;
 use streams::images::christening;
@@ -95,6 +96,19 @@ fn c_is_told_what_is_found() {
                 changed[at] = value;
                 hold(&changed);
             }
+        }
+    }
+}
+
+#[test]
+fn c_is_told_a_refusal_in_the_crate_s_words() {
+    for number in 0..30 {
+        for row in [0, 435] {
+            let mut text = [b'-'; 200];
+            // SAFETY: the length is the array's.
+            let len = unsafe { razvolk_srw_refusal_text(number, row, text.as_mut_ptr(), text.len()) };
+            let words = Refusal::of(number, row, 0).map(|refusal| refusal.to_string()).unwrap_or_default();
+            assert_eq!((&text[..len], text[len]), (words.as_bytes(), 0));
         }
     }
 }
