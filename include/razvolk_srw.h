@@ -78,6 +78,13 @@ typedef struct {
 razvolk_srw_answer razvolk_srw_find(const uint8_t *file, size_t file_len, razvolk_srw_frame *frame, uint32_t *offsets,
                                     size_t offsets_len);
 
+/* Writes a camera's file of a frame, which razvolk_srw_find reads again, and other readers too. Of V0 there are frame->height offsets,
+ * and frame->offsets says so; V2 has none. The bits are 14 and the model is Razvolk where they aren't told; frame->missing doesn't
+ * matter. Returns how many bytes the file has, and writes it if file_len is as much or more: the lengths of stream, offsets (4 bytes
+ * each) and model, and 1,024, are always enough. Returns 0, and writes nothing, if no file can hold the frame: another version, other
+ * offsets, a colour or an orientation that there isn't, a model that is no plain text, or more than 2^32 - 1 bytes in all. */
+size_t razvolk_srw_write(const razvolk_srw_frame *frame, const uint32_t *offsets, uint8_t *file, size_t file_len);
+
 /* Why a file has no frame, in words: 1 to 8 above. As much as fits is written to text, and a zero after it. Returns how many bytes
  * the words have without the zero: 0 if the file has a frame. */
 size_t razvolk_srw_text(const uint8_t *file, size_t file_len, char *text, size_t text_len);

@@ -176,6 +176,37 @@ static void faults(void) {
     make_file();
 }
 
+static void written(void) {
+    static uint8_t made[END + 1024];
+    find(file, END, 3);
+    const razvolk_srw_frame whole = frame;
+    size_t len = razvolk_srw_write(&whole, offsets, NULL, 0);
+    expect(len > 12 && len <= sizeof made, "a file has a length");
+    memset(made, 9, sizeof made);
+    expect(razvolk_srw_write(&whole, offsets, made, len - 1) == len && made[0] == 9, "one that doesn't fit is not written");
+    expect(razvolk_srw_write(&whole, offsets, made, sizeof made) == len && made[len] == 9, "the file, and what lies past it");
+    expect(find(made, len, 3).number == RAZVOLK_SRW_FOUND, "it is read again");
+    expect(frame.version == 0 && frame.bits == 12 && frame.width == 2 && frame.height == 2 && frame.orientation == 6 &&
+               offsets[1] == 4 && frame.stream_len == 12 && memcmp(frame.stream, file + STREAM, 12) == 0 &&
+               frame.model_len == 5 && memcmp(frame.model, "NX300", 5) == 0 && frame.colours[1] == RAZVOLK_SRW_BLUE,
+           "with all that it told");
+    for (int fault = 0; fault < 8; fault++) {
+        razvolk_srw_frame wrong = whole;
+        switch (fault) {
+        case 0: wrong.version = 1; break;
+        case 1: wrong.offsets = 1; break;
+        case 2: wrong.version = 2; break;
+        case 3: wrong.orientation = 9; break;
+        case 4: wrong.colours[2] = 3; break;
+        case 5: wrong.colours[2] = RAZVOLK_SRW_NO_COLOUR; break;
+        case 6: wrong.model = "NX\n"; wrong.model_len = 3; break;
+        default: wrong.width = (size_t)UINT32_MAX + 1;
+        }
+        memset(made, 9, sizeof made);
+        expect(razvolk_srw_write(&wrong, offsets, made, sizeof made) == 0 && made[0] == 9, "a frame that no file can hold");
+    }
+}
+
 /* Broken off at each byte, with each byte changed, and damaged at random. */
 static unsigned long damaged(void) {
     static uint8_t bytes[END];
@@ -209,6 +240,7 @@ int main(void) {
     make_file();
     whole();
     faults();
+    written();
     unsigned long files = damaged();
     printf(failed ? "container: FAILED\n" : "container: %lu files answered\n", files);
     return failed;

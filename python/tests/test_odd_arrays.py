@@ -372,6 +372,66 @@ def test_files(tmp_path: Path) -> None:
     assert len(os.listdir("/proc/self/fd")) == opened
 
 
+def test_files_that_are_written(tmp_path: Path) -> None:
+    path = tmp_path / "stored.srw"
+    razvolk.imwrite(path, OLD, bits=12, model="NX300", colours="GBRG", orientation=6)
+    frame = razvolk.imread(path)
+    assert frame.samples.tolist() == OLD.tolist() and frame.clean
+    assert (frame.bits, frame.model, frame.colours, frame.orientation) == (12, "NX300", "GBRG", 6)
+    razvolk.imwrite(str(path), np.zeros((0, 7), np.uint16))
+    frame = razvolk.imread(path)
+    assert frame.samples.shape == (0, 7)
+    assert (frame.bits, frame.model, frame.colours, frame.orientation) == (
+        14,
+        "Razvolk",
+        None,
+        None,
+    )
+    before = path.read_bytes()
+    wrong: list[dict[str, Any]] = [
+        {"colours": "RGB"},
+        {"colours": "CMYK"},
+        {"orientation": 9},
+        {"orientation": 2**32 + 1},
+        {"bits": -1},
+        {"bits": 2**40},
+        {"model": "NX\n300"},
+        {"samples": OLD.ravel()},
+        {"samples": OLD.T},
+        {"samples": np.array([[16_384]], np.uint16)},
+    ]
+    for words in wrong:
+        with pytest.raises(ValueError):
+            razvolk.imwrite(path, words.pop("samples", OLD), **words)
+    with pytest.raises(FileNotFoundError):
+        razvolk.imwrite(tmp_path / "none" / "stored.srw", OLD)
+    with pytest.raises(IsADirectoryError):
+        razvolk.imwrite(tmp_path, OLD)
+    with pytest.raises(OSError, match="No space left"):
+        razvolk.imwrite("/dev/full", OLD)
+    assert path.read_bytes() == before and os.listdir(tmp_path) == ["stored.srw"]
+    link = tmp_path / "link.srw"
+    link.symlink_to(path)
+    razvolk.imwrite(link, OLD)
+    assert link.is_symlink() and razvolk.imread(path).samples.tolist() == OLD.tolist()
+
+
+def test_a_file_that_can_not_be_put_in_place_leaves_nothing(
+    tmp_path: Path, monkeypatch: pytest.MonkeyPatch
+) -> None:
+    path = tmp_path / "stored.srw"
+    razvolk.imwrite(path, OLD)
+    before = path.read_bytes()
+
+    def stopped(*_: object) -> None:
+        raise KeyboardInterrupt
+
+    monkeypatch.setattr(os, "replace", stopped)
+    with pytest.raises(KeyboardInterrupt):
+        razvolk.imwrite(path, OLD + np.uint16(1))
+    assert path.read_bytes() == before and os.listdir(tmp_path) == ["stored.srw"]
+
+
 def test_what_was_lent_lives_as_long_as_it_is_used() -> None:
     data = bytearray(Path(os.environ["RAZVOLK_FRAMES"], "christening.srw").read_bytes())
     coded = razvolk.find(data)

@@ -30,7 +30,7 @@ from ._calls import (
     write_v0,
 )
 from ._decoder import Decoder
-from ._file import Coded, find, imread
+from ._file import Coded, find, imread, imwrite
 from ._frame import MISSING, OLD, Blanked, Converted, Exported, Frame, Written
 from ._refusal import NoFrame, Refusal
 
@@ -59,6 +59,7 @@ __all__ = [
     "find",
     "from_planes",
     "imread",
+    "imwrite",
     "most_bands",
     "most_v0_bytes",
     "step_count",

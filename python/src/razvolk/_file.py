@@ -2,8 +2,11 @@
 
 from __future__ import annotations
 
+import contextlib
 import ctypes
+import operator
 import os
+import threading
 from dataclasses import dataclass, replace
 from typing import TYPE_CHECKING, Optional, Union
 
@@ -137,3 +140,79 @@ def imread(path: Union[str, os.PathLike[str]], out: Optional[object] = None) -> 
     be read.
     """
     return read(path).decode(out)
+
+
+def imwrite(
+    path: Union[str, os.PathLike[str]],
+    samples: object,
+    *,
+    bits: Optional[int] = None,
+    model: Optional[str] = None,
+    colours: Optional[str] = None,
+    orientation: Optional[int] = None,
+) -> None:
+    """Writes samples, as `write_v0` takes them, to a file that `imread` reads again, and other readers too.
+
+    What the file is to tell besides, as a `Frame` has it, is left out if it isn't given; the bits are 14 then. A file of that name
+    is replaced, once the new one is whole.
+
+    >>> import numpy, razvolk
+    >>> razvolk.imwrite("stored.srw", numpy.full((4, 6), 1_000, numpy.uint16), colours="RGGB")
+    >>> frame = razvolk.imread("stored.srw")
+    >>> frame.clean, frame.colours, int(frame.samples.sum())
+    (True, 'RGGB', 24000)
+
+    Raises `Refusal` 1 and 9, and `OSError` if the file can't be written: a file of that name is as it was then.
+    """
+    _told_within("bits", bits, 16)
+    _told_within("orientation", orientation, 8)
+    stream, offsets = _calls.write_v0(samples)
+    height, width = np.shape(samples)  # type: ignore[arg-type]
+    name = ctypes.create_string_buffer((model or "").encode("ascii", "replace"))
+    found = _library.Found(0, bits or 0, width, height, address(stream), stream.size, 0, height)
+    found.model, found.model_len = ctypes.addressof(name), len(name) - 1
+    found.colours = (ctypes.c_uint8 * 4)(*_numbered(colours))
+    found.orientation = orientation or 0
+    file = np.empty(stream.nbytes + offsets.nbytes + len(name) + 1_024, U8)
+    length = _library.srw.razvolk_srw_write(
+        ctypes.byref(found), address(offsets), address(file), file.size
+    )
+    if length == 0:
+        raise ValueError(
+            f"model {model!r} is no plain text, or the file would have 2^32 bytes or more"
+        )
+    _put(path, file[:length].tobytes())
+
+
+def _told_within(name: str, number: Optional[int], most: int) -> None:
+    if number is not None and not 1 <= operator.index(number) <= most:
+        raise ValueError(f"{name} is {number}, no number from 1 to {most}")
+
+
+def _numbered(colours: Optional[str]) -> list[int]:
+    """The colours of a filter by their numbers in a file."""
+    if colours is None:
+        return [255] * 4
+    if len(colours) != 4 or set(colours) - set("RGB"):
+        raise ValueError(
+            f"colours must be four letters of R, G and B, such as RGGB, not {colours!r}"
+        )
+    return ["RGB".index(colour) for colour in colours]
+
+
+def _put(path: Union[str, os.PathLike[str]], data: bytes) -> None:
+    """Writes a file beside the one of that name, and then puts it in its place. What is no file, such as a pipe, is written to."""
+    whole = os.path.realpath(path)
+    if os.path.exists(whole) and not os.path.isfile(whole):
+        with open(whole, "wb") as device:
+            device.write(data)
+        return
+    part = f"{whole}.{os.getpid()}-{threading.get_ident()}.part"
+    try:
+        with open(part, "xb") as file:
+            file.write(data)
+        os.replace(part, whole)
+    except BaseException:
+        with contextlib.suppress(FileNotFoundError):
+            os.unlink(part)
+        raise

@@ -84,6 +84,7 @@ _RAZVOLK: dict[str, tuple[type, list[Any]]] = {
 
 _SRW: dict[str, tuple[Any, list[Any]]] = {
     "razvolk_srw_find": (FileAnswer, _SLICE + [POINTER(Found)] + _SLICE),
+    "razvolk_srw_write": (c_size_t, [POINTER(Found), c_void_p] + _SLICE),
     "razvolk_srw_text": (c_size_t, _SLICE + [c_char_p, c_size_t]),
     "razvolk_srw_refusal_text": (c_size_t, [c_uint32, c_uint32, c_char_p, c_size_t]),
 }

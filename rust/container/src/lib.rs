@@ -5,7 +5,7 @@
 #![warn(missing_docs)]
 
 use razvolk::Refusal;
-use razvolk::srw::{self, Coding, Fault, Frame};
+use razvolk::srw::{self, Coding, Colour, Fault, Frame};
 use std::{ptr, slice};
 
 /// What a call answers: a number, and what the number speaks of.
@@ -77,6 +77,34 @@ impl Found {
             colours: frame.colour_filter.map_or([NOT_TOLD; 4], |colours| colours.map(|colour| colour as u8)),
             orientation: frame.orientation.unwrap_or(0).into(),
         }
+    }
+}
+
+/// As much as a file has besides offsets, stream and model, at most.
+const MOST_REST: usize = 1_024;
+
+impl Found {
+    /// The frame to be written, of the slices that its pointers are; none where no file can hold it.
+    fn frame<'a>(&self, offsets: &[u32], stream: &'a [u8], model: &'a [u8]) -> Option<Frame<'a>> {
+        let coding = match self.version {
+            0 if offsets.len() == self.height => Coding::V0(offsets.to_vec()),
+            2 if offsets.is_empty() => Coding::V2,
+            _ => return None,
+        };
+        let long = [self.width, self.height, stream.len() + 4 * offsets.len() + model.len() + MOST_REST];
+        let plain = model.iter().all(|letter| (b' '..=b'~').contains(letter));
+        if !plain || long.into_iter().any(|number| number > u32::MAX as usize) || self.orientation > 8 {
+            return None;
+        }
+        let mut frame = Frame::new(coding, self.width, self.height, stream);
+        frame.bits = Some(self.bits).filter(|&bits| bits > 0);
+        frame.model = str::from_utf8(model).ok().filter(|model| !model.is_empty());
+        frame.orientation = u8::try_from(self.orientation).ok().filter(|&orientation| orientation > 0);
+        if self.colours != [NOT_TOLD; 4] {
+            let [a, b, c, d] = self.colours.map(Colour::of);
+            frame.colour_filter = Some([a?, b?, c?, d?]);
+        }
+        Some(frame)
     }
 }
 
@@ -159,6 +187,35 @@ fn copy_offsets(coding: &Coding, into: &mut [u32]) -> Answer {
         }
         None => Answer { number: SHORT_OFFSETS, value: offsets.len() as u32 },
     }
+}
+
+/// Writes a camera's file of a frame. See the header.
+///
+/// # Safety
+///
+/// As the header says: each pointer is good for its length, `found` for a frame, and what is written overlaps nothing else.
+#[unsafe(no_mangle)]
+pub unsafe extern "C" fn razvolk_srw_write(
+    found: *const Found,
+    offsets: *const u32,
+    file: *mut u8,
+    file_len: usize,
+) -> usize {
+    // SAFETY: the caller's promise.
+    let made = unsafe {
+        let found = &*found;
+        found.frame(
+            lent(offsets, found.offsets),
+            lent(found.stream, found.stream_len),
+            lent(found.model, found.model_len),
+        )
+    };
+    let Some(made) = made.map(|frame| frame.to_file()) else { return 0 };
+    // SAFETY: the caller's promise.
+    if let Some(file) = unsafe { lent_mut(file, file_len) }.get_mut(..made.len()) {
+        file.copy_from_slice(&made);
+    }
+    made.len()
 }
 
 /// Tells in words why a file has no frame. See the header.

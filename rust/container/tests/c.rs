@@ -2,7 +2,7 @@
 
 use razvolk::Refusal;
 use razvolk::srw::{Coding, Colour, Fault, Frame, frame};
-use razvolk_srw::{Answer, Found, razvolk_srw_find, razvolk_srw_refusal_text, razvolk_srw_text};
+use razvolk_srw::{Answer, Found, razvolk_srw_find, razvolk_srw_refusal_text, razvolk_srw_text, razvolk_srw_write};
 use std::mem::MaybeUninit;
 use std::slice;
 use streams::images::christening;
@@ -53,6 +53,7 @@ fn hold(file: &[u8]) {
             assert_eq!(part(found.stream, found.stream_len), frame.stream);
             assert_eq!(part(found.model, found.model_len), frame.model.unwrap_or_default().as_bytes());
             assert_eq!(words(file), "");
+            assert_eq!(written(&found, &offsets), frame_of(&found, &frame));
         }
         Err(fault) => {
             assert!((1..=8).contains(&answer.number), "{fault}");
@@ -67,6 +68,28 @@ fn hold(file: &[u8]) {
             assert_eq!(answer.value, value);
         }
     }
+}
+
+/// What C writes of a frame that it found; none if it can't.
+fn written(found: &Found, offsets: &[u32]) -> Option<Vec<u8>> {
+    if found.offsets > offsets.len() {
+        return None;
+    }
+    let mut file = vec![9; found.stream_len + 4 * found.offsets + found.model_len + 1_024];
+    // SAFETY: lengths are those of the slices, and nothing overlaps.
+    let len = unsafe { razvolk_srw_write(found, offsets.as_ptr(), file.as_mut_ptr(), file.len()) };
+    assert!(file[len..].iter().all(|&byte| byte == 9));
+    file.truncate(len);
+    Some(file).filter(|file| !file.is_empty())
+}
+
+/// What the crate writes of it. A height that is never decoded comes without offsets, and makes no file.
+fn frame_of(found: &Found, frame: &Frame) -> Option<Vec<u8>> {
+    let complete = frame.coding == Coding::V2 || found.offsets == found.height && found.offsets <= ROWS;
+    // C has no way to tell 0 bits.
+    let mut told = frame.clone();
+    told.bits = told.bits.filter(|&bits| bits > 0);
+    complete.then(|| told.to_file())
 }
 
 fn part<'a>(at: *const u8, len: usize) -> &'a [u8] {
