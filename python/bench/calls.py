@@ -88,7 +88,8 @@ def threads(count: int) -> None:
 
 print("| V0, with marks | from C | from Python | more |")
 print("|---|---|---|---|")
-beside_c(2, 2, 200, 1_000)
-beside_c(640, 480, 200, 1)
+# Short runs, so that some of them aren't interrupted.
+beside_c(2, 2, 5_000, 20)
+beside_c(640, 480, 1_000, 1)
 beside_c(WIDTH, HEIGHT, 20, 1)
 threads(20)

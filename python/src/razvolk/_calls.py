@@ -255,7 +255,7 @@ def write_v0(
     >>> written = razvolk.write_v0(samples)
     >>> len(written.stream), written.offsets.tolist()
     (24, [0, 8])
-    >>> (razvolk.decode_v0(*written, width=3, height=2).samples == samples).all()
+    >>> numpy.array_equal(razvolk.decode_v0(*written, width=3, height=2).samples, samples)
     True
 
     Raises `Refusal` 1, 9 and 10: nothing is written then.
@@ -395,7 +395,7 @@ def v0_to_v2(
     >>> import numpy, razvolk
     >>> samples = numpy.arange(96, dtype=numpy.uint16).reshape(3, 32)
     >>> stream, frame = razvolk.v0_to_v2(*razvolk.write_v0(samples), width=32, height=3)
-    >>> (razvolk.decode_v2(stream, width=32, height=3).samples == samples).all()
+    >>> numpy.array_equal(razvolk.decode_v2(stream, width=32, height=3).samples, samples)
     True
 
     Raises `Refusal` 1 to 4 and 15: nothing is written then. Raises 16 and 9: `Refusal.frame` is the decoded frame.
@@ -426,7 +426,7 @@ def check_packed(
     >>> import numpy, razvolk
     >>> samples = numpy.array([[0, 16383, 127], [128, 5, 16000]], numpy.uint16)
     >>> stream, offsets = razvolk.write_v0(samples)
-    >>> (razvolk.check_packed(stream, offsets, samples) == samples).all()
+    >>> numpy.array_equal(razvolk.check_packed(stream, offsets, samples), samples)
     True
     >>> try:
     ...     razvolk.check_packed(bytes(stream) + b"-", offsets, samples)
