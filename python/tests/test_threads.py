@@ -2,6 +2,7 @@
 
 from __future__ import annotations
 
+import sys
 import threading
 import time
 from concurrent.futures import ThreadPoolExecutor
@@ -22,25 +23,29 @@ def large() -> razvolk.Written:
 def test_others_run_during_a_call() -> None:
     stream, offsets = large()
     out, marks = np.zeros((HEIGHT, WIDTH), np.uint16), np.zeros((HEIGHT, WIDTH), np.uint8)
-    for _ in range(100):
-        times: list[float] = []
+    times: list[float] = []
 
-        def decode() -> None:
-            times.append(time.perf_counter())
-            razvolk.decode_v0(stream, offsets, WIDTH, HEIGHT, out, marks)
-            times.append(time.perf_counter())
+    def decode() -> None:
+        times.append(time.perf_counter())
+        razvolk.decode_v0(stream, offsets, WIDTH, HEIGHT, out, marks)
+        times.append(time.perf_counter())
 
-        worker = threading.Thread(target=decode)
-        ticks = []
-        worker.start()
-        while worker.is_alive():
-            ticks.append(time.perf_counter())
-        worker.join()
-        begun, ended = times
-        quarter = (ended - begun) / 4
-        # Whoever holds the interpreter's lock lets nobody tick in the middle of the call.
-        if sum(begun + quarter < tick < ended - quarter for tick in ticks) > 10:
-            return
+    # Nobody is made to let go of the interpreter's lock: if the call didn't, no tick could come before it ends.
+    interval = sys.getswitchinterval()
+    sys.setswitchinterval(1_000)
+    try:
+        for _ in range(200):
+            times.clear()
+            ticks: list[float] = []
+            worker = threading.Thread(target=decode)
+            worker.start()
+            while worker.is_alive():
+                ticks.append(time.perf_counter())
+                time.sleep(0)
+            if any(times[0] < tick < times[1] for tick in ticks):
+                return
+    finally:
+        sys.setswitchinterval(interval)
     raise AssertionError("no other thread ran during a call")
 
 
