@@ -33,8 +33,8 @@ extern "C" {
  *   6  V2: a block predicts from outside the frame                        the blocks before it are written
  *   7  V2: a difference is longer than the depth allows                   the blocks before it are written
  *   8  V2: the stream ended                                               that row and those before it are written
- *   9  a sample to be written is above 16,383                             every buffer as it was
- *  10  the stream or the offsets to be written do not fit their buffer    every buffer as it was
+ *   9  a sample to be written is above 16,383                             all as it was, but for a frame blanked or decoded before
+ *  10  the stream or the offsets to be written do not fit their buffer    all as it was, but for a frame blanked or decoded before
  *  11  in bands: the band count or the block width is none that the frame can be cut by             every buffer as it was
  *  12  in bands: the list is too short or too long, or a step is no block's number or is not ready  every buffer as it was
  *  13  blanking: the list is too short for all runs                      every buffer as it was
@@ -48,10 +48,10 @@ extern "C" {
  *  21  packed by others: the stream is longer than what the writer makes            every buffer as it was
  *
  * 1 to 4 are tested in this order, then in bands 11 and 12, for clean frames 17 to 19; then the stream decides. 9 and 10 are a
- * writer's, which tests 1, 3, 9 and 10. Blanking tests 1, 3, 4, 14 and 13; the export goes on to 9 and 10, which leave the frame
- * blanked. V0 into V2 tests 1 to 4 and 15, and when the frame is decoded 16, 9 and 10. What others packed is tested by 1, 3, 9, 3,
- * 17 to 19 and 21, and when the frame is decoded by 20. `row` is the row at fault of 5 to 8 and of 17 to 19, else 0. Samples and
- * map bytes from N on never change.
+ * writer's, which tests 1, 3, 9 and 10 before it writes. Blanking tests 1, 3, 4, 14 and 13; the export goes on to 9 and 10, which
+ * leave the frame blanked. V0 into V2 tests 1 to 4 and 15, and when the frame is decoded 16, 9 and 10, which leave it decoded. What
+ * others packed is tested by 1, 3, 9, 3, 17 to 19 and 21, and when the frame is decoded by 20. `row` is the row at fault of 5 to 8
+ * and of 17 to 19, else 0. Samples and map bytes from N on never change.
  *
  * `filler` is how many words of 4 bytes were missing: fetched where fewer than 4 bytes of the stream remained, and read as ones.
  * The direct V0 decoder tells it when it is done, as the sum over its rows, and V2 with 5 to 8, up to the refusal and from the

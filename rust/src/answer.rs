@@ -31,6 +31,7 @@ pub(crate) struct Written {
 }
 
 impl Written {
+    /// How many bytes were written.
     pub(crate) fn result(self) -> Result<usize, Refusal> {
         // The archive is for x86-64 alone.
         self.answer.result().map(|()| self.length as usize)
@@ -67,7 +68,7 @@ impl Exported {
         let written = self.answer.result().map(|()| self.length as usize);
         match written {
             // The writer's own refusals come after blanking.
-            Err(refusal) if !matches!(refusal, Refusal::TooBright | Refusal::ShortOutput) => Err(refusal),
+            Err(refusal) if !matches!(refusal, Refusal::TooBright { .. } | Refusal::ShortOutput { .. }) => Err(refusal),
             _ => {
                 let blanked = crate::Blanked { count: self.count as usize, runs: self.runs as usize };
                 Ok(crate::Exported { blanked, written })
@@ -76,9 +77,11 @@ impl Exported {
     }
 }
 
-/// Makes [`Refusal`] of one list: each line has the number, the name, the row and the count where there are such, and the text.
+/// Makes [`Refusal`] of one list: each line has the number, the name, the row and the count where there are such, `[begun]` where
+/// the number alone doesn't tell whether a buffer was changed before, and the text.
 macro_rules! refusals {
-    ($(#[$doc:meta])* $($number:literal $name:ident $({ $row:ident $(, $filler:ident)? })? $text:literal;)*) => {
+    ($(#[$doc:meta])*
+    $($number:literal $name:ident $({ $row:ident $(, $filler:ident)? })? $([$begun:ident])? $text:literal;)*) => {
         $(#[$doc])*
         #[derive(Clone, Copy, Debug, PartialEq, Eq, Hash)]
         #[non_exhaustive]
@@ -92,6 +95,10 @@ macro_rules! refusals {
                         /// How many words were missing up to the refusal.
                         $filler: u64,
                     )?
+                })? $({
+                    /// Whether the call had changed the frame before: [`crate::export_v0`] has blanked it, and
+                    /// [`crate::v0_to_v2`] decoded it. Other calls have changed nothing.
+                    $begun: bool,
                 })?,
             )*
             /// A number that this list does not have, from an archive that is newer than the crate.
@@ -107,7 +114,7 @@ macro_rules! refusals {
 
         impl Refusal {
             /// The refusal that a number, a row and a count of missing words tell, as C has them; none of number 0, which is
-            /// done.
+            /// done. Which call gave the number isn't known here, so 9 and 10 count as given after the frame was changed.
             ///
             /// ```
             /// use razvolk::Refusal;
@@ -117,7 +124,7 @@ macro_rules! refusals {
             pub const fn of(number: u32, row: u32, filler: u64) -> Option<Refusal> {
                 Some(match number {
                     0 => return None,
-                    $($number => Refusal::$name $({ $row: row, $($filler: filler)? })?,)*
+                    $($number => Refusal::$name $({ $row: row, $($filler: filler)? })? $({ $begun: true })?,)*
                     _ => Refusal::Other { number, row, filler },
                 })
             }
@@ -168,7 +175,7 @@ macro_rules! refusals {
         impl fmt::Display for Refusal {
             fn fmt(&self, f: &mut fmt::Formatter<'_>) -> fmt::Result {
                 match *self {
-                    $(Refusal::$name $({ $row, .. })? => write!(f, $text),)*
+                    $(Refusal::$name $({ $row, .. })? $({ $begun: _ })? => write!(f, $text),)*
                     Refusal::Other { number, row, .. } => write!(f, "refusal {number} in row {row}"),
                 }
             }
@@ -191,8 +198,8 @@ refusals! {
     /// | 6 | V2: a block predicts from outside the frame | the blocks before it are written |
     /// | 7 | V2: a difference is longer than the depth allows | the blocks before it are written |
     /// | 8 | V2: the stream ended | that row and those before it are written |
-    /// | 9 | a sample to be written is above 16,383 | every buffer as it was |
-    /// | 10 | the stream or the offsets to be written do not fit their buffer | every buffer as it was |
+    /// | 9 | a sample to be written is above 16,383 | all as it was, but for a frame blanked or decoded before |
+    /// | 10 | the stream or the offsets to be written do not fit their buffer | all as it was, but for a frame blanked or decoded before |
     /// | 11 | in bands: the band count or the block width is none that the frame can be cut by | every buffer as it was |
     /// | 12 | in bands: the list is too short or too long, or a step is no block's number or is not ready | every buffer as it was |
     /// | 13 | blanking: the list is too short for all runs | every buffer as it was |
@@ -208,9 +215,9 @@ refusals! {
     /// A decoder tests 1 to 4 in this order, in bands then 11 and 12, for clean frames then 17 to 19 block by block, a writer 1,
     /// 3, 9 and 10, blanking 1, 3, 4, 14 and 13; the export goes on to 9 and 10, which leave the frame blanked and write nothing.
     /// V0 into V2 tests 1 to 4 and 15, and when the frame is decoded 16, 9 and 10. What others packed is tested by 1, 3, 9, 3, 17
-    /// to 19 and 21, and when the frame is decoded by 20. After 5 to 8 the map describes the samples as
-    /// they are left; the row in which the stream ended has ones in place of the missing bits. 5 to 8 carry how many words were
-    /// missing up to there, from the header on: [`Refusal::filler_words`].
+    /// to 19 and 21, and when the frame is decoded by 20. [`Refusal::has_begun`] tells whether a buffer may be changed. After 5 to
+    /// 8 the map describes the samples as they are left; the row in which the stream ended has ones in place of the missing bits.
+    /// 5 to 8 carry how many words were missing up to there, from the header on: [`Refusal::filler_words`].
     ///
     /// ```
     /// use razvolk::Refusal;
@@ -228,8 +235,8 @@ refusals! {
     6 Outside { row, filler } "row {row} predicts from outside the frame";
     7 LongDifference { row, filler } "row {row} has a difference longer than the depth allows";
     8 Overrun { row, filler } "the stream ends in row {row}";
-    9 TooBright "a sample is above 16,383";
-    10 ShortOutput "the buffer for the stream or the offsets is too short";
+    9 TooBright [begun] "a sample is above 16,383";
+    10 ShortOutput [begun] "the buffer for the stream or the offsets is too short";
     11 BadCut "the frame can't be cut into so many bands, or into blocks of that width";
     12 BadSteps "the steps don't do each block of the frame once, each when it is ready";
     13 ShortRuns "the list is too short for all runs";
@@ -244,15 +251,42 @@ refusals! {
 }
 
 impl Refusal {
-    /// Whether the stream was begun, so that samples and map may have changed: 5 to 8.
+    /// Whether a lent buffer may be changed. `false` is a promise: every buffer that was lent to the call is as it was.
+    ///
+    /// It is `true` of 5 to 8, where a decoder has begun to write the frame; of 16 and 20, where the frame is decoded; of 9 and 10
+    /// if [`crate::export_v0`] or [`crate::v0_to_v2`] gave them, which blank or decode the frame before they write it; and of
+    /// numbers that this crate doesn't know ([`Refusal::Other`]). The table above and the page of each call tell what is changed
+    /// then.
     ///
     /// ```
     /// use razvolk::Refusal;
     /// assert!(!Refusal::ShortMap.has_begun());
     /// assert!(Refusal::EarlyMotion { row: 1, filler: 0 }.has_begun());
+    ///
+    /// // The writer refuses before it changes anything; the export has blanked the frame by then.
+    /// let mut samples = [16_384, 60_000];
+    /// let refused = razvolk::write_v0(&samples, 2, 1, &mut [0; 64], &mut [0]).unwrap_err();
+    /// assert_eq!((refused.number(), refused.has_begun()), (9, false));
+    /// let exported = razvolk::export_v0(&mut samples, &[0, 1], 2, 1, &mut [0; 3], &mut [0; 64], &mut [0])?;
+    /// let refused = exported.written.unwrap_err();
+    /// assert_eq!((refused.number(), refused.has_begun(), samples), (9, true, [16_384, 0]));
+    /// # Ok::<(), Refusal>(())
     /// ```
     pub const fn has_begun(self) -> bool {
-        matches!(self.number(), 5..=8)
+        match self {
+            Refusal::TooBright { begun } | Refusal::ShortOutput { begun } => begun,
+            Refusal::Other { .. } => true,
+            _ => matches!(self.number(), 5..=8 | 16 | 20),
+        }
+    }
+
+    /// The same refusal of a call that tests 9 and 10 before it changes anything.
+    pub(crate) const fn unbegun(self) -> Refusal {
+        match self {
+            Refusal::TooBright { .. } => Refusal::TooBright { begun: false },
+            Refusal::ShortOutput { .. } => Refusal::ShortOutput { begun: false },
+            other => other,
+        }
     }
 }
 
@@ -280,6 +314,15 @@ mod tests {
         assert_eq!(error.to_string(), "the stream ends in row 435");
     }
 
+    /// By its number alone, a refusal may have changed something unless no call that gives it does.
+    #[test]
+    fn a_number_whose_call_is_not_known_promises_nothing() {
+        let begun = |number: &u32| Refusal::of(*number, 0, 0).expect("not done").has_begun();
+        assert!((1..=99).filter(begun).eq((5..=10).chain([16, 20]).chain(22..=99)));
+        let unbegun = |number| Refusal::of(number, 0, 0).expect("not done").unbegun();
+        assert_eq!([unbegun(9).has_begun(), unbegun(10).has_begun(), unbegun(16).has_begun()], [false, false, true]);
+    }
+
     #[test]
     fn number_0_is_done() {
         let done = Answer { number: 0, row: 0, filler: 3 };
@@ -289,7 +332,7 @@ mod tests {
         assert_eq!(refused.counted().map(|_| ()), refused.result());
         let written = |number| Written { answer: Answer { number, row: 0, filler: 0 }, length: 24 };
         assert_eq!(written(0).result(), Ok(24));
-        assert_eq!(written(10).result(), Err(Refusal::ShortOutput));
+        assert_eq!(written(10).result(), Err(Refusal::ShortOutput { begun: true }));
         let blanked = |number| Blanked { answer: Answer { number, row: 0, filler: 0 }, count: 5, runs: 2 };
         assert_eq!(blanked(0).result(), Ok(crate::Blanked { count: 5, runs: 2 }));
         assert_eq!(blanked(13).result(), Err(Refusal::ShortRuns));
@@ -297,7 +340,10 @@ mod tests {
             |number| Exported { answer: Answer { number, row: 0, filler: 0 }, count: 5, runs: 2, length: 24 };
         let blanked = crate::Blanked { count: 5, runs: 2 };
         assert_eq!(exported(0).result(), Ok(crate::Exported { blanked, written: Ok(24) }));
-        assert_eq!(exported(9).result(), Ok(crate::Exported { blanked, written: Err(Refusal::TooBright) }));
+        assert_eq!(
+            exported(9).result(),
+            Ok(crate::Exported { blanked, written: Err(Refusal::TooBright { begun: true }) })
+        );
         assert_eq!(exported(14).result(), Err(Refusal::BadMap));
     }
 }

@@ -26,8 +26,8 @@ pub struct Exported {
 /// old values or for missing words. The map is only read; what lies past the runs in the list, and past the frame in the samples,
 /// stays as it was.
 ///
-/// After decoding, nothing of an earlier frame is left in a blanked one, and nothing made of missing words. [`crate::Decoder::blank`] keeps map and list for the
-/// caller.
+/// After decoding, nothing of an earlier frame is left in a blanked one, and nothing made of missing words.
+/// [`crate::Decoder::blank`] keeps map and list for the caller.
 ///
 /// # Errors
 ///
@@ -56,7 +56,7 @@ pub fn blank(
     ffi::razvolk_blank(samples, map, width, height, runs).result()
 }
 
-/// Sets them to a stated fill.
+/// Sets every marked sample of a frame to a stated fill, and lists their runs as [`blank`] does.
 ///
 /// # Errors
 ///
@@ -79,8 +79,8 @@ pub fn blank_with(
     ffi::razvolk_blank_with(samples, map, width, height, fill, runs).result()
 }
 
-/// The archive export: blanks a frame as [`blank_with`] does with fill 0, and writes it as [`crate::write_v0`] does. What is stored so holds
-/// nothing of an earlier frame.
+/// The archive export: blanks a frame as [`blank_with`] does with fill 0, and writes it as [`crate::write_v0`] does. What is
+/// stored so holds nothing of an earlier frame, and nothing made of missing words.
 ///
 /// # Errors
 ///
@@ -176,7 +176,9 @@ mod tests {
     #[test]
     fn an_export_that_cannot_be_written_is_blanked() {
         let map = [0, 1];
-        for (sample, bytes, refusal) in [(16_384, 99, Refusal::TooBright), (5, 3, Refusal::ShortOutput)] {
+        for (sample, bytes, refusal) in
+            [(16_384, 99, Refusal::TooBright { begun: true }), (5, 3, Refusal::ShortOutput { begun: true })]
+        {
             let (mut samples, mut runs) = ([sample, 60_000], [9; 3]);
             let (mut stream, mut offsets) = (vec![9; bytes], [9; 1]);
             let exported = export_v0(&mut samples, &map, 2, 1, &mut runs, &mut stream, &mut offsets).expect("blanked");

@@ -111,7 +111,7 @@ mod tests {
         assert!(stream[length..].iter().all(|&b| b == 9), "what lies past the stream is unchanged");
 
         let (short, samples, _, stream) = called((&v0, &offsets), size, (n, n, length - 1));
-        assert_eq!(short, Err(Refusal::ShortOutput));
+        assert_eq!(short, Err(Refusal::ShortOutput { begun: true }));
         assert!(samples == dim && stream.iter().all(|&b| b == 9));
         assert_eq!(called((&v0, &offsets), size, (n, n, length)).0, Ok(length));
 

@@ -143,7 +143,8 @@ impl Decoder {
     }
 
     /// The marks of the last frame, as its samples were left: after done, and after refusals 5 to 8. None if there was no
-    /// call, or if the last was refused by 1 to 3 or 17 to 19 and left the samples as they were.
+    /// call, or if the last was refused by 1 to 3 or 17 to 19 and left the samples as they were, or by a number that this crate
+    /// doesn't know ([`Refusal::Other`]).
     ///
     /// ```
     /// let mut decoder = razvolk::Decoder::new();
@@ -223,7 +224,8 @@ impl Decoder {
 
     /// Keeps what a call tells: the count of missing words, or the refusal.
     fn answered(&mut self, answer: Result<u64, Refusal>, width: usize, height: usize) -> Result<Marks<'_>, Refusal> {
-        let begun = answer.map_or_else(Refusal::has_begun, |_| true);
+        // Of a refusal that the crate doesn't know, nobody can say what the map tells.
+        let begun = answer.map_or_else(|refusal| matches!(refusal.number(), 5..=8), |_| true);
         let filler = answer.unwrap_or_else(Refusal::filler_words);
         self.frame = begun.then(|| (width, width * height, filler));
         answer.map(|_| self.marks().expect("the frame is done"))

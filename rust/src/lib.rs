@@ -21,12 +21,12 @@
 //! `samsung.rs`, which they replace: `decode_v0_reference` is the direct V0 decoder, the one that the others are held to, and
 //! not a slow one; `decode_v0` is the one in two phases, and [`decode_v0_bands`] its second phase in a scheduler's sequence.
 //! All give the same samples. [`decode_v0_clean`] takes only frames with nothing inherited. [`write_v0`] writes samples as V0,
-//! for storage; [`write_v0_to_vecs`] asks for the memory, too. [`blank`] sets the samples that rest on an earlier frame to what
-//! lies to their left, [`blank_with`] to a flat value, and [`export_v0`] sets them to 0 and writes the frame. [`v0_to_v2`] turns a
-//! V0 frame into V2. [`check_packed`] takes a stream that another program packed, if it is no worse. [`srw`] reads and writes a camera's file, and [`Ph1Bits`] is the bit reader. Who comes from `samsung.rs`
-//! finds each call in `docs/MIGRATION.md`.
+//! for storage; [`write_v0_to_vecs`] asks for the memory, too. [`blank`] sets the samples that rest on an earlier frame or on
+//! missing words to what lies to their left, [`blank_with`] to a flat value, and [`export_v0`] sets them to 0 and writes the
+//! frame. [`v0_to_v2`] turns a V0 frame into V2. [`check_packed`] takes a stream that another program packed, if it is no worse.
+//! [`srw`] reads and writes a camera's file, and [`Ph1Bits`] is the bit reader. If you are coming from `samsung.rs`,
+//! `docs/MIGRATION.md` maps each call.
 #![warn(missing_docs)]
-#![deny(unsafe_code)]
 
 mod answer;
 mod bands;

@@ -44,7 +44,7 @@ pub fn check_packed(
     meant: &[u16],
     scratch: &mut [u16],
 ) -> Result<(), Refusal> {
-    ffi::razvolk_check_packed(src, row_offsets, width, height, meant, scratch).result()
+    ffi::razvolk_check_packed(src, row_offsets, width, height, meant, scratch).result().map_err(Refusal::unbegun)
 }
 
 #[cfg(test)]
@@ -69,7 +69,7 @@ mod tests {
 
     /// A refusal with its row, and nothing changed.
     fn unchanged(number: u32, row: u32, scratch: usize) -> (Result<(), Refusal>, Vec<u16>) {
-        (Err(Refusal::of(number, row, 0).expect("not done")), vec![7; scratch])
+        (Err(Refusal::of(number, row, 0).expect("not done").unbegun()), vec![7; scratch])
     }
 
     #[test]

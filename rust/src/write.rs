@@ -34,7 +34,7 @@ pub fn write_v0(
     stream: &mut [u8],
     offsets: &mut [u32],
 ) -> Result<usize, Refusal> {
-    ffi::razvolk_write_v0(samples, width, height, stream, offsets).result()
+    ffi::razvolk_write_v0(samples, width, height, stream, offsets).result().map_err(Refusal::unbegun)
 }
 
 /// Writes as [`write_v0`] does, and hands out the stream and the offset of each row.
@@ -58,7 +58,7 @@ pub fn write_v0(
 /// assert_eq!(back, samples);
 ///
 /// let refused = razvolk::write_v0_to_vecs(&[16_384], 1, 1).unwrap_err();
-/// assert_eq!(refused, razvolk::Refusal::TooBright);
+/// assert_eq!(refused, razvolk::Refusal::TooBright { begun: false });
 /// # Ok::<(), razvolk::Refusal>(())
 /// ```
 pub fn write_v0_to_vecs(samples: &[u16], width: usize, height: usize) -> Result<(Vec<u8>, Vec<u32>), Refusal> {
@@ -123,7 +123,7 @@ mod tests {
         for (samples, (width, height), bytes, rows, number) in cases {
             let (mut stream, mut offsets) = (vec![9; bytes], vec![9; rows]);
             let answer = write_v0(samples, width, height, &mut stream, &mut offsets);
-            assert_eq!(answer.err(), Refusal::of(number, 0, 0), "{width} by {height}");
+            assert_eq!(answer.map_err(|e| (e.number(), e.has_begun())), Err((number, false)), "{width} by {height}");
             assert_eq!((stream, offsets), (vec![9; bytes], vec![9; rows]));
         }
         let more = [0, 0, 0, 0, 16_384];

@@ -3,6 +3,8 @@
 //!
 //! No memory is kept from call to call: what a call finds are positions in the file that it was lent, and numbers.
 #![warn(missing_docs)]
+// Every function takes pointers from C.
+#![allow(unsafe_code)]
 
 use razvolk::Refusal;
 use razvolk::srw::{self, Coding, Colour, Fault, Frame};

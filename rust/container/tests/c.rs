@@ -1,4 +1,6 @@
 //! What C is told of a file is what `razvolk::srw` finds in it.
+// The functions are called as C calls them.
+#![allow(unsafe_code)]
 
 use razvolk::Refusal;
 use razvolk::srw::{Coding, Colour, Fault, Frame, frame};

@@ -2,11 +2,13 @@
 //! places is said alike in all of them. It needs neither the archive nor the reference.
 
 pub mod answers;
+pub mod contracts;
 pub mod definitions;
 pub mod edits;
 pub mod interface;
 pub mod layers;
 pub mod markdown;
+pub mod references;
 
 use std::fmt::Display;
 use std::path::{Path, PathBuf};

@@ -1,7 +1,6 @@
 //! Coded frames that are made: random and damaged ones that use all that the formats have, hostile ones, and images as an
 //! encoder would store them. Comparisons, timings, tests and examples take theirs from here; the same seed gives the same
 //! frames everywhere. Nothing here leans on a decoder.
-#![forbid(unsafe_code)]
 
 pub mod bits;
 pub mod images;

@@ -37,17 +37,22 @@ fn header(frame: &Frame) -> String {
 pub fn answer(answer: Result<(), Refusal>) -> String {
     match answer {
         Ok(()) => "done".into(),
-        Err(refusal) if refusal.has_begun() => {
+        Err(refusal) if ends_a_frame(refusal) => {
             format!("refused {}, row {}: {refusal}", refusal.number(), refusal.row())
         }
         Err(refusal) => format!("refused {}: {refusal}", refusal.number()),
     }
 }
 
+/// Whether it is one of V2's refusals, 5 to 8, that end a frame in a row.
+fn ends_a_frame(refusal: Refusal) -> bool {
+    matches!(refusal.number(), 5..=8)
+}
+
 /// Which rows of a V2 frame stand that a refusal ended: those before it read only words that are there, so that no other bytes
 /// from its words on change them.
 pub fn standing(answer: Result<(), Refusal>) -> String {
-    match answer.err().filter(|refusal| refusal.has_begun()).map(|refusal| refusal.row()) {
+    match answer.err().filter(|&refusal| ends_a_frame(refusal)).map(|refusal| refusal.row()) {
         None => String::new(),
         Some(0) => "no row stands\n".into(),
         Some(1) => "row 0 stands, whatever bytes come after it\n".into(),

@@ -1,6 +1,9 @@
 //! What libFuzzer calls: what C finds in a file. `make fuzz-srw` builds this with counters of the edges that a file reaches, and with
 //! checks of overflow.
 
+// The fuzzer hands over a pointer, and what is tried takes some.
+#![allow(unsafe_code)]
+
 use razvolk_srw::{razvolk_srw_find, razvolk_srw_text};
 use std::mem::MaybeUninit;
 use std::slice;
