@@ -362,7 +362,8 @@ def test_files(tmp_path: Path) -> None:
     with pytest.raises(razvolk.NoFrame, match="not a TIFF file"):
         razvolk.imread(str(tmp_path / "empty.srw"))
     assert razvolk.NoFrame.__mro__[1] is ValueError and razvolk.Refusal.__mro__[1] is ValueError
-    for data in ("text", 7, None, np.zeros(9)):
+    wrong: list[Any] = ["text", 7, None, np.zeros(9)]
+    for data in wrong:
         with pytest.raises(TypeError, match="data"):
             razvolk.find(data)
     opened = len(os.listdir("/proc/self/fd"))

@@ -35,6 +35,7 @@ def answered(
 
 def in_two_phases(call: Call, samples: NDArray[np.uint16]) -> None:
     """The other V0 decoder, refused where the first is."""
+    assert call.offsets is not None
     try:
         razvolk.decode_v0_bands(
             call.stream, call.offsets, call.width, call.height, 1, 16, None, samples
@@ -146,7 +147,7 @@ def test_any_sequence_of_ready_steps_gives_the_same_samples(seed: int) -> None:
         done[band] += 1
     out = rng.integers(0, 65_536, (call.height, call.width)).astype(np.uint16)
     plain = answered(call, out.copy().ravel())[1]
-    assert plain is not None
+    assert plain is not None and call.offsets is not None
     banded = razvolk.decode_v0_bands(
         call.stream, call.offsets, call.width, call.height, bands, block_width, steps, out
     )

@@ -69,6 +69,9 @@ def hold(
         )
         assert frame.runs.tolist() == line["runs"]
         assert not (frame.clean and line["runs"])
+        if "error" not in line:
+            # Of what is refused, the frame tells only of what was decoded.
+            assert line.get("clean", frame.clean) == frame.clean or refusal is not None
     return None if refusal else frame
 
 

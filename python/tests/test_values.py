@@ -132,8 +132,9 @@ class TestBands:
 
     def test_wrong_lists(self) -> None:
         good = [0, 3, 6, 1, 4, 7, 2, 5, 8]
-        wrong = [good[1:], good[:8], [*good, 8], [3, 0, *good[2:]], [*good[:8], 7], [*good[:8], 9]]
-        for steps in [*wrong, [*good[:8], 2**32 - 1], []]:
+        lists = [good[1:], good[:8], [*good, 8], [3, 0, *good[2:]], [*good[:8], 7], [*good[:8], 9]]
+        wrong: list[list[int]] = [*lists, [*good[:8], 2**32 - 1], []]
+        for steps in wrong:
             refused(12, 0, lambda: razvolk.decode_v0_bands(b"", [0] * 9, 40, 9, 3, 16, steps))
         samples = razvolk.decode_v0_bands(b"", [0] * 9, 40, 9, 3, 16, good)
         assert_array_equal(samples, razvolk.decode_v0_bands(b"", [0] * 9, 40, 9, 3, 16))

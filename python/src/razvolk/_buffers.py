@@ -7,17 +7,29 @@ and a memory map can't be closed by another thread.
 from __future__ import annotations
 
 import operator
-from typing import TYPE_CHECKING, Any, Optional, SupportsIndex
+from typing import TYPE_CHECKING, Any, Optional, SupportsIndex, Union
 
 import numpy as np
 
 if TYPE_CHECKING:
+    import ctypes
+    from array import array
+    from collections.abc import Sequence
+    from mmap import mmap
+
     from numpy.typing import NDArray
 
     Samples = NDArray[np.uint16]
     Bytes = NDArray[np.uint8]
     Numbers = NDArray[np.uint32]
     Array = NDArray[Any]
+
+    # What may be lent: an array, or a buffer that has no dtype of NumPy's.
+    Buffer = Union[bytes, bytearray, memoryview, mmap, array[Any], ctypes.Array[Any]]
+    LentBytes = Union[Bytes, Buffer]
+    LentSamples = Union[Samples, Buffer]
+    LentNumbers = Union[Numbers, Buffer]
+    NumbersLike = Union[NDArray[np.integer[Any]], Buffer, Sequence[int]]
 
 MAX_SIDE = 16_384
 """The largest width and height; more is refusal 1."""

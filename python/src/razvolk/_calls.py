@@ -14,10 +14,19 @@ from . import _library
 from ._buffers import U8, U16, U32, address, apart, flat, framed, image, numbers, room, side, within
 from ._buffers import stream as stream_of
 from ._frame import Blanked, Converted, Exported, Frame, Written
-from ._refusal import Refusal, hold
+from ._refusal import hold
 
 if TYPE_CHECKING:
-    from ._buffers import Array, Bytes, Numbers, Samples
+    from ._buffers import (
+        Array,
+        Bytes,
+        LentBytes,
+        LentNumbers,
+        LentSamples,
+        Numbers,
+        NumbersLike,
+        Samples,
+    )
 
 _C = _library.razvolk
 
@@ -27,13 +36,24 @@ def _slices(*arrays: Array) -> list[int]:
     return [part for array in arrays for part in (address(array), array.size)]
 
 
+def _size(width: SupportsIndex, height: SupportsIndex) -> tuple[int, int]:
+    return side(width, "width"), side(height, "height")
+
+
+def _written(
+    out: Optional[LentSamples], marks: Optional[LentBytes], width: int, height: int
+) -> tuple[Samples, Bytes]:
+    """What a frame's samples and marks are written to."""
+    return room(out, "out", U16, width, height), room(marks, "marks", U8, width, height)
+
+
 def decode_v0(
-    stream: object,
-    offsets: object,
+    stream: LentBytes,
+    offsets: NumbersLike,
     width: SupportsIndex,
     height: SupportsIndex,
-    out: Optional[object] = None,
-    marks: Optional[object] = None,
+    out: Optional[LentSamples] = None,
+    marks: Optional[LentBytes] = None,
 ) -> Frame:
     """Decodes a V0 frame; row r is read from byte `offsets[r]` of the stream on.
 
@@ -59,12 +79,12 @@ def decode_v0(
 
 
 def decode_v0_clean(
-    stream: object,
-    offsets: object,
+    stream: LentBytes,
+    offsets: NumbersLike,
     width: SupportsIndex,
     height: SupportsIndex,
-    out: Optional[object] = None,
-    marks: Optional[object] = None,
+    out: Optional[LentSamples] = None,
+    marks: Optional[LentBytes] = None,
 ) -> Frame:
     """Decodes a V0 frame as `decode_v0` does, if it is clean: nothing in it rests on what the array held or on missing words.
 
@@ -84,18 +104,16 @@ def decode_v0_clean(
 
 def _decode_v0(
     decode: Callable[..., _library.Answer],
-    stream: object,
-    offsets: object,
+    stream: LentBytes,
+    offsets: NumbersLike,
     width: SupportsIndex,
     height: SupportsIndex,
-    out: Optional[object],
-    marks: Optional[object],
+    out: Optional[LentSamples],
+    marks: Optional[LentBytes],
 ) -> Frame:
     read, rows = stream_of(stream), numbers(offsets, "offsets")
-    columns, lines = side(width, "width"), side(height, "height")
-    samples, marked = room(out, "out", U16, columns, lines), room(
-        marks, "marks", U8, columns, lines
-    )
+    columns, lines = _size(width, height)
+    samples, marked = _written(out, marks, columns, lines)
     apart({"out": samples, "marks": marked}, {"stream": read, "offsets": rows})
     answer = decode(*_slices(read, rows), columns, lines, *_slices(samples, marked))
     hold(answer)
@@ -111,14 +129,14 @@ def _frame(
 
 
 def decode_v0_bands(
-    stream: object,
-    offsets: object,
+    stream: LentBytes,
+    offsets: NumbersLike,
     width: SupportsIndex,
     height: SupportsIndex,
     bands: SupportsIndex,
     block_width: SupportsIndex,
-    steps: Optional[object] = None,
-    out: Optional[object] = None,
+    steps: Optional[NumbersLike] = None,
+    out: Optional[LentSamples] = None,
 ) -> Samples:
     """Decodes a V0 frame in two phases, the second by a scheduler's list of steps: the samples of `decode_v0`, without marks.
 
@@ -135,7 +153,7 @@ def decode_v0_bands(
     Raises `Refusal` 1, 3, 11 and 12: nothing is written then.
     """
     read, rows = stream_of(stream), numbers(offsets, "offsets")
-    columns, lines = side(width, "width"), side(height, "height")
+    columns, lines = _size(width, height)
     count, block = side(bands, "bands"), side(block_width, "block_width")
     list_ = _every_step(columns, lines, count, block) if steps is None else numbers(steps, "steps")
     samples = room(out, "out", U16, columns, lines)
@@ -172,22 +190,18 @@ def step_count(
     >>> razvolk.step_count(33, 9, bands=3, block_width=16)
     9
     """
-    columns, lines, block = (
-        side(width, "width"),
-        side(height, "height"),
-        side(block_width, "block_width"),
-    )
+    (columns, lines), block = _size(width, height), side(block_width, "block_width")
     if block == 0:
         raise ValueError("block_width is 0")
     return -(-columns // block) * side(bands, "bands") if lines > 2 else 0
 
 
 def decode_v2(
-    stream: object,
+    stream: LentBytes,
     width: SupportsIndex,
     height: SupportsIndex,
-    out: Optional[object] = None,
-    marks: Optional[object] = None,
+    out: Optional[LentSamples] = None,
+    marks: Optional[LentBytes] = None,
 ) -> Frame:
     """Decodes a V2 frame, a camera's or a crop of 32 by 1 or more. `out` and `marks` are lent as to `decode_v0`.
 
@@ -201,10 +215,8 @@ def decode_v2(
     Raises `Refusal` 1 to 4: nothing is written then. Raises 5 to 8, which leave the blocks before the fault: `Refusal.frame` is
     the frame as it is left.
     """
-    read, columns, lines = stream_of(stream), side(width, "width"), side(height, "height")
-    samples, marked = room(out, "out", U16, columns, lines), room(
-        marks, "marks", U8, columns, lines
-    )
+    read, (columns, lines) = stream_of(stream), _size(width, height)
+    samples, marked = _written(out, marks, columns, lines)
     apart({"out": samples, "marks": marked}, {"stream": read})
     answer = _C.razvolk_decode_v2_map(*_slices(read), columns, lines, *_slices(samples, marked))
 
@@ -244,7 +256,7 @@ def _used(array: Bytes, length: int, own: bool) -> Bytes:
 
 
 def write_v0(
-    samples: object, stream: Optional[object] = None, offsets: Optional[object] = None
+    samples: LentSamples, stream: Optional[LentBytes] = None, offsets: Optional[LentNumbers] = None
 ) -> Written:
     """Writes samples, height by width and none above 16,383, as V0. Every V0 decoder gives them back, over any array.
 
@@ -270,7 +282,7 @@ def write_v0(
 
 
 def _output(
-    stream: Optional[object], offsets: Optional[object], width: int, height: int
+    stream: Optional[LentBytes], offsets: Optional[LentNumbers], width: int, height: int
 ) -> tuple[Bytes, Numbers]:
     """What a V0 stream is written to: as lent, or long enough."""
     allowed = within(width, height)
@@ -285,7 +297,7 @@ def _output(
     return coded, rows
 
 
-def blank(samples: object, marks: object, fill: Optional[SupportsIndex] = None) -> Blanked:
+def blank(samples: LentSamples, marks: LentBytes, fill: Optional[SupportsIndex] = None) -> Blanked:
     """Sets every marked sample to a fill, or without one to the nearest sample to its left, of its colour, that isn't marked.
 
     Both are height by width. Nothing of an earlier frame is left in the frame then, and nothing made of missing words. The marks
@@ -319,7 +331,7 @@ def blank(samples: object, marks: object, fill: Optional[SupportsIndex] = None) 
     return Blanked(int(answer.count), runs)
 
 
-def _marked(samples: object, marks: object) -> tuple[Samples, Bytes]:
+def _marked(samples: LentSamples, marks: LentBytes) -> tuple[Samples, Bytes]:
     """A frame that is to be blanked, and its marks."""
     frame, marked = image(samples, "samples", U16, write=True), image(marks, "marks", U8)
     if frame.shape != marked.shape:
@@ -347,10 +359,10 @@ def _listed(call: Callable[[Numbers], Any], width: int, height: int) -> tuple[An
 
 
 def export_v0(
-    samples: object,
-    marks: object,
-    stream: Optional[object] = None,
-    offsets: Optional[object] = None,
+    samples: LentSamples,
+    marks: LentBytes,
+    stream: Optional[LentBytes] = None,
+    offsets: Optional[LentNumbers] = None,
 ) -> Exported:
     """Sets every marked sample to 0 and writes the frame as V0, for an archive. `stream` and `offsets` lend as to `write_v0`.
 
@@ -383,12 +395,12 @@ def export_v0(
 
 
 def v0_to_v2(
-    stream: object,
-    offsets: object,
+    stream: LentBytes,
+    offsets: NumbersLike,
     width: SupportsIndex,
     height: SupportsIndex,
-    out: Optional[object] = None,
-    marks: Optional[object] = None,
+    out: Optional[LentSamples] = None,
+    marks: Optional[LentBytes] = None,
 ) -> Converted:
     """Turns a clean V0 frame whose width is a multiple of 16 into V2. `out` and `marks` are lent as to `decode_v0`.
 
@@ -401,10 +413,8 @@ def v0_to_v2(
     Raises `Refusal` 1 to 4 and 15: nothing is written then. Raises 16 and 9: `Refusal.frame` is the decoded frame.
     """
     read, rows = stream_of(stream), numbers(offsets, "offsets")
-    columns, lines = side(width, "width"), side(height, "height")
-    samples, marked = room(out, "out", U16, columns, lines), room(
-        marks, "marks", U8, columns, lines
-    )
+    columns, lines = _size(width, height)
+    samples, marked = _written(out, marks, columns, lines)
     apart({"out": samples, "marks": marked}, {"stream": read, "offsets": rows})
     coded = _own(_most_v2_bytes(columns, lines), within(columns, lines))
     lent = _slices(read, rows), _slices(samples, marked, coded)
@@ -417,7 +427,7 @@ def v0_to_v2(
 
 
 def check_packed(
-    stream: object, offsets: object, samples: object, out: Optional[object] = None
+    stream: LentBytes, offsets: NumbersLike, samples: LentSamples, out: Optional[LentSamples] = None
 ) -> Samples:
     """Takes a V0 stream that another program packed, if it is clean, holds the samples meant, and isn't longer than `write_v0`'s.
 
@@ -456,7 +466,7 @@ def check_packed(
     return framed(scratch, width, height)
 
 
-def to_planes(samples: object, out: Optional[object] = None) -> Samples:
+def to_planes(samples: LentSamples, out: Optional[LentSamples] = None) -> Samples:
     """Rearranges samples, height by width, so that equal colours lie together: even rows and even columns, even and odd, odd and
     even, odd and odd. The result is flat; `out` lends it, as long or longer.
 
@@ -479,7 +489,10 @@ def to_planes(samples: object, out: Optional[object] = None) -> Samples:
 
 
 def from_planes(
-    planes: object, width: SupportsIndex, height: SupportsIndex, out: Optional[object] = None
+    planes: LentSamples,
+    width: SupportsIndex,
+    height: SupportsIndex,
+    out: Optional[LentSamples] = None,
 ) -> Samples:
     """The way back from `to_planes`: samples, height by width. `out` is lent as to `decode_v0`.
 
@@ -490,7 +503,7 @@ def from_planes(
     Raises `Refusal` 1 and 3: nothing is written then.
     """
     read = flat(planes, "planes", U16)
-    columns, lines = side(width, "width"), side(height, "height")
+    columns, lines = _size(width, height)
     samples = room(out, "out", U16, columns, lines)
     apart({"out": samples}, {"planes": read})
     hold(_C.razvolk_from_planes(*_slices(read), columns, lines, *_slices(samples)))

@@ -13,7 +13,7 @@ from ._buffers import U8, side, within
 from ._frame import Frame
 
 if TYPE_CHECKING:
-    from ._buffers import Bytes
+    from ._buffers import Bytes, LentBytes, LentSamples, NumbersLike
 
 
 class Decoder:
@@ -37,22 +37,22 @@ class Decoder:
 
     def decode_v0(
         self,
-        stream: object,
-        offsets: object,
+        stream: LentBytes,
+        offsets: NumbersLike,
         width: SupportsIndex,
         height: SupportsIndex,
-        out: Optional[object] = None,
+        out: Optional[LentSamples] = None,
     ) -> Frame:
         """Decodes a V0 frame: see `decode_v0`."""
         return _calls.decode_v0(stream, offsets, width, height, out, self._marks(width, height))
 
     def decode_v0_clean(
         self,
-        stream: object,
-        offsets: object,
+        stream: LentBytes,
+        offsets: NumbersLike,
         width: SupportsIndex,
         height: SupportsIndex,
-        out: Optional[object] = None,
+        out: Optional[LentSamples] = None,
     ) -> Frame:
         """Decodes a V0 frame if it is clean: see `decode_v0_clean`."""
         return _calls.decode_v0_clean(
@@ -61,15 +61,17 @@ class Decoder:
 
     def decode_v2(
         self,
-        stream: object,
+        stream: LentBytes,
         width: SupportsIndex,
         height: SupportsIndex,
-        out: Optional[object] = None,
+        out: Optional[LentSamples] = None,
     ) -> Frame:
         """Decodes a V2 frame: see `decode_v2`."""
         return _calls.decode_v2(stream, width, height, out, self._marks(width, height))
 
-    def imread(self, path: Union[str, os.PathLike[str]], out: Optional[object] = None) -> Frame:
+    def imread(
+        self, path: Union[str, os.PathLike[str]], out: Optional[LentSamples] = None
+    ) -> Frame:
         """Decodes the frame of a camera's file: see `imread`."""
         coded = _file.read(path)
         return coded.decode(out, self._marks(coded.width, coded.height))

@@ -18,7 +18,7 @@ from ._frame import Frame
 from ._refusal import NoFrame, Refusal, told
 
 if TYPE_CHECKING:
-    from ._buffers import Bytes, Numbers
+    from ._buffers import Bytes, LentBytes, LentSamples, Numbers
 
 
 @dataclass(frozen=True, eq=False, repr=False)
@@ -46,7 +46,7 @@ class Coded:
     orientation: Optional[int]
     """How the picture is to be turned, if the file tells it: 1 to 8, as TIFF counts."""
 
-    def decode(self, out: Optional[object] = None, marks: Optional[object] = None) -> Frame:
+    def decode(self, out: Optional[LentSamples] = None, marks: Optional[LentBytes] = None) -> Frame:
         """Decodes the frame, as `decode_v0` or `decode_v2` does."""
         try:
             if self.version == 0:
@@ -74,7 +74,7 @@ class Coded:
         return f"<razvolk.Coded: {size}, {self.stream.size} bytes of stream, {self.missing_bytes} missing>"
 
 
-def find(data: object) -> Coded:
+def find(data: LentBytes) -> Coded:
     """Finds the frame in the bytes of a camera's file, any buffer. Nothing is copied but the offsets.
 
     >>> import pathlib, razvolk
@@ -126,7 +126,7 @@ def read(path: Union[str, os.PathLike[str]]) -> Coded:
         return find(file.read())
 
 
-def imread(path: Union[str, os.PathLike[str]], out: Optional[object] = None) -> Frame:
+def imread(path: Union[str, os.PathLike[str]], out: Optional[LentSamples] = None) -> Frame:
     """Decodes the frame of a camera's file, into `out` if that is lent, as `decode_v0` has it.
 
     >>> import razvolk
@@ -144,7 +144,7 @@ def imread(path: Union[str, os.PathLike[str]], out: Optional[object] = None) -> 
 
 def imwrite(
     path: Union[str, os.PathLike[str]],
-    samples: object,
+    samples: LentSamples,
     *,
     bits: Optional[int] = None,
     model: Optional[str] = None,
