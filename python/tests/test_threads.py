@@ -7,8 +7,10 @@ import threading
 import time
 from concurrent.futures import ThreadPoolExecutor
 from pathlib import Path
+from typing import Any
 
 import numpy as np
+import pytest
 import razvolk
 from frames import picture
 from numpy.testing import assert_array_equal
@@ -107,3 +109,35 @@ def test_threads_may_share_a_decoder(tmp_path: Path) -> None:
 
     with ThreadPoolExecutor(8) as pool:
         assert all(pool.map(work, range(2_000)))
+
+
+def test_an_array_whose_dtype_changes_meanwhile_is_no_harm() -> None:
+    offsets: Any = np.zeros(40, np.uint32)
+    stop = threading.Event()
+
+    def change() -> None:
+        while not stop.is_set():
+            offsets.dtype = np.dtype(np.uint8)
+            offsets.dtype = np.dtype(np.uint32)
+
+    class Width:
+        """Changes the array of offsets once it is checked."""
+
+        def __index__(self) -> int:
+            offsets.dtype = np.dtype(np.uint8)
+            return 16
+
+    with pytest.raises(razvolk.Refusal) as caught:
+        razvolk.decode_v0(b"", offsets, Width(), 41)
+    assert caught.value.number == 3, "40 offsets, and not 160"
+    offsets.dtype = np.dtype(np.uint32)
+    changer = threading.Thread(target=change)
+    changer.start()
+    try:
+        for _ in range(3_000):
+            with pytest.raises((razvolk.Refusal, TypeError)) as caught_again:
+                razvolk.decode_v0(b"", offsets, 16, 161)
+            assert getattr(caught_again.value, "number", 3) == 3
+    finally:
+        stop.set()
+        changer.join()

@@ -312,7 +312,7 @@ class TestBlank:
         assert frame.tolist() == [[5, 0, 0], [6, 0, 7]], "blanked"
         assert (
             refusal.frame is not None
-            and refusal.frame.samples is frame
+            and np.shares_memory(refusal.frame.samples, frame)
             and len(refusal.frame.runs) == 2
         )
         exported = razvolk.export_v0(np.array(self.OLD, np.uint16), self.MARKS)

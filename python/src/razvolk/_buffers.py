@@ -65,7 +65,8 @@ def _array(value: object, name: str, dtype: np.dtype[Any]) -> Array:
             f"{name} is a masked array, whose mask would be passed over: lend its .data"
         )
     if isinstance(value, np.ndarray):
-        return np.asarray(value)
+        # An array object of our own: what another thread does to the shape or dtype of theirs doesn't reach the call.
+        return np.ndarray.view(value, np.ndarray)
     try:
         view = memoryview(value)  # type: ignore[arg-type]
     except TypeError:
@@ -162,8 +163,14 @@ def room(
     return array
 
 
-def framed(array: Array, width: int, height: int) -> Array:
-    """The frame in an array that was lent for it: the array itself, or a view of its first elements."""
+def framed(array: Array, width: int, height: int, value: Optional[object] = None) -> Array:
+    """The frame in an array that was lent for it: the array that was lent, if it is one of that shape, or a view of it."""
+    if (
+        isinstance(value, np.ndarray)
+        and type(value) is np.ndarray
+        and value.shape == (height, width)
+    ):
+        return value
     return array if array.ndim == 2 else array[: width * height].reshape(height, width)
 
 

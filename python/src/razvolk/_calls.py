@@ -117,15 +117,20 @@ def _decode_v0(
     apart({"out": samples, "marks": marked}, {"stream": read, "offsets": rows})
     answer = decode(*_slices(read, rows), columns, lines, *_slices(samples, marked))
     hold(answer)
-    return _frame(samples, marked, columns, lines, 0, answer)
+    return _frame(out, samples, marked, columns, lines, 0, answer)
 
 
 def _frame(
-    samples: Array, marks: Array, width: int, height: int, version: int, answer: _library.Answer
+    out: Optional[object],
+    samples: Array,
+    marks: Array,
+    width: int,
+    height: int,
+    version: int,
+    answer: _library.Answer,
 ) -> Frame:
-    return Frame(
-        framed(samples, width, height), framed(marks, width, height), version, int(answer.filler)
-    )
+    decoded = framed(samples, width, height, out)
+    return Frame(decoded, framed(marks, width, height), version, int(answer.filler))
 
 
 def decode_v0_bands(
@@ -162,7 +167,7 @@ def decode_v0_bands(
     apart({"out": samples}, {"stream": read, "offsets": rows, "steps": list_})
     lent = _slices(read, rows), _slices(samples, scratch), _slices(list_)
     hold(_C.razvolk_decode_v0_bands(*lent[0], columns, lines, *lent[1], count, block, *lent[2]))
-    return framed(samples, columns, lines)
+    return framed(samples, columns, lines, out)
 
 
 def _every_step(width: int, height: int, bands: int, block_width: int) -> Numbers:
@@ -222,10 +227,10 @@ def decode_v2(
 
     def left() -> Optional[Frame]:
         begun = answer.number in (0, 5, 6, 7, 8)
-        return _frame(samples, marked, columns, lines, 2, answer) if begun else None
+        return _frame(out, samples, marked, columns, lines, 2, answer) if begun else None
 
     hold(answer, left)
-    return _frame(samples, marked, columns, lines, 2, answer)
+    return _frame(out, samples, marked, columns, lines, 2, answer)
 
 
 def most_v0_bytes(width: SupportsIndex, height: SupportsIndex) -> int:
@@ -420,7 +425,7 @@ def v0_to_v2(
     lent = _slices(read, rows), _slices(samples, marked, coded)
     written = _C.razvolk_v0_to_v2(*lent[0], columns, lines, *lent[1])
     decoded = written.answer.number in (0, 9, 10, 16)
-    frame = _frame(samples, marked, columns, lines, 0, written.answer) if decoded else None
+    frame = _frame(out, samples, marked, columns, lines, 0, written.answer) if decoded else None
     hold(written.answer, lambda: frame)
     assert frame is not None
     return Converted(_used(coded, int(written.length), True), frame)
@@ -459,11 +464,11 @@ def check_packed(
 
     def decoded() -> Optional[Frame]:
         # A frame that passes as clean has no mark.
-        frame = framed(scratch, width, height) if answer.number == 20 else None
+        frame = framed(scratch, width, height, out) if answer.number == 20 else None
         return None if frame is None else Frame(frame, np.zeros(frame.shape, U8), 0)
 
     hold(answer, decoded)
-    return framed(scratch, width, height)
+    return framed(scratch, width, height, out)
 
 
 def to_planes(samples: LentSamples, out: Optional[LentSamples] = None) -> Samples:
@@ -507,4 +512,4 @@ def from_planes(
     samples = room(out, "out", U16, columns, lines)
     apart({"out": samples}, {"planes": read})
     hold(_C.razvolk_from_planes(*_slices(read), columns, lines, *_slices(samples)))
-    return framed(samples, columns, lines)
+    return framed(samples, columns, lines, out)
