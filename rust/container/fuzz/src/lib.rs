@@ -4,7 +4,7 @@
 // The fuzzer hands over a pointer, and what is tried takes some.
 #![allow(unsafe_code)]
 
-use razvolk_srw::{razvolk_srw_find, razvolk_srw_text};
+use razvolk_srw::{Found, razvolk_srw_find, razvolk_srw_text, razvolk_srw_write};
 use std::mem::MaybeUninit;
 use std::slice;
 
@@ -32,5 +32,25 @@ pub unsafe extern "C" fn LLVMFuzzerTestOneInput(data: *const u8, len: usize) -> 
         assert!(part == 0 || file.as_ptr() <= at && at.wrapping_add(part) <= file.as_ptr().wrapping_add(len));
     }
     assert!(frame.offsets <= 16_384 && (answer.number == 9) == (frame.offsets > offsets.len()));
+    if answer.number == 0 {
+        again(&frame, &offsets);
+    }
     0
+}
+
+/// What is written of a frame is found again. A height that is never decoded comes without offsets, and makes no file.
+fn again(frame: &Found, offsets: &[u32]) {
+    let mut file = vec![0; frame.stream_len + 4 * frame.offsets + frame.model_len + 1_024];
+    let mut found = MaybeUninit::uninit();
+    // SAFETY: lengths are those of the slices, and nothing overlaps. The frame is always written.
+    let (len, answer, found) = unsafe {
+        let len = razvolk_srw_write(frame, offsets.as_ptr(), file.as_mut_ptr(), file.len());
+        let mut rows = vec![0; frame.offsets];
+        let answer = razvolk_srw_find(file.as_ptr(), len, found.as_mut_ptr(), rows.as_mut_ptr(), rows.len());
+        assert!(len == 0 || rows == offsets[..rows.len()]);
+        (len, answer, found.assume_init())
+    };
+    assert!(len <= file.len() && (len > 0) == (frame.version == 2 || frame.offsets == frame.height));
+    let told = |frame: &Found| (frame.width, frame.height, frame.stream_len, frame.colours, frame.orientation);
+    assert!(len == 0 || answer.number == 0 && told(&found) == told(frame));
 }
