@@ -1,4 +1,5 @@
-/* Razvolk: Samsung raw decoders and a writer in Rattle, for C and C++ on x86-64 Linux. Link librazvolk.a.
+/* Razvolk: Samsung raw decoders and a writer in Rattle, for C and C++ on x86-64 Linux. Link librazvolk.a or
+ * librazvolk.so.0.
  *
  * Every function is proved to return on every input. A slice is a pointer and a length in elements: the pointer must be good
  * for that many elements, and may be NULL where the length is 0. Slices that are written must overlap no other slice of the
