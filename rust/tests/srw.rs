@@ -1,7 +1,7 @@
 //! A camera's files: made, broken off, in either order of bytes, and made to do harm. The directories that are written by hand
 //! here share nothing with what the crate writes.
 
-use razvolk::srw::{Coding, Fault, Frame, V2Header, frame};
+use razvolk::srw::{Coding, Colour, Fault, Frame, V2Header, frame};
 use streams::images::christening;
 use streams::{v0, v2};
 
@@ -45,6 +45,15 @@ fn what_is_written_is_read() {
         (expected.model, expected.bits) = (Some(model), Some(12));
         assert_eq!(frame(&expected.to_file()), Ok(expected.clone()));
     }
+    use Colour::{Blue, Green, Red};
+    for colours in [[Red, Green, Green, Blue], [Green, Blue, Red, Green]] {
+        expected.colour_filter = Some(colours);
+        assert_eq!(frame(&expected.to_file()), Ok(expected.clone()));
+        for orientation in 1..=8 {
+            expected.orientation = Some(orientation);
+            assert_eq!(frame(&expected.to_file()), Ok(expected.clone()));
+        }
+    }
     let mut none = Frame::new(Coding::V2, 0, 0, &[]);
     (none.model, none.bits) = (Some("Razvolk"), Some(14));
     assert_eq!(frame(&none.to_file()), Ok(none));
@@ -55,7 +64,10 @@ fn what_is_written_is_read() {
 fn other_readers_find_what_they_go_by() {
     for coding in [Coding::V0(vec![0; 5]), Coding::V2] {
         let compression: u16 = if coding == Coding::V2 { 32_773 } else { 32_770 };
-        let file = Frame::new(coding, 20, 5, b"stream").to_file();
+        let mut made = Frame::new(coding, 20, 5, b"stream");
+        made.colour_filter = Some([Colour::Green, Colour::Red, Colour::Blue, Colour::Green]);
+        made.orientation = Some(8);
+        let file = made.to_file();
         let short = |at: usize| u16::from_le_bytes([file[at], file[at + 1]]);
         let long = |at: usize| u32::from_le_bytes(file[at..at + 4].try_into().expect("four bytes")) as usize;
         let entry = |directory: usize, tag: u16| {
@@ -64,7 +76,10 @@ fn other_readers_find_what_they_go_by() {
         };
         let tags = |directory: usize| (0..usize::from(short(directory))).map(move |i| short(directory + 2 + 12 * i));
         assert!(file[long(entry(8, 271))..].starts_with(b"SAMSUNG\0"));
+        assert_eq!(short(entry(8, 274)), 8);
         let raw = long(entry(8, 330));
+        assert_eq!(file[entry(raw, 33_421)..][..4], [2, 0, 2, 0]);
+        assert_eq!(file[entry(raw, 33_422)..][..4], [1, 0, 2, 1]);
         assert!(tags(8).is_sorted() && tags(raw).is_sorted());
         assert_eq!((short(entry(raw, 259)), long(entry(raw, 256)), long(entry(raw, 257))), (compression, 20, 5));
         assert_eq!(&file[long(entry(raw, 273))..], b"stream");
@@ -99,18 +114,80 @@ fn v2_s_own_header_is_told() {
     assert_eq!(Frame::new(Coding::V0(vec![]), 646, 436, &made.stream).v2_header(), None);
 }
 
+/// A V2 file with more entries, of which the count and the value of each are given.
+fn tagged_with(more: &[(u16, u16, u32, u32)]) -> Vec<u8> {
+    let first = [(256, LONG, 646), (257, LONG, 436), (259, SHORT, 32_773), (273, LONG, 9), (40_976, LONG, 9)];
+    let more_entries = more.iter().map(|&(tag, kind, _, value)| (tag, kind, value));
+    let mut file = by_hand(&first.into_iter().chain(more_entries).collect::<Vec<_>>());
+    for (i, (_, _, count, _)) in more.iter().enumerate() {
+        file[10 + 12 * (5 + i) + 4..][..4].copy_from_slice(&count.to_le_bytes());
+    }
+    file
+}
+
+#[test]
+fn the_colour_filter_is_told_if_it_is_2_by_2() {
+    use Colour::{Blue, Green, Red};
+    let told = |more: &[(u16, u16, u32, u32)]| frame(&tagged_with(more)).expect("a frame").colour_filter;
+    let (size, pattern) = ((33_421, SHORT, 2, 0x0002_0002), (33_422, 1, 4, 0x0201_0100));
+    assert_eq!(told(&[size, pattern]), Some([Red, Green, Green, Blue]));
+    assert_eq!(told(&[pattern]), Some([Red, Green, Green, Blue]), "without a size");
+    assert_eq!(told(&[size, (33_422, 1, 4, 0x0100_0201)]), Some([Green, Blue, Red, Green]));
+    let none = [
+        vec![],
+        vec![size],
+        // Other sizes, one number alone, text, and a type that isn't read.
+        vec![(33_421, SHORT, 2, 0x0002_0001), pattern],
+        vec![(33_421, SHORT, 1, 2), pattern],
+        vec![(33_421, SHORT, 3, 8), pattern],
+        vec![size, (33_422, 2, 4, 0x0201_0100)],
+        vec![size, (33_422, 7, 4, 0x0201_0100)],
+        // Cyan, three or six colours, and a place beyond the file.
+        vec![size, (33_422, 1, 4, 0x0301_0100)],
+        vec![size, (33_422, 1, 3, 0x0001_0100)],
+        vec![size, (33_422, 1, 6, 8)],
+        vec![size, (33_422, LONG, 4, u32::MAX)],
+    ];
+    for more in none {
+        assert_eq!(told(&more), None, "{more:?}");
+    }
+}
+
+#[test]
+fn the_orientation_is_the_raw_directory_s_or_the_first_s() {
+    let told = |number| frame(&tagged_with(&[(274, SHORT, 1, number)])).expect("a frame").orientation;
+    for number in 1..=8 {
+        assert_eq!(told(number), Some(number as u8));
+    }
+    for number in [0, 9, 255, 256 + 6] {
+        assert_eq!(told(number), None, "{number}");
+    }
+    // One above with orientation 3 and its own, or none, in the one below.
+    for (own, orientation) in [(6, 6), (0, 3)] {
+        let above = by_hand(&[(274, SHORT, 3), (330, LONG, 8 + 2 + 24 + 4)]);
+        let below = tagged_with(&[(274, SHORT, 1, own)]);
+        let file = [&above, &below[8..]].concat();
+        assert_eq!(frame(&file).expect("a frame").orientation, Some(orientation));
+    }
+}
+
 #[test]
 fn the_highest_byte_may_come_first() {
     let raw = [
+        [0x01, 0x12, 0, 3, 0, 0, 0, 1, 0, 6, 0, 0],
+        [0x82, 0x8d, 0, 3, 0, 0, 0, 2, 0, 2, 0, 2],
+        [0x82, 0x8e, 0, 1, 0, 0, 0, 4, 0, 1, 1, 2],
         [0x01, 0x00, 0, 4, 0, 0, 0, 1, 0, 0, 2, 0x86],
         [0x01, 0x01, 0, 3, 0, 0, 0, 1, 1, 0xb4, 0, 0],
         [0x01, 0x03, 0, 3, 0, 0, 0, 1, 0x80, 0x05, 0, 0],
         [0x01, 0x11, 0, 4, 0, 0, 0, 1, 0, 0, 0, 9],
         [0xa0, 0x10, 0, 4, 0, 0, 0, 1, 0, 0, 0, 9],
     ];
-    let file = [&b"MM\0*\0\0\0\x0a--\0\x05"[..], raw.as_flattened(), &[0; 4]].concat();
+    let file = [&b"MM\0*\0\0\0\x0a--\0\x08"[..], raw.as_flattened(), &[0; 4]].concat();
     let found = frame(&file).expect("a frame");
     assert_eq!((found.width, found.height, found.coding), (646, 436, Coding::V2));
+    assert_eq!(found.colour_filter, Some([Colour::Red, Colour::Green, Colour::Green, Colour::Blue]));
+    assert_eq!(found.orientation, Some(6));
     assert_eq!(found.stream, &file[9..], "without a count the strip goes on to the file's end");
 }
 

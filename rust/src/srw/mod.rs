@@ -26,14 +26,17 @@
 //!
 //! Width and height come from the file, and a few bytes can claim any: look at them before you ask for memory.
 
+mod colour;
 mod tag;
 mod tiff;
 mod write;
 
 use crate::MAX_SIDE;
 use crate::bits::{self, Bits};
-use std::{error, fmt};
+use std::{error, fmt, iter};
 use tiff::{Directory, Tiff};
+
+pub use colour::Colour;
 
 /// How a frame is coded.
 #[derive(Clone, Debug, PartialEq, Eq)]
@@ -68,6 +71,12 @@ pub struct Frame<'a> {
     pub bits: Option<u32>,
     /// The camera's model, where the file tells it.
     pub model: Option<&'a str>,
+    /// The sensor's colour filter, where the file tells one of 2 by 2: the colours of rows 0 and 1 in columns 0 and 1, row by row.
+    /// The frame repeats them.
+    pub colour_filter: Option<[Colour; 4]>,
+    /// How the picture is to be turned, where the file tells it: 1 to 8, as TIFF counts. 1 is as it is, 3 upside down; 6 is shown
+    /// turned right by 90 degrees, 8 left; 2, 4, 5 and 7 are mirrored as well.
+    pub orientation: Option<u8>,
 }
 
 /// What V2's stream says of its frame in its own header. The decoders go by the depth alone.
@@ -82,9 +91,19 @@ pub struct V2Header {
 }
 
 impl<'a> Frame<'a> {
-    /// A frame that no file tells of: no byte is missing, and neither bits nor model are known.
+    /// A frame that no file tells of: no byte is missing, and neither bits, model, colour filter nor orientation are known.
     pub const fn new(coding: Coding, width: usize, height: usize, stream: &'a [u8]) -> Frame<'a> {
-        Frame { coding, width, height, stream, missing: 0, bits: None, model: None }
+        Frame {
+            coding,
+            width,
+            height,
+            stream,
+            missing: 0,
+            bits: None,
+            model: None,
+            colour_filter: None,
+            orientation: None,
+        }
     }
 
     /// What V2's header says; none in V0, or where the stream ends in the header.
@@ -172,18 +191,22 @@ impl error::Error for Fault {}
 /// ```
 /// assert_eq!(razvolk::srw::frame(b"GIF89a").unwrap_err().to_string(), "not a TIFF file");
 /// ```
-pub fn frame(file: &[u8]) -> Result<Frame<'_>, Fault> {
+pub fn frame<'a>(file: &'a [u8]) -> Result<Frame<'a>, Fault> {
     let tiff = Tiff::open(file).ok_or(Fault::NotTiff)?;
     let directories = tiff.directories();
     let text = |tag| directories.iter().find_map(|&directory| tiff.text(directory, tag));
+    let told = |found: Result<Frame<'a>, Fault>, directory| {
+        let turned = iter::once(&directory).chain(&directories).find_map(|&directory| orientation(&tiff, directory));
+        found.map(|frame| Frame { model: text(tag::MODEL), orientation: turned, ..frame })
+    };
     let samsung = text(tag::MAKE).is_some_and(|make| make.to_ascii_uppercase().starts_with("SAMSUNG"));
     let (mut nearest, mut found) = (None, Vec::new());
     for &directory in &directories {
         let Some(compression) = tiff.number(directory, tag::COMPRESSION) else { continue };
         let tagged = tiff.entry(directory, tag::ROW_OFFSETS).is_some();
         match compression {
-            tag::V0 if tagged => return raw(&tiff, directory, true, text(tag::MODEL)),
-            tag::V2 if tagged || samsung => return raw(&tiff, directory, false, text(tag::MODEL)),
+            tag::V0 if tagged => return told(raw(&tiff, directory, true), directory),
+            tag::V2 if tagged || samsung => return told(raw(&tiff, directory, false), directory),
             tag::V0 => nearest = Some(Fault::Uncompressed),
             tag::V1 => nearest = Some(Fault::V1),
             tag::V2 => nearest = Some(Fault::PackBits),
@@ -194,8 +217,8 @@ pub fn frame(file: &[u8]) -> Result<Frame<'_>, Fault> {
     Err(nearest.unwrap_or(Fault::NoFrame(found)))
 }
 
-/// The frame of the raw directory.
-fn raw<'a>(tiff: &Tiff<'a>, directory: Directory, v0: bool, model: Option<&'a str>) -> Result<Frame<'a>, Fault> {
+/// The frame of the raw directory, but for what other directories may tell of it.
+fn raw<'a>(tiff: &Tiff<'a>, directory: Directory, v0: bool) -> Result<Frame<'a>, Fault> {
     let need = |tag| tiff.number(directory, tag).map(|number| number as usize).ok_or(Fault::Missing(tag));
     let (width, height) = (need(tag::WIDTH)?, need(tag::HEIGHT)?);
     let strips = tiff.entry(directory, tag::STRIP_OFFSETS).map_or(0, |entry| entry.count);
@@ -208,7 +231,15 @@ fn raw<'a>(tiff: &Tiff<'a>, directory: Directory, v0: bool, model: Option<&'a st
     let stream = &rest[..told.min(rest.len())];
     let coding = if v0 { Coding::V0(table(tiff.bytes, need(tag::ROW_OFFSETS)?, height)?) } else { Coding::V2 };
     let bits = tiff.number(directory, tag::BITS);
-    Ok(Frame { coding, width, height, stream, missing: told - stream.len(), bits, model })
+    let colour_filter = colour::filter(tiff, directory);
+    let missing = told - stream.len();
+    Ok(Frame { missing, bits, colour_filter, ..Frame::new(coding, width, height, stream) })
+}
+
+/// What a directory says of how its picture is to be turned; none where that is no number from 1 to 8.
+fn orientation(tiff: &Tiff, directory: Directory) -> Option<u8> {
+    let number = tiff.number(directory, tag::ORIENTATION)?;
+    u8::try_from(number).ok().filter(|number| (1..=8).contains(number))
 }
 
 /// The row offsets, 4 bytes each, lowest byte first whatever the file's order is. A height above the limit is refused by the

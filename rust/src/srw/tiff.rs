@@ -35,7 +35,7 @@ impl Entry {
 /// How many bytes a value of a type has, of the types that are read: bytes, text, and whole numbers.
 fn size(kind: u16) -> Option<usize> {
     match kind {
-        1 | tag::ASCII => Some(1),
+        tag::BYTE | tag::ASCII => Some(1),
         tag::SHORT => Some(2),
         tag::LONG | 13 => Some(4),
         _ => None,
@@ -92,6 +92,16 @@ impl<'a> Tiff<'a> {
     fn nth(&self, entry: &Entry, i: u32) -> Option<u32> {
         let size = entry.size()?;
         self.at(entry.at + size * i as usize, size)
+    }
+
+    /// The numbers of an entry that has exactly `N` of them.
+    pub fn numbers<const N: usize>(&self, directory: Directory, tag: u16) -> Option<[u32; N]> {
+        let entry = self.entry(directory, tag).filter(|entry| entry.count as usize == N)?;
+        let mut numbers = [0; N];
+        for (i, number) in numbers.iter_mut().enumerate() {
+            *number = self.nth(&entry, i as u32)?;
+        }
+        Some(numbers)
     }
 
     /// The first number of an entry.
