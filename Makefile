@@ -1,6 +1,8 @@
-.PHONY: run test archive install dist refuse mutate compare compare-long bench memcheck fuzz frames picture soak fmt
+.PHONY: run test archive container install dist wheel bench-python refuse mutate compare compare-long bench memcheck fuzz fuzz-srw frames picture soak fmt
 
 archive = target/staticlib/librazvolk.a
+shared = target/staticlib/librazvolk.so.0
+container = rust/target/made/librazvolk_srw.so.0
 cargo_run = cd rust && cargo run --release --offline --locked
 made = rust/target/made
 # What proves ends here without the toolchain.
@@ -18,23 +20,45 @@ test:
 	$(need_rt)
 	bash .ci/run
 
-# The archive for C and Rust: proves what it is made of, and compiles it.
-archive: $(archive)
+# The archive for C and Rust, and the shared library of it: proves what they are made of, and compiles it.
+archive: $(archive) $(shared)
 
 $(archive): crates.txt $(shell find crates -type f)
 	$(need_rt)
 	rt staticlib razvolk
 
-# Header, archive and pkg-config file below PREFIX.
+$(shared): $(archive) include/razvolk.h dist/shared
+	dist/shared $(archive) include/razvolk.h $@
+
+# The library that finds the frame in a camera's file, for C. It is in Rust: tested, and not proved.
+container: $(container)
+
+$(container): $(archive) $(shell find rust/src rust/container rust/Cargo.toml rust/build.rs -type f)
+	cd rust && cargo build --quiet --offline --locked --profile container -p razvolk-srw --target-dir target
+	install -D -m 644 rust/target/container/librazvolk_srw.so $@
+
+# Headers, archive, shared libraries and pkg-config files below PREFIX.
 PREFIX = /usr/local
-install: $(archive)
-	install -D -m 644 include/razvolk.h $(DESTDIR)$(PREFIX)/include/razvolk.h
-	install -D -m 644 $(archive) $(DESTDIR)$(PREFIX)/lib/librazvolk.a
-	install -D -m 644 dist/razvolk.pc $(DESTDIR)$(PREFIX)/lib/pkgconfig/razvolk.pc
+install: $(archive) $(shared) $(container)
+	for name in razvolk razvolk_srw; do \
+		install -D -m 644 include/$$name.h $(DESTDIR)$(PREFIX)/include/$$name.h || exit 1; done
+	for name in $(archive) $(shared) $(container); do \
+		install -D -m 644 $$name $(DESTDIR)$(PREFIX)/lib/$$(basename $$name) || exit 1; done
+	for name in razvolk razvolk-shared razvolk-srw; do \
+		install -D -m 644 dist/$$name.pc $(DESTDIR)$(PREFIX)/lib/pkgconfig/$$name.pc || exit 1; done
 
 # A release, target/dist/razvolk-VERSION.tar.gz, which needs no Rattle toolchain.
 dist: $(archive)
 	dist/make
+
+# The Python package, target/wheel/razvolk-VERSION-py3-none-manylinux*_x86_64.whl, with both shared libraries inside.
+PYTHON = /usr/bin/python3
+wheel: $(shared) $(container)
+	PYTHON=$(PYTHON) dist/wheel target/wheel $(shared) $(container)
+
+# The wheel in a fresh environment: what a call takes beside C's own, and two threads beside one.
+bench-python: wheel
+	PYTHON=$(PYTHON) python/bench/run $(made)/bench-python target/wheel/razvolk-*.whl
 
 # Every wrong edit that the proofs must refuse, also those of edits/, which cost too much for the gate (edits/README.md).
 refuse:
@@ -102,6 +126,18 @@ fuzz: $(made)/tests/hostile frames
 	grep 'cov:' $(made)/look.log | tail -1
 	grep '^Done\|^stat' $(made)/look.log
 	$(made)/tests/hostile pages $(FOR)s $(SEED)
+
+# The same of the container for C, for FOR seconds.
+fuzz-srw: frames
+	cd rust && RUSTFLAGS='$(counters)' cargo build --release --offline --locked -p fuzz-srw --target $(fuzz_target) \
+		--target-dir target/fuzz
+	clang -fsanitize=fuzzer rust/target/fuzz/$(fuzz_target)/release/libfuzz_srw.a -lgcc_s -lpthread -ldl -lm -o $(made)/find
+	mkdir -p $(made)/corpus-srw
+	cp $(made)/frames/small*.srw $(made)/corpus-srw/
+	cd $(made) && ./find -max_total_time=$(FOR) -max_len=4096 -rss_limit_mb=1024 -print_final_stats=1 corpus-srw > find.log 2>&1 || \
+		{ tail -40 find.log; exit 1; }
+	grep 'cov:' $(made)/find.log | tail -1
+	grep '^Done\|^stat' $(made)/find.log
 
 # Frames in a camera's container, to look at and to damage.
 frames: $(archive)

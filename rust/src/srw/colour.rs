@@ -17,8 +17,14 @@ pub enum Colour {
 }
 
 impl Colour {
-    fn of(number: u32) -> Option<Colour> {
-        [Colour::Red, Colour::Green, Colour::Blue].get(number as usize).copied()
+    /// The colour of a number; none of a number above 2.
+    ///
+    /// ```
+    /// use razvolk::srw::Colour;
+    /// assert_eq!([Colour::of(2), Colour::of(3)], [Some(Colour::Blue), None]);
+    /// ```
+    pub fn of(number: u8) -> Option<Colour> {
+        [Colour::Red, Colour::Green, Colour::Blue].get(usize::from(number)).copied()
     }
 }
 
@@ -39,6 +45,7 @@ pub(super) fn filter(tiff: &Tiff, directory: Directory) -> Option<[Colour; 4]> {
     if sized && tiff.numbers(directory, tag::COLOUR_FILTER_SIZE) != Some([2, 2]) {
         return None;
     }
-    let [a, b, c, d] = tiff.numbers(directory, tag::COLOUR_FILTER)?.map(Colour::of);
+    let colour = |number| u8::try_from(number).ok().and_then(Colour::of);
+    let [a, b, c, d] = tiff.numbers(directory, tag::COLOUR_FILTER)?.map(colour);
     Some([a?, b?, c?, d?])
 }
