@@ -73,8 +73,10 @@ fn stdin() -> io::Result<File> {
 /// The file's bytes, up to one more than may be read. The identity is that of the file that was opened.
 fn whole(path: &Path) -> io::Result<(Vec<u8>, Identity)> {
     let file = if is_stdin(path) { stdin()? } else { File::open(path)? };
-    let identity = Identity::of(&file.metadata()?);
-    let mut bytes = Vec::new();
+    let metadata = file.metadata()?;
+    let identity = Identity::of(&metadata);
+    // One more, so that the end is found without more memory.
+    let mut bytes = Vec::with_capacity(metadata.len().min(LONGEST) as usize + 1);
     file.take(LONGEST + 1).read_to_end(&mut bytes)?;
     Ok((bytes, identity))
 }

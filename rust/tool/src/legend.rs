@@ -13,8 +13,11 @@ const INK: [u8; 3] = [235; 3];
 
 /// The picture with the strip, if something of the frame is marked and the words have room.
 pub fn below(mut image: Image, frame: Decoded) -> Image {
+    if frame.marks.is_clean() {
+        return image;
+    }
     let items = items(frame);
-    let widest = items.iter().map(|(_, text)| (text.chars().count() + 4) * STEP).max();
+    let widest = items.iter().map(|(_, text)| (text.chars().count() + 3) * STEP).max();
     let Some(scale) =
         widest.map(|widest| (image.width / widest).min(image.width.div_ceil(480))).filter(|&scale| scale > 0)
     else {
@@ -23,7 +26,7 @@ pub fn below(mut image: Image, frame: Decoded) -> Image {
     let mut strip = Strip { width: image.width, scale, pixels: Vec::new() };
     let (mut x, mut line) = (image.width, None);
     for (colour, text) in items {
-        let long = (text.chars().count() + 4) * STEP * scale;
+        let long = (text.chars().count() + 3) * STEP * scale;
         if x + long > image.width {
             line = Some(line.map_or(0, |line| line + 1));
             x = 0;
@@ -63,9 +66,9 @@ impl Strip {
         if self.pixels.len() < rows * self.width {
             self.pixels.resize(rows * self.width, PAPER);
         }
-        self.glyph(x + STEP * self.scale, line, [0, 31, 31, 31, 31, 31, 31], colour);
+        self.glyph(x + 2 * self.scale, line, [0, 31, 31, 31, 31, 31, 31], colour);
         for (i, c) in text.chars().enumerate() {
-            self.glyph(x + (i + 2) * STEP * self.scale + self.scale, line, glyph(c), INK);
+            self.glyph(x + ((i + 1) * STEP + 4) * self.scale, line, glyph(c), INK);
         }
     }
 

@@ -196,29 +196,16 @@ fn squares(frame: Decoded, how: Picture) -> Marked {
     let Decoded { samples, marks, width, height, coded, .. } = frame;
     let marks = marks.bytes();
     let bayer = coded.colour_filter.and_then(Bayer::of);
-    let [red, green, blue] = curves(samples, marks, width, bayer.map_or([1; 4], Bayer::channels), how);
+    let curves = curves(samples, marks, width, bayer.map_or([1; 4], Bayer::channels), how);
     let (across, down) = (width.div_ceil(2), height.div_ceil(2));
-    let (mut pixels, mut any) = (Vec::with_capacity(across * down), vec![0; across * down]);
-    for (row, any) in any.chunks_exact_mut(across).enumerate() {
+    let (mut pixels, mut any) = (vec![[0; 3]; across * down], vec![0; across * down]);
+    for (row, (pixels, any)) in pixels.chunks_exact_mut(across).zip(any.chunks_exact_mut(across)).enumerate() {
         let y = (2 * row).min(height - 2);
         let two = y * width..(y + 2) * width;
         let (top, low) = samples[two.clone()].split_at(width);
-        let pixel = |column: usize| {
-            let x = (2 * column).min(width - 2);
-            let four = [top[x], top[x + 1], low[x], low[x + 1]];
-            // Which place of the filter a sample has, where a square starts in an odd row or column.
-            let phase = (y & 1) << 1 | x & 1;
-            let mean = |of: [usize; 2]| (u32::from(four[of[0] ^ phase]) + u32::from(four[of[1] ^ phase])).div_ceil(2);
-            match bayer {
-                Some(bayer) => [
-                    red[usize::from(four[bayer.red ^ phase])],
-                    green[mean(bayer.greens) as usize],
-                    blue[usize::from(four[bayer.blue ^ phase])],
-                ],
-                None => [green[(four.iter().map(|&sample| u32::from(sample)).sum::<u32>() / 4) as usize]; 3],
-            }
-        };
-        pixels.extend((0..across).map(pixel));
+        let (even, last) = pixels.split_at_mut(width / 2);
+        pixels_of(top, low, (y & 1) << 1, bayer, &curves, even);
+        pixels_of(&top[width - 2..], &low[width - 2..], (y & 1) << 1 | width & 1, bayer, &curves, last);
         let marks = &marks[two];
         if marks.iter().fold(0, |all, mark| all | mark) != 0 {
             let (top, low) = marks.split_at(width);
@@ -231,6 +218,30 @@ fn squares(frame: Decoded, how: Picture) -> Marked {
     Marked { image: Image { width: across, pixels }, marks: any }
 }
 
+/// The pixels of two rows. `phase` is the place in the filter that their first sample has.
+fn pixels_of(
+    top: &[u16],
+    low: &[u16],
+    phase: usize,
+    bayer: Option<Bayer>,
+    [red, green, blue]: &[Curve; 3],
+    pixels: &mut [[u8; 3]],
+) {
+    let squares = top.chunks_exact(2).zip(low.chunks_exact(2)).zip(pixels);
+    let Some(Bayer { red: at_red, greens, blue: at_blue }) = bayer else {
+        return squares.for_each(|((top, low), pixel)| {
+            let sum: u32 = [top[0], top[1], low[0], low[1]].into_iter().map(u32::from).sum();
+            *pixel = [green[sum as usize / 4]; 3];
+        });
+    };
+    let [at_red, one, other, at_blue] = [at_red, greens[0], greens[1], at_blue].map(|place| (place ^ phase) & 3);
+    squares.for_each(|((top, low), pixel)| {
+        let four = [top[0], top[1], low[0], low[1]];
+        let greens = (u32::from(four[one]) + u32::from(four[other])).div_ceil(2);
+        *pixel = [red[usize::from(four[at_red])], green[greens as usize & 0xffff], blue[usize::from(four[at_blue])]];
+    });
+}
+
 /// Samples as greys, a pixel each.
 fn grey(samples: &[u16], marks: &[u8], width: usize, how: Picture) -> Marked {
     let [_, curve, _] = curves(samples, marks, width, [1; 4], how);
@@ -238,8 +249,8 @@ fn grey(samples: &[u16], marks: &[u8], width: usize, how: Picture) -> Marked {
     Marked { image: Image { width, pixels }, marks: marks.to_vec() }
 }
 
-/// What each sample up to the frame's largest is as a part of a pixel.
-type Curve = Vec<u8>;
+/// What each sample is as a part of a pixel.
+type Curve = Box<[u8; 1 << 16]>;
 
 /// The curves of red, green and blue: each channel in proportion, so that the means are equal, and then by white and gamma.
 /// `channels` tells the channel of each place in a square of four.
@@ -252,13 +263,20 @@ fn curves(samples: &[u16], marks: &[u8], width: usize, channels: [usize; 4], how
     let gains = means.map(|mean| if mean > 0.0 { (brightest / mean).min(8.0) } else { 1.0 });
     let whites = gains.iter().zip(&counts).map(|(gain, counts)| gain * f64::from(exceeded_by_few(counts)));
     let white = how.white.map_or_else(|| whites.fold(0.0, f64::max), f64::from).max(1.0);
-    gains.map(|gain| {
-        let part = |sample: usize| {
-            let light = (sample as f64 * gain / white).min(1.0);
-            (255.0 * if how.linear { light } else { light.powf(1.0 / 2.2) }).round() as u8
-        };
-        (0..=usize::from(most)).map(part).collect()
-    })
+    gains.map(|gain| curve(gain / white, how.linear))
+}
+
+/// A curve: each level begins where a sample's light, in proportion or by gamma, is nearer to it than to the one before.
+fn curve(gain: f64, linear: bool) -> Curve {
+    let len = 1 << 16;
+    let mut curve = Vec::with_capacity(len);
+    for level in 0..255 {
+        let light = (f64::from(level) + 0.5) / 255.0;
+        let next = if linear { light } else { light.powf(2.2) } / gain;
+        curve.resize((next.ceil() as usize).clamp(curve.len(), len), level);
+    }
+    curve.resize(len, 255);
+    curve.into_boxed_slice().try_into().expect("as many as there are samples")
 }
 
 /// How often each sample stands in each channel, of those that aren't marked, or of all if all are. Of a large frame some pairs
@@ -384,7 +402,7 @@ mod tests {
         assert_eq!((exceeded_by_few(&count(&[7])), exceeded_by_few(&count(&[65_535; 300]))), (7, 65_535));
         let how = Picture { white: Some(1_000), ..Picture::default() };
         let [_, curve, _] = curves(&[500, 2_000], &[0, 0], 2, [1; 4], how);
-        assert_eq!((curve[0], curve[218], curve[1_000], curve[2_000], curve.len()), (0, 128, 255, 255, 2_001));
+        assert_eq!((curve[0], curve[218], curve[1_000], curve[2_000]), (0, 128, 255, 255));
     }
 
     /// Another picture's light doesn't change that of the frame.

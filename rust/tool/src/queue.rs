@@ -270,15 +270,24 @@ fn decode(worker: &mut Worker, job: &Job, shared: &Shared) -> Result<Outcome, St
         let object = Object::of_packed(&job.path, &frame, checked.answer, checked.verdict.status);
         return Ok(Outcome::new(checked.verdict, object));
     }
-    // What is told does not depend on what the buffer holds; what is written does.
-    if !job.outputs.is_empty() || options.sheet.is_some() {
-        worker.clear();
-    }
     let over_frame = over.as_ref().map(|(_, frame)| frame);
     let wanted = Wanted { clean: options.clean, blank: options.blank };
+    // What is told does not depend on what the buffer holds, nor does a clean frame; what is written of others does.
+    let written = !job.outputs.is_empty() || options.sheet.is_some();
     let look = Look::at(worker, &frame, over_frame, wanted).map_err(|fault| file.fault(fault))?;
+    let depends = written && look.decoded.is_some_and(|decoded| !decoded.marks.is_clean());
+    let look = match depends {
+        false => look,
+        true => {
+            worker.clear();
+            Look::at(worker, &frame, over_frame, wanted).map_err(|fault| file.fault(fault))?
+        }
+    };
     let verdict = Verdict::of(&look);
-    let object = Object::of_frame(&job.path, &frame, &look, verdict.status, options.runs);
+    let object = match options.json {
+        true => Object::of_frame(&job.path, &frame, &look, verdict.status, !options.no_runs),
+        false => Object::of(&job.path, verdict.status),
+    };
     let mut outcome = Outcome { notes: notes(job, &look, &frame, shared), ..Outcome::new(verdict, object) };
     match write(job, &look, options) {
         Ok(bytes) => outcome.bytes = bytes,

@@ -14,7 +14,7 @@ use std::fmt::Write;
 const SIDE: usize = 1_024;
 const QUALITY: u8 = 82;
 /// How much a tint covers, of 255.
-const COVER: u8 = 150;
+const COVER: u8 = 200;
 
 const STYLE: &str = include_str!("sheet.css");
 const SCRIPT: &str = include_str!("sheet.js");
@@ -87,9 +87,9 @@ pub fn page(cards: &[String], counts: &BTreeMap<Status, usize>) -> String {
     for status in Status::ALL {
         if let Some(&count) = counts.get(&status) {
             let word = status.word().to_lowercase();
-            write!(
+            writeln!(
                 buttons,
-                "<button type=\"button\" data-show=\"{}\" aria-pressed=\"false\">{word} ({count})</button>\n",
+                "<button type=\"button\" data-show=\"{}\" aria-pressed=\"false\">{word} ({count})</button>",
                 key(status)
             )
             .expect("a string");

@@ -73,7 +73,8 @@ impl Verdict {
 
     /// On a frame that was decoded, or refused.
     pub fn of(look: &Look) -> Verdict {
-        let marks = look.decoded.map(|decoded| decoded.marks);
+        // Most frames are clean, and to see that takes less than to count.
+        let marks = look.decoded.map(|decoded| decoded.marks).filter(|marks| !marks.is_clean());
         let (old, missing) = (marks.map_or(0, Marks::count_old), marks.map_or(0, Marks::count_filler));
         match (look.answer, marks) {
             (Err(refusal), _) => Verdict::new(Status::Refused, refused(refusal)),
@@ -202,7 +203,7 @@ pub fn grouped(number: usize) -> String {
     let digits = number.to_string();
     let mut text = String::new();
     for (i, digit) in digits.chars().enumerate() {
-        if i > 0 && (digits.len() - i) % 3 == 0 {
+        if i > 0 && (digits.len() - i).is_multiple_of(3) {
             text.push(',');
         }
         text.push(digit);

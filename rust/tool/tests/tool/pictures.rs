@@ -76,7 +76,7 @@ fn a_legend_and_a_line() {
         ["clean", "band", "soft", "line"].map(|name| pixels(&folder.get(&format!("{name}.png")).expect("a picture")));
     assert_eq!((clean.0, clean.1), (400, 200), "nothing is tinted, and no strip is there");
     assert!([&band, &soft, &line].iter().all(|picture| picture.0 == 400 && picture.1 > 205), "{}", band.1);
-    let tinted = |&[red, green, blue]: &[u8; 3]| red > 120 && green == blue && red - green > 60;
+    let tinted = |&[red, green, blue]: &[u8; 3]| red > 120 && green == blue && red > green.saturating_add(120);
     assert!(band.2[..20 * 400].iter().all(tinted) && !band.2[21 * 400..200 * 400].iter().any(tinted));
     assert!(band.2[200 * 400..].iter().any(tinted), "the tint is in the strip");
     let yellow = |pixel: &&[u8; 3]| **pixel == [255, 212, 0];
