@@ -1,4 +1,4 @@
-.PHONY: run test archive install dist refuse mutate compare compare-long bench memcheck fuzz fuzz-container hour frames picture soak fmt container wheel bench-python fuzz-srw
+.PHONY: tool install-tool install-libraries run test archive container install dist wheel bench-python refuse mutate compare compare-long bench memcheck fuzz fuzz-srw frames picture sheet bench-tool soak fmt fuzz-container hour
 
 archive = target/staticlib/librazvolk.a
 shared = target/staticlib/librazvolk.so.0
@@ -37,15 +37,38 @@ $(container): $(archive) $(shell find rust/src rust/container rust/Cargo.toml ru
 	cd rust && cargo build --quiet --offline --locked --profile container -p razvolk-srw --target-dir target
 	install -D -m 644 rust/target/container/librazvolk_srw.so $@
 
-# Headers, archive, shared libraries and pkg-config files below PREFIX.
+# The tool with its man page and completions, headers, archive, shared libraries and pkg-config files below PREFIX; what is
+# linked with goes to LIBDIR.
 PREFIX = /usr/local
-install: $(archive) $(shared) $(container)
+LIBDIR = $(PREFIX)/lib
+install: install-tool install-libraries
+
+install-libraries: $(archive) $(shared) $(container)
 	for name in razvolk razvolk_srw; do \
 		install -D -m 644 include/$$name.h $(DESTDIR)$(PREFIX)/include/$$name.h || exit 1; done
 	for name in $(archive) $(shared) $(container); do \
-		install -D -m 644 $$name $(DESTDIR)$(PREFIX)/lib/$$(basename $$name) || exit 1; done
+		install -D -m 644 $$name $(DESTDIR)$(LIBDIR)/$$(basename $$name) || exit 1; done
 	for name in razvolk razvolk-shared razvolk-srw; do \
-		install -D -m 644 dist/$$name.pc $(DESTDIR)$(PREFIX)/lib/pkgconfig/$$name.pc || exit 1; done
+		mkdir -p $(DESTDIR)$(LIBDIR)/pkgconfig && dist/pkg-config dist/$$name.pc $(PREFIX) $(LIBDIR) > \
+			$(DESTDIR)$(LIBDIR)/pkgconfig/$$name.pc || exit 1; done
+
+install-tool: tool
+	install -D -m 755 $(tool) $(DESTDIR)$(PREFIX)/bin/razvolk
+	install -D -m 644 $(made)/razvolk.1 $(DESTDIR)$(PREFIX)/share/man/man1/razvolk.1
+	install -D -m 644 $(made)/completions/razvolk.bash $(DESTDIR)$(PREFIX)/share/bash-completion/completions/razvolk
+	install -D -m 644 $(made)/completions/_razvolk $(DESTDIR)$(PREFIX)/share/zsh/site-functions/_razvolk
+	install -D -m 644 $(made)/completions/razvolk.fish $(DESTDIR)$(PREFIX)/share/fish/vendor_completions.d/razvolk.fish
+
+# The tool, its man page (by help2man, from what it says of itself) and its completions.
+tool = rust/target/release/razvolk
+tool: $(archive)
+	CARGO_TARGET_DIR= tests/tool-cargo build --release --quiet --bin razvolk
+	@command -v help2man >/dev/null || { echo 'help2man, which makes the man page, is not installed' >&2; exit 1; }
+	mkdir -p $(made)/completions
+	SOURCE_DATE_EPOCH=$$(git log -1 --format=%ct 2>/dev/null || echo 0) help2man --no-info --name 'tell which Samsung raw frames are clean' --output=$(made)/razvolk.1 $(tool)
+	$(tool) --completions bash > $(made)/completions/razvolk.bash
+	$(tool) --completions zsh > $(made)/completions/_razvolk
+	$(tool) --completions fish > $(made)/completions/razvolk.fish
 
 # A release, target/dist/razvolk-VERSION.tar.gz, which needs no Rattle toolchain.
 dist: $(archive)
@@ -116,8 +139,8 @@ fuzz_target = x86_64-unknown-linux-gnu
 counters = -Cpasses=sancov-module $(addprefix -Cllvm-args=-sanitizer-coverage-, level=4 inline-8bit-counters pc-table \
 	trace-compares) -Coverflow-checks=yes -Cdebug-assertions=yes
 fuzz: $(made)/tests/hostile frames
-	cd rust && RUSTFLAGS='$(counters)' cargo build --release --offline --locked -p fuzz --target $(fuzz_target) \
-		--target-dir target/fuzz
+	RUSTFLAGS='$(counters)' CARGO_TARGET_DIR=$(CURDIR)/rust/target/fuzz tests/tool-cargo build --release -p fuzz \
+		--target $(fuzz_target)
 	clang -fsanitize=fuzzer rust/target/fuzz/$(fuzz_target)/release/libfuzz.a -lgcc_s -lpthread -ldl -lm -o $(made)/look
 	mkdir -p $(made)/corpus
 	cp $(made)/frames/small*.srw $(made)/corpus/
@@ -161,18 +184,23 @@ fuzz-srw: frames
 
 # Frames in a camera's container, to look at and to damage.
 frames: $(archive)
-	$(cargo_run) --quiet -p razvolk-tool --example frames -- target/made/frames
+	CARGO_TARGET_DIR= tests/tool-cargo run --release --quiet --example frames -- $(CURDIR)/$(made)/frames
 
 # The pictures in the README: a frame with upward blocks from row 0 on, decoded over another, blanked, and blanked softly; and an
 # upload that broke off at half its height. Samples of them are old, or made of missing words: status 3.
-picture: frames
-	$(cargo_run) --quiet -p razvolk-tool -- --over target/made/frames/sitting.srw target/made/frames/christening.srw \
-		--force --png ../docs/marked.png || [ $$? -eq 3 ]
-	$(cargo_run) --quiet -p razvolk-tool -- --over target/made/frames/sitting.srw target/made/frames/christening.srw \
-		--blank 6000 --force --png ../docs/blanked.png || [ $$? -eq 3 ]
-	$(cargo_run) --quiet -p razvolk-tool -- --over target/made/frames/sitting.srw target/made/frames/corner.srw \
-		--blank --force --png ../docs/softened.png || [ $$? -eq 3 ]
-	$(cargo_run) --quiet -p razvolk-tool -- target/made/frames/upload.srw --force --png ../docs/upload.png || [ $$? -eq 3 ]
+picture: frames tool
+	cd $(made)/frames/large && for line in '--over sitting.srw christening.srw --png marked.png' \
+		'--over sitting.srw christening.srw --blank 6000 --png blanked.png' \
+		'--over sitting.srw corner.srw --blank --outline --png softened.png' 'upload.srw --png upload.png'; do \
+		$(CURDIR)/$(tool) --force $$line || [ $$? -eq 3 ] || exit 1; done && mv *.png $(CURDIR)/docs/
+
+# A screenshot of a contact sheet, for the README.
+sheet: tool
+	tests/sheet $(made)/sheet docs/sheet.png
+
+# Twelve frames of twenty megapixels: the tool beside dcraw and LibRaw, with pictures and without.
+bench-tool: tool
+	tests/bench-tool $(made)/bench-tool $(tool)
 
 # Some thousand frames in one process, through one decoder: memory must stay flat.
 soak: $(archive)
@@ -181,3 +209,4 @@ soak: $(archive)
 fmt:
 	rt fmt
 	cd rust && cargo fmt --all
+	tests/tool-cargo fmt

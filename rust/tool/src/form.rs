@@ -1,18 +1,19 @@
 //! What a frame is written as.
 
+use crate::picture::{Image, picture};
 use crate::planes::side_by_side;
-use crate::{pgm, png, v0, v2};
+use crate::{pgm, v0, v2};
 use razvolk::Marks;
 use razvolk::srw::Frame;
 
 /// The forms of an output.
-#[derive(Clone, Copy, Debug, PartialEq, Eq)]
+#[derive(Clone, Copy, Debug, PartialEq, Eq, clap::ValueEnum)]
 pub enum Form {
-    /// The samples, 16 bits each.
-    Pgm,
     /// A picture that shows the marks.
     Png,
-    /// Such a picture of the four colour planes, side by side.
+    /// The samples, 16 bits each.
+    Pgm,
+    /// A picture of the four colour planes, side by side.
     Planes,
     /// The samples as V0, to be decoded again.
     V0,
@@ -39,14 +40,22 @@ impl Form {
 }
 
 /// How a picture is made.
-#[derive(Clone, Copy, Debug, Default, PartialEq, Eq)]
+#[derive(Clone, Copy, Debug, Default, PartialEq, Eq, clap::Args)]
+#[command(next_help_heading = "Pictures")]
 pub struct Picture {
-    /// The sample that is white; else one that 199 of 200 samples don't exceed.
+    /// The sensor's own grid in grey, a pixel a sample; else a pixel for each square of four, in colour where the file tells
+    /// its colour filter
+    #[arg(long)]
+    pub full: bool,
+    /// Draw a thin line around what --blank has set
+    #[arg(long, requires = "blank")]
+    pub outline: bool,
+    /// The sample that is white; else one that 199 of 200 don't exceed
+    #[arg(long, value_name = "NUMBER")]
     pub white: Option<u16>,
-    /// Grey in proportion to the sample; else by a gamma curve.
+    /// Brightness in proportion to the sample; else a gamma curve of 1/2.2
+    #[arg(long)]
     pub linear: bool,
-    /// One pixel for each square of four samples.
-    pub half: bool,
 }
 
 /// A decoded frame.
@@ -67,19 +76,18 @@ pub struct Decoded<'a> {
 }
 
 /// A decoded frame in a form, or why it has none.
-pub fn file(form: Form, frame: Decoded, picture: Picture) -> Result<Vec<u8>, String> {
+pub fn file(form: Form, frame: Decoded, how: Picture) -> Result<Vec<u8>, String> {
     let Decoded { samples, marks, blanked, width, .. } = frame;
-    let tinted = || if blanked { vec![0; samples.len()] } else { marks.bytes().to_vec() };
     if !form.is_stored() && samples.is_empty() {
         return Err("a frame of no samples makes no picture".into());
     }
     Ok(match form {
         Form::Pgm => pgm::file(samples, width, frame.depth),
-        Form::Png => png::file(samples, &tinted(), width, picture),
+        Form::Png => picture(frame, how).to_png(),
         Form::Planes => {
-            let marks: Vec<u16> = tinted().into_iter().map(u16::from).collect();
+            let marks: Vec<u16> = marks.bytes().iter().map(|&mark| if blanked { 0 } else { mark.into() }).collect();
             let marks: Vec<u8> = side_by_side(&marks, width).iter().map(|&mark| mark as u8).collect();
-            png::file(&side_by_side(samples, width), &marks, 2 * width, picture)
+            Image::grey(&side_by_side(samples, width), &marks, 2 * width, how).to_png()
         }
         Form::V0 => v0::file(frame).map_err(|refusal| format!("can't be written as V0: {refusal}"))?,
         Form::V2 => v2::file(frame)?,

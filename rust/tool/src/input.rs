@@ -4,6 +4,7 @@ use std::fmt::Display;
 use std::fs::{self, File, Metadata};
 use std::io::{self, Read};
 use std::os::fd::AsFd;
+use std::os::unix::ffi::OsStrExt;
 use std::os::unix::fs::MetadataExt;
 use std::path::{Path, PathBuf};
 
@@ -72,30 +73,68 @@ fn stdin() -> io::Result<File> {
 /// The file's bytes, up to one more than may be read. The identity is that of the file that was opened.
 fn whole(path: &Path) -> io::Result<(Vec<u8>, Identity)> {
     let file = if is_stdin(path) { stdin()? } else { File::open(path)? };
-    let identity = Identity::of(&file.metadata()?);
-    let mut bytes = Vec::new();
+    let metadata = file.metadata()?;
+    let identity = Identity::of(&metadata);
+    // One more, so that the end is found without more memory.
+    let mut bytes = Vec::with_capacity(metadata.len().min(LONGEST) as usize + 1);
     file.take(LONGEST + 1).read_to_end(&mut bytes)?;
     Ok((bytes, identity))
 }
 
-/// The files that are named, and for a folder the `.srw` files in it, in the order of their names.
-pub fn files(named: &[PathBuf]) -> Result<Vec<PathBuf>, String> {
+/// A file that was named, or found in a folder.
+#[derive(Clone, Debug, PartialEq, Eq)]
+pub struct Found {
+    pub path: PathBuf,
+    /// The folders from the one that was named down to the file's own.
+    pub below: PathBuf,
+}
+
+/// The files that are named, and for a folder the `.srw` files in it, in the order of their names; with `recursive` those in
+/// the folders below, too, but for those that outputs go to.
+pub fn files(named: &[PathBuf], recursive: bool, outputs: &[&Path]) -> Result<Vec<Found>, String> {
+    let outputs: Vec<Identity> =
+        outputs.iter().filter_map(|output| fs::metadata(output).ok()).map(|folder| Identity::of(&folder)).collect();
     let mut files = Vec::new();
     for path in named {
         if !path.is_dir() || is_stdin(path) {
-            files.push(path.clone());
+            files.push(Found { path: path.clone(), below: PathBuf::new() });
             continue;
         }
-        let entries = fs::read_dir(path).and_then(|entries| entries.map(|entry| Ok(entry?.path())).collect());
-        let mut within: Vec<PathBuf> = entries.map_err(|e: io::Error| fault(path, e))?;
-        within.retain(|file| file.extension().is_some_and(|end| end.eq_ignore_ascii_case("srw")) && is_file(file));
-        if within.is_empty() {
+        let before = files.len();
+        within(path, Path::new(""), recursive, &outputs, &mut files)?;
+        if files.len() == before {
             return Err(fault(path, "no .srw file is in this folder"));
         }
-        within.sort();
-        files.extend(within);
     }
     Ok(files)
+}
+
+/// Adds the files of a folder, and of those below it: links to folders are passed over, so that a ring of them ends.
+fn within(
+    folder: &Path,
+    below: &Path,
+    recursive: bool,
+    outputs: &[Identity],
+    files: &mut Vec<Found>,
+) -> Result<(), String> {
+    let entries = fs::read_dir(folder).and_then(|entries| entries.collect::<io::Result<Vec<_>>>());
+    let mut entries = entries.map_err(|e| fault(folder, e))?;
+    entries.sort_by_key(fs::DirEntry::file_name);
+    let (folders, others): (Vec<_>, Vec<_>) =
+        entries.into_iter().partition(|entry| entry.file_type().is_ok_and(|kind| kind.is_dir()));
+    let is_frame = |path: &Path| {
+        // Other systems keep what their own file system has no place for in files of such names.
+        let beside = path.file_name().is_some_and(|name| name.as_bytes().starts_with(b"._"));
+        !beside && path.extension().is_some_and(|end| end.eq_ignore_ascii_case("srw")) && is_file(path)
+    };
+    let paths = others.iter().map(fs::DirEntry::path).filter(|path| is_frame(path));
+    files.extend(paths.map(|path| Found { path, below: below.into() }));
+    for entry in folders.iter().filter(|_| recursive) {
+        if !entry.metadata().is_ok_and(|folder| outputs.contains(&Identity::of(&folder))) {
+            within(&entry.path(), &below.join(entry.file_name()), recursive, outputs, files)?;
+        }
+    }
+    Ok(())
 }
 
 /// Whether what is found in a folder is a file, or a link to nothing, which is told: to open a pipe would wait for its writer.

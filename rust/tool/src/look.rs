@@ -2,6 +2,8 @@
 
 use crate::form::{self, Decoded, Form, Picture};
 use crate::report;
+use crate::sheet;
+use crate::verdict::{Status, Verdict};
 use crate::worker::Worker;
 use razvolk::srw::{self, Fault, Frame};
 use razvolk::{MAX_SIDE, Refusal, Run};
@@ -15,7 +17,8 @@ pub struct Look<'a> {
     pub decoded: Option<Decoded<'a>>,
     /// The fill if one is stated, and the runs that were set, if the frame is blanked.
     pub blanked: Option<(Option<u16>, Vec<Run>)>,
-    missing: usize,
+    /// How many bytes of the stream the file lacks.
+    pub missing: usize,
 }
 
 /// What is wanted of a frame: that it is clean; that it is blanked, with a stated fill or none.
@@ -55,22 +58,9 @@ impl<'a> Look<'a> {
         Ok(Look { answer, over, decoded, blanked, missing })
     }
 
-    /// The exit status of a frame by itself: 1 refused, 3 something old or missing, 0 clean.
-    pub fn status(&self) -> u8 {
-        let clean = self.missing == 0 && self.decoded.is_none_or(|decoded| decoded.marks.is_clean());
-        match self.answer {
-            Err(_) => 1,
-            Ok(()) if clean => 0,
-            Ok(()) => 3,
-        }
-    }
-
-    /// What is told of it.
-    pub fn text(&self, name: &str, frame: &Frame) -> String {
-        let marks = report::marks(self.decoded.map(|decoded| decoded.marks), self.missing);
-        let blanked = self.blanked.as_ref().map(|(fill, runs)| report::blanked(runs, *fill)).unwrap_or_default();
-        let standing = report::standing(self.answer);
-        format!("{}\n{}\n{standing}{marks}{blanked}", report::heading(name, frame), report::answer(self.answer))
+    /// Whether the file determines every sample, and lacks nothing.
+    pub fn is_clean(&self) -> bool {
+        Verdict::of(self).status == Status::Clean
     }
 }
 
@@ -80,20 +70,23 @@ pub fn seen(file: &[u8]) -> Result<String, Fault> {
     let frame = srw::frame(file)?;
     let sides = frame.width <= MAX_SIDE && frame.height <= MAX_SIDE;
     if sides && frame.width * frame.height > 10_000 {
-        return Ok(report::heading("file", &frame));
+        return Ok(report::heading(&frame));
     }
     let mut worker = Worker::default();
     let look = Look::at(&mut worker, &frame, None, Wanted::default()).expect("few samples");
     if let Some(decoded) = look.decoded {
-        for (form, half) in [(Form::Pgm, false), (Form::Png, false), (Form::Png, true), (Form::Planes, false)] {
-            let file = form::file(form, decoded, Picture { half, ..Picture::default() });
+        for (form, full) in [(Form::Pgm, false), (Form::Png, false), (Form::Png, true), (Form::Planes, false)] {
+            let file = form::file(form, decoded, Picture { full, ..Picture::default() });
             assert_eq!(file.is_err(), decoded.samples.is_empty());
         }
         stored(decoded);
+        let _ = sheet::card("file", &Verdict::of(&look), Some(decoded), Picture::default());
     }
-    let text = look.text("file", &frame);
+    let text = Verdict::of(&look).line("file") + &report::details(&look, &frame);
     let look = Look::at(&mut worker, &frame, None, Wanted { clean: false, blank: Some(Some(9)) }).expect("few samples");
     if let Some(decoded) = look.decoded {
+        let outlined = form::file(Form::Png, decoded, Picture { outline: true, ..Picture::default() });
+        assert_eq!(outlined.is_err(), decoded.samples.is_empty());
         let mut each = decoded.samples.iter().zip(decoded.marks.bytes());
         assert!(
             each.all(|(&sample, &mark)| mark == 0 || sample == 9),
@@ -112,5 +105,5 @@ fn stored(decoded: Decoded) {
     let mut worker = Worker::default();
     let look = Look::at(&mut worker, &frame, None, Wanted { clean: true, blank: None }).expect("few samples");
     let again = look.decoded.expect("done");
-    assert!(look.status() == 0 && again.samples == decoded.samples);
+    assert!(look.is_clean() && again.samples == decoded.samples);
 }

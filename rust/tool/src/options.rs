@@ -2,273 +2,201 @@
 
 use crate::form::{Form, Picture};
 use crate::input::is_stdin;
+use clap::error::ErrorKind;
+use clap::{CommandFactory, Parser};
+use clap_complete::Shell;
 use std::ffi::{OsStr, OsString};
-use std::num::NonZeroU8;
-use std::os::unix::ffi::OsStrExt;
 use std::path::{Path, PathBuf};
 
-pub const HELP: &str = "\
-razvolk: decodes Samsung raw frames, V0 and V2, tells which samples rest on what the buffer held before or on missing words, and
-writes V0 and V2
+const ABOUT: &str = "\
+Tells of Samsung raw frames (SRW, V0 and V2) which are clean, which show another picture, and which are incomplete; \
+shows where, and writes pictures, samples, V0 and V2";
 
-usage: razvolk [OPTIONS] FILE.srw|FOLDER|- ...
-       razvolk [OPTIONS] --v0 WIDTHxHEIGHT --offsets FILE STREAM|-
-       razvolk [OPTIONS] --v2 WIDTHxHEIGHT STREAM|-
+const AFTER: &str = "\
+A line a frame:
+  CLEAN       every sample is determined by the file. It doesn't mean undamaged: a file in which bytes
+              were changed, or are zeros, decodes to a clean frame of other samples
+  HOLD BACK   samples show what the worker's buffer held before: another picture, maybe a stranger's
+  INCOMPLETE  the file breaks off; what isn't missing is final, and stays when the rest arrives
+  REFUSED     the frame can't be decoded, or not from the row on that is told
+  UNREADABLE  the file can't be read, or has no frame
 
-  FILE.srw         a camera's file: TIFF, compression 32770 with tag 40976 (V0), or 32773 (V2)
-  FOLDER           the .srw files in it
-  -                standard input
-  STREAM           a bare stream, of the size that --v0 or --v2 tells
-  --offsets FILE   the byte offset of each row in a bare V0 stream: decimal numbers, parted by spaces, commas or lines
-  --over FILE.srw  decode this frame first, into the same buffer, as a worker would; else what is written starts from zeros
-  --blank [FILL]   set the samples that rest on old values or missing words to FILL, or to what lies to their left, tell
-                   their runs, and write the frame so
-  --clean          decode a V0 frame only if it is clean: no block of rows 0 and 1 looks up, no length is outside 0 to 16, and
-                   no word is missing; else the first fault is told, and nothing is written
-  --check-packed MEANT.srw
-                   decode MEANT.srw, and check V0 frames that another program packed of it: each must be clean, hold the same
-                   samples, and have no more bytes of stream than --write-v0 would make; nothing is written
-  --jobs N         decode with N workers, one buffer each; else one for each processor
-  --json           tell in JSON, one object a frame (below)
+JSON, an object a line: file, and file_bytes (hexadecimal) where the name isn't UTF-8; status (clean,
+hold_back, incomplete, refused, unreadable, taken, skipped); clean; error where a file can't be read or
+written; version, width, height, bits, header (V2's own), stream_bytes, missing_bytes, missing_words
+(that were read past the end), answer (0 is done), row, text, over (the answer to that frame); of a
+stream that was begun samples, old, old_rows, filler, filler_rows (of another picture, and missing),
+runs of both (row, first column, length); with --blank blanked: FILL, or null
 
- to write, each with a FILE, or with a FOLDER that is there, in which outputs are named after their frames:
-  --pgm FILE       the samples, 16 bits each
-  --png FILE       a picture in which samples that rest on old values are tinted red, on missing words blue, on both violet, if
-                   they aren't blanked
-  --planes FILE    such a picture of the four colour planes, side by side: even rows and even columns, even and odd, odd and
-                   even, odd and odd
-  --write-v0 FILE  the samples as V0, none above 16,383, in a file that this tool reads again
-  --to-v2 FILE     a V0 frame as V2, of a width that is a multiple of 16, with no sample marked or above 16,383, in a file that
-                   this tool reads again
-  --force          replace files of these names; a file that is read is never written over
-
- pictures:
-  --white NUMBER   the sample that is white; else one that 199 of 200 samples don't exceed
-  --linear         grey in proportion to the sample; else a gamma curve of 1/2.2
-  --half           one pixel for each square of four samples
-
-  --help, -h, --version, -V
-
-JSON, an object a line: file; error where it can't be read or written or has no frame; else version, width, height, bits (as the
-container has them, or null), header (V2's own), stream_bytes, missing_bytes, missing_words (that were read past the end), answer
-(0 is done), row, text, over (the answer to that frame); of a stream that was begun samples, old and filler (how many rest on what the buffer held, and on missing
-words), old_rows and filler_rows (first, last, and samples of each row), runs of both (row, first column, length); and with --blank
-blanked: FILL, or null
-
-exit status, of several frames the first that there is of 2, 1, 3, 0:
-  0  all frames are done, and clean; with --check-packed, taken
+Exit status, of several frames the first that there is of 2, 1, 3, 0:
+  0  all frames are clean; with --check-packed, taken
   1  a frame is refused
   2  bad options, or a file that can't be read or written, or that has no frame
-  3  a frame is done, and samples of it rest on old values or missing words, or bytes of it are missing
-";
+  3  a frame is to be held back, or is incomplete";
 
-/// A bare stream.
-#[derive(Clone, Debug, PartialEq, Eq)]
-pub struct Bare {
-    pub width: usize,
-    pub height: usize,
-    /// Of V0.
-    pub offsets: Option<PathBuf>,
-}
-
-#[derive(Clone, Debug, Default, PartialEq, Eq)]
+/// All that is asked for.
+#[derive(Parser, Clone, Debug, Default, PartialEq, Eq)]
+#[command(name = "razvolk", version, about = ABOUT, after_help = AFTER, max_term_width = 100)]
 pub struct Options {
-    /// At least one; `-` is standard input.
+    /// Cameras' files (TIFF; V0 is compression 32770 with tag 40976, V2 is 32773), folders of them, or - for standard input;
+    /// with --v0 or --v2 one bare stream
+    #[arg(value_name = "FILE.srw|FOLDER|-", required_unless_present = "completions")]
     pub files: Vec<PathBuf>,
-    pub bare: Option<Bare>,
-    pub over: Option<PathBuf>,
-    /// The file with the samples that frames are meant to hold, where they are only checked.
-    pub check_packed: Option<PathBuf>,
-    /// Whether frames are to be blanked, and the fill if one is stated.
-    pub blank: Option<Option<u16>>,
-    pub pgm: Option<PathBuf>,
-    pub png: Option<PathBuf>,
-    pub planes: Option<PathBuf>,
-    pub write_v0: Option<PathBuf>,
-    pub to_v2: Option<PathBuf>,
-    pub force: bool,
-    pub picture: Picture,
-    pub clean: bool,
+    /// Look into folders below folders, too; outputs go to folders of the same names
+    #[arg(short, long)]
+    pub recursive: bool,
+    /// Tell the details of each frame
+    #[arg(short, long, conflicts_with = "quiet")]
+    pub verbose: bool,
+    /// Tell only of frames that need care
+    #[arg(short, long)]
+    pub quiet: bool,
+    /// Tell in JSON, one object a frame
+    #[arg(long)]
     pub json: bool,
-    pub jobs: Option<usize>,
+    /// Leave the list of runs out of JSON, which may be long
+    #[arg(long, requires = "json")]
+    pub no_runs: bool,
+    /// Decode with so many workers, one buffer each; else one for each processor
+    #[arg(short, long, value_name = "N", value_parser = clap::value_parser!(u8).range(1..))]
+    pub jobs: Option<u8>,
+    /// Decode this frame first, into the same buffer, as a worker would; else pictures start from black
+    #[arg(long, value_name = "FILE.srw")]
+    pub over: Option<PathBuf>,
+    /// Set what is of another picture or missing to FILL, or to what lies to its left
+    #[arg(long, value_name = "FILL", num_args = 0..=1, require_equals = true)]
+    pub blank: Option<Option<u16>>,
+    /// Decode a V0 frame only if it is clean; else its first fault is told, and nothing is written
+    #[arg(long)]
+    pub clean: bool,
+    /// Check V0 frames that another program packed: each must be clean, hold the samples of MEANT.srw, and have no more bytes
+    /// of stream than --write-v0 would make
+    #[arg(long, value_name = "MEANT.srw", conflicts_with_all = ["over", "blank", "clean", "out", "pgm", "png", "planes",
+        "write_v0", "to_v2", "sheet"])]
+    pub check_packed: Option<PathBuf>,
+    /// The size of a bare V0 stream
+    #[arg(long, value_name = "WIDTHxHEIGHT", value_parser = size, requires = "offsets", conflicts_with = "v2",
+        help_heading = "Bare streams")]
+    pub v0: Option<(usize, usize)>,
+    /// The byte offset of each of its rows: decimal numbers, parted by spaces, commas or lines
+    #[arg(long, value_name = "FILE", requires = "v0", conflicts_with = "v2", help_heading = "Bare streams")]
+    pub offsets: Option<PathBuf>,
+    /// The size of a bare V2 stream
+    #[arg(long, value_name = "WIDTHxHEIGHT", value_parser = size, help_heading = "Bare streams")]
+    pub v2: Option<(usize, usize)>,
+    /// Write to this folder, which is made where it isn't there; outputs are named after their frames
+    #[arg(short, long, value_name = "FOLDER", help_heading = "Outputs")]
+    pub out: Option<PathBuf>,
+    /// What is written there
+    #[arg(
+        long = "write",
+        value_name = "FORM",
+        value_enum,
+        value_delimiter = ',',
+        default_value = "png",
+        requires = "out",
+        help_heading = "Outputs"
+    )]
+    pub forms: Vec<Form>,
+    /// A picture; what is of another picture is tinted red, what is missing blue, both violet. FILE may be a folder that is
+    /// there, or - for standard output, here and below
+    #[arg(long, value_name = "FILE", help_heading = "Outputs")]
+    pub png: Option<PathBuf>,
+    /// The samples, 16 bits each
+    #[arg(long, value_name = "FILE", help_heading = "Outputs")]
+    pub pgm: Option<PathBuf>,
+    /// A picture of the four colour planes, side by side: even rows and even columns, even and odd, odd and even, odd and odd
+    #[arg(long, value_name = "FILE", help_heading = "Outputs")]
+    pub planes: Option<PathBuf>,
+    /// The samples as V0, none above 16,383, in a file that this tool reads again
+    #[arg(long, value_name = "FILE", help_heading = "Outputs")]
+    pub write_v0: Option<PathBuf>,
+    /// A clean V0 frame as V2, of a width that is a multiple of 16, no sample above 16,383
+    #[arg(long, value_name = "FILE", help_heading = "Outputs")]
+    pub to_v2: Option<PathBuf>,
+    /// A page of all frames to look through in a browser: pictures, verdicts, marks that are switched on and off
+    #[arg(long, value_name = "FILE.html", help_heading = "Outputs")]
+    pub sheet: Option<PathBuf>,
+    /// Replace files of these names; a file that is read is never written over
+    #[arg(long, help_heading = "Outputs")]
+    pub force: bool,
+    /// Pass over frames whose outputs are there, to go on after an interruption
+    #[arg(long, conflicts_with_all = ["force", "sheet"], help_heading = "Outputs")]
+    pub skip_existing: bool,
+    #[command(flatten)]
+    pub picture: Picture,
+    /// Print the completions of a shell
+    #[arg(long, value_name = "SHELL", value_enum, hide = true)]
+    pub completions: Option<Shell>,
 }
 
 impl Options {
-    /// The file with the offsets of a bare stream.
-    pub fn offsets(&self) -> Option<&Path> {
-        self.bare.as_ref()?.offsets.as_deref()
-    }
-
-    /// What is to be written, and where: a file, or a folder.
+    /// What is to be written, and where: a file, a folder, or standard output.
     pub fn outputs(&self) -> Vec<(Form, &Path)> {
-        let all = [
+        let named = [
             (Form::Pgm, &self.pgm),
             (Form::Png, &self.png),
             (Form::Planes, &self.planes),
             (Form::V0, &self.write_v0),
             (Form::V2, &self.to_v2),
         ];
-        all.into_iter().filter_map(|(form, path)| Some((form, path.as_deref()?))).collect()
-    }
-}
-
-#[derive(Clone, Debug, PartialEq, Eq)]
-pub enum Asked {
-    Help,
-    Version,
-    Look(Box<Options>),
-}
-
-/// An option's name, and the value that is told with it, as in `--png=FILE`.
-fn parted(word: &OsStr) -> (String, Option<OsString>) {
-    let bytes = word.as_bytes();
-    let at = bytes.iter().position(|&byte| byte == b'=').filter(|_| bytes.starts_with(b"--"));
-    let name = &bytes[..at.unwrap_or(bytes.len())];
-    (String::from_utf8_lossy(name).into(), at.map(|at| OsStr::from_bytes(&bytes[at + 1..]).into()))
-}
-
-/// What the words have told so far; the last three are of a bare stream.
-#[derive(Default)]
-struct Told {
-    options: Options,
-    v0: Option<Size>,
-    v2: Option<Size>,
-    offsets: Option<PathBuf>,
-}
-
-impl Told {
-    /// An option that stands alone: whether it is one.
-    fn switch(&mut self, name: &str) -> bool {
-        let options = &mut self.options;
-        let switch = match name {
-            "--linear" => &mut options.picture.linear,
-            "--half" => &mut options.picture.half,
-            "--clean" => &mut options.clean,
-            "--json" => &mut options.json,
-            "--force" => &mut options.force,
-            _ => return false,
-        };
-        *switch = true;
-        true
+        let named = named.into_iter().filter_map(|(form, path)| Some((form, path.as_deref()?)));
+        let out = self.out.as_deref().map(|out| self.forms.iter().map(move |&form| (form, out)));
+        named.chain(out.into_iter().flatten()).collect()
     }
 
-    /// An option with a value: whether it is one.
-    fn valued(&mut self, name: &str, mut value: impl FnMut() -> Result<OsString, String>) -> Result<bool, String> {
-        let options = &mut self.options;
-        match name {
-            "--v0" => once(name, &mut self.v0, size(&value()?)?)?,
-            "--v2" => once(name, &mut self.v2, size(&value()?)?)?,
-            "--offsets" => once(name, &mut self.offsets, value()?.into())?,
-            "--over" => once(name, &mut options.over, value()?.into())?,
-            "--check-packed" => once(name, &mut options.check_packed, value()?.into())?,
-            "--pgm" => once(name, &mut options.pgm, output(value()?)?)?,
-            "--png" => once(name, &mut options.png, output(value()?)?)?,
-            "--planes" => once(name, &mut options.planes, output(value()?)?)?,
-            "--write-v0" => once(name, &mut options.write_v0, output(value()?)?)?,
-            "--to-v2" => once(name, &mut options.to_v2, output(value()?)?)?,
-            "--white" => once(name, &mut options.picture.white, number(&value()?, "number up to 65535")?)?,
-            "--jobs" => {
-                let jobs: NonZeroU8 = number(&value()?, "number of workers, 1 to 255")?;
-                once(name, &mut options.jobs, usize::from(jobs.get()))?;
-            }
-            _ => return Ok(false),
-        }
-        Ok(true)
+    /// Whether an output goes to standard output: what is told goes to standard error then.
+    pub fn to_stdout(&self) -> bool {
+        self.outputs().iter().any(|(_, to)| is_stdin(to))
     }
 
-    /// What is asked for, if it goes together.
-    fn asked(self) -> Result<Asked, String> {
-        let Told { mut options, v0, v2, offsets } = self;
-        options.bare = bare(v0, v2, offsets)?;
-        let read = options.files.iter().map(PathBuf::as_path).chain(options.over.as_deref());
-        let read = read.chain(options.check_packed.as_deref()).chain(options.offsets());
-        let stdin = read.filter(|file| is_stdin(file)).count();
-        let others =
-            options.over.is_some() || options.blank.is_some() || options.clean || !options.outputs().is_empty();
-        match options.files.len() {
-            _ if options.check_packed.is_some() && others => {
-                Err("--check-packed writes nothing, and goes without --over, --blank and --clean".into())
-            }
-            0 => Err("no file is named".into()),
-            2.. if options.bare.is_some() => Err("one bare stream at a time".into()),
-            _ if stdin > 1 => Err("standard input is read once".into()),
-            _ => Ok(Asked::Look(options.into())),
+    /// The size of a bare stream.
+    pub fn bare(&self) -> Option<(usize, usize)> {
+        self.v0.or(self.v2)
+    }
+
+    /// What can't go together, beyond what each option says of itself.
+    fn fault(&self) -> Option<&'static str> {
+        let read = self.files.iter().chain(&self.over).chain(&self.check_packed).chain(&self.offsets);
+        let outputs = self.outputs();
+        match () {
+            _ if self.files.len() > 1 && self.bare().is_some() => Some("one bare stream at a time"),
+            _ if read.filter(|file| is_stdin(file)).count() > 1 => Some("standard input is read once"),
+            _ if outputs.iter().filter(|(_, to)| is_stdin(to)).count() > 1 => Some("standard output takes one output"),
+            _ if self.sheet.as_deref().is_some_and(is_stdin) => Some("a sheet goes to a file"),
+            _ if outputs.iter().any(|(_, to)| to.as_os_str().is_empty()) => Some("an output needs a name"),
+            _ => None,
         }
     }
 }
 
 /// Reads the words after the program's name.
-pub fn read(words: impl IntoIterator<Item = OsString>) -> Result<Asked, String> {
+pub fn read(words: impl IntoIterator<Item = OsString>) -> Result<Options, clap::Error> {
+    let options = Options::try_parse_from([OsString::from("razvolk")].into_iter().chain(with_fill(words)))?;
+    match options.fault() {
+        None => Ok(options),
+        Some(fault) => Err(Options::command().error(ErrorKind::ArgumentConflict, fault)),
+    }
+}
+
+/// A number after `--blank` is its fill: the two become one word. A file of such a name comes after `--`.
+fn with_fill(words: impl IntoIterator<Item = OsString>) -> Vec<OsString> {
     let mut words = words.into_iter().peekable();
-    let mut all = Told::default();
-    while let Some(word) = words.next() {
-        let (name, mut told) = parted(&word);
-        if name == "--blank" {
-            // A word that is a number is the fill; a file of such a name comes after --.
-            let next = || words.next_if(|word| word.to_str().is_some_and(|word| word.parse::<u32>().is_ok()));
-            let fill = told.or_else(next).map(|fill| number(&fill, "number up to 65535")).transpose()?;
-            once(&name, &mut all.options.blank, fill)?;
-            continue;
+    let (mut joined, mut files_only) = (Vec::new(), false);
+    while let Some(mut word) = words.next() {
+        files_only |= word == "--";
+        let is_number = |next: &OsString| next.to_str().is_some_and(|next| next.parse::<u32>().is_ok());
+        if let Some(fill) = (word == "--blank" && !files_only).then(|| words.next_if(is_number)).flatten() {
+            word = OsString::from_iter([OsStr::new("--blank="), &fill]);
         }
-        let value = || {
-            let value = told.take().or_else(|| words.next());
-            value.filter(|value| !value.is_empty()).ok_or(format!("{name} needs a value"))
-        };
-        if all.valued(&name, value)? {
-            continue;
-        }
-        match name.as_str() {
-            "--help" | "-h" => return Ok(Asked::Help),
-            "--version" | "-V" => return Ok(Asked::Version),
-            "--" => all.options.files.extend(words.by_ref().map(PathBuf::from)),
-            _ if all.switch(&name) => {}
-            _ if name.starts_with('-') && name != "-" => return Err(format!("there is no option {name}")),
-            _ => all.options.files.push(word.into()),
-        }
-        if told.is_some() {
-            return Err(format!("{name} takes no value"));
-        }
+        joined.push(word);
     }
-    all.asked()
+    joined
 }
 
-type Size = (usize, usize);
-
-fn bare(v0: Option<Size>, v2: Option<Size>, offsets: Option<PathBuf>) -> Result<Option<Bare>, String> {
-    match (v0, v2, offsets) {
-        (None, None, None) => Ok(None),
-        (Some((width, height)), None, offsets @ Some(_)) => Ok(Some(Bare { width, height, offsets })),
-        (None, Some((width, height)), None) => Ok(Some(Bare { width, height, offsets: None })),
-        (Some(_), Some(_), _) => Err("a stream is V0 or V2, not both".into()),
-        (Some(_), None, None) => Err("a bare V0 stream needs --offsets".into()),
-        (None, _, Some(_)) => Err("--offsets goes with --v0 alone".into()),
-    }
-}
-
-fn once<T>(name: &str, place: &mut Option<T>, value: T) -> Result<(), String> {
-    match place.replace(value) {
-        None => Ok(()),
-        Some(_) => Err(format!("{name} is told twice")),
-    }
-}
-
-/// Standard output has what is told, and an output is a file.
-fn output(word: OsString) -> Result<PathBuf, String> {
-    match word.as_bytes() {
-        b"-" => Err("outputs go to files, not to standard output; ./- is a file of that name".into()),
-        _ => Ok(word.into()),
-    }
-}
-
-fn size(word: &OsStr) -> Result<Size, String> {
-    let word = word.to_string_lossy();
+fn size(word: &str) -> Result<(usize, usize), String> {
     let sides = word.split_once('x').and_then(|(width, height)| Some((width.parse().ok()?, height.parse().ok()?)));
-    sides.ok_or(format!("{word} is no size, as 5546x3714 is"))
-}
-
-fn number<T: std::str::FromStr>(word: &OsStr, what: &str) -> Result<T, String> {
-    let word = word.to_string_lossy();
-    word.parse().map_err(|_| format!("{word} is no {what}"))
+    sides.ok_or("no size, as 5546x3714 is".into())
 }
 
 /// The numbers of a text.
@@ -281,17 +209,23 @@ pub fn numbers(text: &str) -> Result<Vec<u32>, String> {
 mod tests {
     use super::*;
 
-    fn asked(line: &str) -> Result<Asked, String> {
+    fn asked(line: &str) -> Result<Options, clap::Error> {
         read(line.split_whitespace().map(OsString::from))
+    }
+
+    fn files(files: &[&str]) -> Options {
+        Options { files: files.iter().map(PathBuf::from).collect(), forms: vec![Form::Png], ..Options::default() }
+    }
+
+    #[test]
+    fn the_options_fit_each_other() {
+        Options::command().debug_assert();
     }
 
     #[test]
     fn files_with_all_there_is() {
         let options = Options {
-            files: vec!["a.srw".into(), "b=.srw".into(), "-".into()],
-            bare: None,
             over: Some("c.srw".into()),
-            check_packed: None,
             blank: Some(Some(512)),
             pgm: Some("d".into()),
             png: Some("e=f".into()),
@@ -299,84 +233,79 @@ mod tests {
             write_v0: Some("h".into()),
             to_v2: Some("i".into()),
             force: true,
-            picture: Picture { white: Some(4_095), linear: true, half: true },
+            picture: Picture { white: Some(4_095), linear: true, full: true, outline: true },
             clean: true,
             json: true,
             jobs: Some(3),
+            ..files(&["a.srw", "b=.srw", "-"])
         };
         let line = "--over=c.srw --blank 512 a.srw --force --pgm d --png=e=f b=.srw --planes g --write-v0 h --to-v2 i - --white 4095 --json --clean \
-            --linear --half --jobs 3";
-        assert_eq!(asked(line), Ok(Asked::Look(options.into())));
-        let blank = |blank| Ok(Asked::Look(Options { files: vec!["a".into()], blank, ..Options::default() }.into()));
-        assert_eq!([asked("--blank a"), asked("a --blank")], [blank(Some(None)), blank(Some(None))]);
-        assert_eq!([asked("a --blank 0"), asked("--blank=9 a")], [blank(Some(Some(0))), blank(Some(Some(9)))]);
-        assert_eq!(
-            asked("-- --x"),
-            Ok(Asked::Look(Options { files: vec!["--x".into()], ..Options::default() }.into()))
-        );
-        assert_eq!(
-            (asked("a --help"), asked("--version"), asked("-V")),
-            (Ok(Asked::Help), Ok(Asked::Version), Ok(Asked::Version))
-        );
+            --linear --full --outline -j3";
+        assert_eq!(asked(line).ok(), Some(options));
     }
 
     #[test]
-    fn what_others_packed() {
-        let options =
-            |json| Options { files: vec!["a".into()], check_packed: Some("m".into()), json, ..Options::default() };
-        assert_eq!(asked("--check-packed m a"), Ok(Asked::Look(options(false).into())));
-        assert_eq!(asked("a --json --check-packed=m"), Ok(Asked::Look(options(true).into())));
+    fn a_number_after_blank_is_its_fill() {
+        let blank = |blank| Some(Options { blank, ..files(&["a"]) });
+        assert_eq!([asked("--blank a").ok(), asked("a --blank").ok()], [blank(Some(None)), blank(Some(None))]);
+        assert_eq!(
+            [asked("a --blank 0").ok(), asked("--blank=9 a").ok()],
+            [blank(Some(Some(0))), blank(Some(Some(9)))]
+        );
+        assert_eq!(asked("--blank -- 7").ok(), Some(Options { blank: Some(None), ..files(&["7"]) }));
+        assert_eq!(asked("-- --x").ok(), Some(files(&["--x"])));
     }
 
     #[test]
-    fn bare_streams() {
-        let bare = |offsets| Some(Bare { width: 646, height: 436, offsets });
-        let look = |bare| Ok(Asked::Look(Options { files: vec!["s".into()], bare, ..Options::default() }.into()));
-        assert_eq!(asked("--v2 646x436 s"), look(bare(None)));
-        assert_eq!(asked("s --offsets o --v0=646x436"), look(bare(Some("o".into()))));
+    fn a_folder_for_outputs() {
+        let options = asked("a -o out --write pgm,v0 --png b").expect("a line");
+        let out = Path::new("out");
+        assert_eq!(options.outputs(), [(Form::Png, Path::new("b")), (Form::Pgm, out), (Form::V0, out)]);
+        assert_eq!(asked("a -o out").expect("a line").outputs(), [(Form::Png, out)]);
+        assert!(asked("a").expect("a line").outputs().is_empty());
+        assert!(asked("a --pgm -").expect("a line").to_stdout());
     }
 
     #[test]
     fn what_is_no_line() {
         for (line, text) in [
-            ("", "no file is named"),
+            ("", "<FILE.srw|FOLDER|->"),
             ("--v2 2x2 a b", "one bare stream at a time"),
             ("- a -", "standard input is read once"),
             ("--over - -", "standard input is read once"),
             ("--v0 2x2 --offsets - -", "standard input is read once"),
-            ("--png", "--png needs a value"),
-            ("--blank 65536 s", "65536 is no number up to 65535"),
-            ("--blank=x s", "x is no number up to 65535"),
-            ("--blank --blank 5 s", "--blank is told twice"),
-            ("--blank 5", "no file is named"),
-            ("--check-packed m", "no file is named"),
-            (
-                "--check-packed m a --clean",
-                "--check-packed writes nothing, and goes without --over, --blank and --clean",
-            ),
-            (
-                "--check-packed m a --pgm p",
-                "--check-packed writes nothing, and goes without --over, --blank and --clean",
-            ),
-            ("--gif a", "there is no option --gif"),
-            ("-x a", "there is no option -x"),
-            ("--force=a b", "--force takes no value"),
-            ("--png a --png b c", "--png is told twice"),
-            ("a --write-v0", "--write-v0 needs a value"),
-            ("--v0 2x2 s", "a bare V0 stream needs --offsets"),
-            ("--v2 2x2 --offsets o s", "--offsets goes with --v0 alone"),
-            ("--offsets o s", "--offsets goes with --v0 alone"),
-            ("--v0 2x2 --v2 2x2 s", "a stream is V0 or V2, not both"),
-            ("--v2 2 s", "2 is no size, as 5546x3714 is"),
-            ("--v2 -1x2 s", "-1x2 is no size, as 5546x3714 is"),
-            ("--v2 99999999999999999999x2 s", "99999999999999999999x2 is no size, as 5546x3714 is"),
-            ("--white 65536 s", "65536 is no number up to 65535"),
-            ("--jobs many s", "many is no number of workers, 1 to 255"),
-            ("--jobs 0 s", "0 is no number of workers, 1 to 255"),
-            ("--png= s", "--png needs a value"),
-            ("--to-v2 - s", "outputs go to files, not to standard output; ./- is a file of that name"),
+            ("a --png - --pgm -", "standard output takes one output"),
+            ("a --sheet -", "a sheet goes to a file"),
+            ("--png", "--png"),
+            ("--blank 65536 s", "65536"),
+            ("--blank=x s", "--blank"),
+            ("--blank --blank 5 s", "--blank"),
+            ("--blank 5", "<FILE.srw|FOLDER|->"),
+            ("--check-packed m", "<FILE.srw|FOLDER|->"),
+            ("--check-packed m a --clean", "--clean"),
+            ("--check-packed m a --pgm p", "--pgm"),
+            ("--gif a", "--gif"),
+            ("-x a", "-x"),
+            ("--force=a b", "--force"),
+            ("--png a --png b c", "--png"),
+            ("--v0 2x2 s", "--offsets"),
+            ("--v2 2x2 --offsets o s", "--v2"),
+            ("--offsets o s", "--v0"),
+            ("--v0 2x2 --offsets o --v2 2x2 s", "--v2"),
+            ("--v2 2 s", "no size, as 5546x3714 is"),
+            ("--v2=-1x2 s", "no size, as 5546x3714 is"),
+            ("--v2 99999999999999999999x2 s", "no size, as 5546x3714 is"),
+            ("--white 65536 s", "--white"),
+            ("--jobs many s", "--jobs"),
+            ("--jobs 0 s", "--jobs"),
+            ("--png= s", "--png"),
+            ("--force --skip-existing s", "--skip-existing"),
+            ("-v -q s", "--quiet"),
+            ("--write png s", "--out"),
+            ("--write gif -o d s", "gif"),
         ] {
-            assert_eq!(asked(line), Err(text.into()), "{line}");
+            let error = asked(line).expect_err(line);
+            assert!(error.to_string().contains(text) && error.use_stderr(), "{line}: {error}");
         }
     }
 

@@ -1,25 +1,32 @@
 //! Files that are written, without harm to others: an input is never written over, another file only by force, and what
-//! stands under a name at any moment is whole, the old file or the new.
+//! stands under a name at any moment is whole, the old file or the new. An output has no name until it is whole, where the file
+//! system can do that; elsewhere one that a signal's end takes away.
 
 use crate::form::Form;
-use crate::input::{Identity, fault};
+use crate::input::{Found, Identity, fault, is_stdin};
+use crate::signals;
+use nix::fcntl::OFlag;
+use nix::unistd::{LinkatFlags, linkat};
 use std::collections::HashSet;
 use std::fmt::Display;
 use std::fs::{self, File, Metadata, OpenOptions, Permissions};
 use std::io::{self, ErrorKind, Write};
+use std::os::fd::AsRawFd;
 use std::os::unix::ffi::OsStrExt;
+use std::os::unix::fs::OpenOptionsExt;
 use std::path::{Path, PathBuf};
 use std::process;
 
-/// Where an output of a frame goes that is written to a file, or into a folder that is there.
-pub fn named(form: Form, to: &Path, frame: &Path) -> PathBuf {
-    if !to.is_dir() {
+/// Where an output of a frame goes that is written to a file, to standard output, or into a folder that is there: below that
+/// in the folders that the frame has below the one that was named.
+pub fn named(form: Form, to: &Path, frame: &Found) -> PathBuf {
+    if is_stdin(to) || !to.is_dir() {
         return to.into();
     }
-    let stem = frame.file_stem().filter(|stem| *stem != "-").unwrap_or("stdin".as_ref());
+    let stem = frame.path.file_stem().filter(|stem| *stem != "-").unwrap_or("stdin".as_ref());
     let mut name = stem.to_os_string();
     name.push(form.ending());
-    to.join(name)
+    to.join(&frame.below).join(name)
 }
 
 /// Where an output goes.
@@ -42,6 +49,7 @@ pub fn places<'a>(
     let (mut places, mut taken) = (Vec::new(), HashSet::new());
     for name in outputs {
         let place = match fs::metadata(name) {
+            _ if is_stdin(name) => Ok(Place { name: name.into(), path: name.into(), replaced: None }),
             Ok(there) => Place::of_file(name, &there, inputs, force),
             Err(e) if e.kind() == ErrorKind::NotFound => Place::of_nothing(name),
             Err(e) => Err(e.to_string()),
@@ -96,58 +104,125 @@ impl Place {
         &self.name
     }
 
-    /// Writes a file beside the place: in its folder, under a name that no file has.
+    /// Whether it is standard output.
+    pub fn is_stdout(&self) -> bool {
+        is_stdin(&self.name)
+    }
+
+    /// Writes a file that has no name yet, or one beside the place that no other file has.
     pub fn stage(&self, bytes: &[u8]) -> Result<Staged, String> {
-        let (new, file) = new_file(&self.path).map_err(|e| self.fault(e))?;
-        let staged = Staged { new, place: self.clone() };
-        staged.fill(file, bytes).map_err(|e| staged.place.fault(e))?;
+        let staged = Staged { file: NewFile::beside(&self.path).map_err(|e| self.fault(e))?, place: self.clone() };
+        staged.fill(bytes).map_err(|e| self.fault(e))?;
         Ok(staged)
     }
 }
 
-/// A new file beside another.
-fn new_file(path: &Path) -> io::Result<(PathBuf, File)> {
-    let mut number = 0;
-    loop {
-        let new = path.with_file_name(format!(".razvolk-{}-{number}", process::id()));
-        match OpenOptions::new().write(true).create_new(true).open(&new) {
-            Err(e) if e.kind() == ErrorKind::AlreadyExists => number += 1,
-            opened => return opened.map(|file| (new, file)),
+/// A file that is not whole yet.
+#[derive(Debug)]
+enum NewFile {
+    /// It is gone when the tool ends, however that comes.
+    Unnamed(File),
+    /// It is listed among the unfinished ones.
+    Named(File, PathBuf),
+}
+
+impl NewFile {
+    /// In the folder of a path.
+    fn beside(path: &Path) -> io::Result<NewFile> {
+        let folder = path.parent().unwrap_or(Path::new("/"));
+        let unnamed = OpenOptions::new().write(true).custom_flags(OFlag::O_TMPFILE.bits()).open(folder);
+        match unnamed {
+            // It gets its name by the kernel's list of open files.
+            Ok(file) if link_to(&file).exists() => Ok(NewFile::Unnamed(file)),
+            Err(e) if [ErrorKind::StorageFull, ErrorKind::ReadOnlyFilesystem].contains(&e.kind()) => Err(e),
+            _ => {
+                let mut unfinished = signals::hold();
+                let new = free_name(path);
+                let file = OpenOptions::new().write(true).create_new(true).open(&new)?;
+                unfinished.insert(new.clone());
+                Ok(NewFile::Named(file, new))
+            }
+        }
+    }
+
+    fn file(&self) -> &File {
+        let (NewFile::Unnamed(file) | NewFile::Named(file, _)) = self;
+        file
+    }
+
+    /// Gives it this name, which fails where a file has it.
+    fn link(&self, name: &Path) -> io::Result<()> {
+        match self {
+            NewFile::Unnamed(file) => {
+                Ok(linkat(None, link_to(file).as_path(), None, name, LinkatFlags::SymlinkFollow)?)
+            }
+            NewFile::Named(_, new) => put_where_nothing_is(new, name),
+        }
+    }
+
+    /// Puts it in the place of another file. An unnamed one gets a name for that moment, in which no signal ends the tool.
+    fn replace(&self, name: &Path) -> io::Result<()> {
+        let _held = signals::hold();
+        match self {
+            NewFile::Named(_, new) => fs::rename(new, name),
+            NewFile::Unnamed(_) => {
+                let new = free_name(name);
+                self.link(&new)?;
+                fs::rename(&new, name).inspect_err(|_| drop(fs::remove_file(&new)))
+            }
         }
     }
 }
 
-/// A file that stands beside its place. The name that it has there is taken away with this.
+impl Drop for NewFile {
+    fn drop(&mut self) {
+        if let NewFile::Named(_, new) = self {
+            let mut unfinished = signals::hold();
+            // After a move there is nothing left to remove.
+            let _ = fs::remove_file(&*new);
+            unfinished.remove(new);
+        }
+    }
+}
+
+/// Where the kernel lists an open file.
+fn link_to(file: &File) -> PathBuf {
+    format!("/proc/self/fd/{}", file.as_raw_fd()).into()
+}
+
+/// A name beside a file that no other has.
+fn free_name(path: &Path) -> PathBuf {
+    let name = |number: u32| path.with_file_name(format!(".razvolk-{}-{number}", process::id()));
+    (0..).map(name).find(|name| fs::symlink_metadata(name).is_err()).expect("one is free")
+}
+
+/// A whole file that isn't in its place yet.
 #[derive(Debug)]
 pub struct Staged {
-    new: PathBuf,
+    file: NewFile,
     place: Place,
 }
 
 impl Staged {
-    fn fill(&self, mut file: File, bytes: &[u8]) -> io::Result<()> {
+    fn fill(&self, bytes: &[u8]) -> io::Result<()> {
+        let mut file = self.file.file();
         file.write_all(bytes)?;
         if let Some(permissions) = &self.place.replaced {
             file.set_permissions(permissions.clone())?;
+            // The old file is gone when the machine stops after the move; the new one must be there.
+            file.sync_all()?;
         }
-        file.sync_all()
+        Ok(())
     }
 
-    /// Moves the file to its place.
+    /// Puts the file in its place.
     pub fn put(self) -> Result<(), String> {
-        let Staged { new, place } = &self;
+        let Staged { file, place } = &self;
         let put = match place.replaced {
-            Some(_) => fs::rename(new, &place.path),
-            None => put_where_nothing_is(new, &place.path),
+            Some(_) => file.replace(&place.path),
+            None => file.link(&place.path),
         };
         put.map_err(|e| place.fault(e))
-    }
-}
-
-impl Drop for Staged {
-    fn drop(&mut self) {
-        // After a move there is nothing left to remove.
-        let _ = fs::remove_file(&self.new);
     }
 }
 

@@ -2,7 +2,7 @@
 
 use crate::input::Input;
 use crate::look::{Look, Wanted};
-use crate::report;
+use crate::verdict::{Status, Verdict};
 use crate::worker::Worker;
 use razvolk::srw::{Coding, Frame};
 use razvolk::{Refusal, write_v0_to_vecs};
@@ -20,7 +20,7 @@ pub struct Meant {
 /// What came of a frame.
 pub struct Checked {
     pub answer: Result<(), Refusal>,
-    text: String,
+    pub verdict: Verdict,
 }
 
 impl Meant {
@@ -28,14 +28,14 @@ impl Meant {
     pub fn of(file: &Input, frame: &Frame) -> Result<Meant, String> {
         let mut worker = Worker::default();
         let look = Look::at(&mut worker, frame, None, Wanted::default()).map_err(|fault| file.fault(fault))?;
-        match (look.answer, look.status(), look.decoded) {
-            (Ok(()), 0, Some(decoded)) => {
+        match (look.answer, look.is_clean(), look.decoded) {
+            (Ok(()), true, Some(decoded)) => {
                 let (samples, width, height) = (decoded.samples.to_vec(), frame.width, frame.height);
                 let written = write_v0_to_vecs(&samples, width, height).ok().map(|(stream, _)| stream.len());
                 Ok(Meant { name: file.name(), samples, width, height, written })
             }
             (Err(refusal), ..) => Err(file.fault(format_args!("refused {}: {refusal}", refusal.number()))),
-            _ => Err(file.fault("samples of it rest on old values or missing words, so that they say nothing")),
+            _ => Err(file.fault("samples of it are of another picture or missing, so that they say nothing")),
         }
     }
 
@@ -49,22 +49,22 @@ impl Meant {
         worker.make_room(frame)?;
         let scratch = worker.samples();
         let answer = razvolk::check_packed(stream, offsets, width, height, &self.samples, scratch);
-        Ok(Checked { answer, text: self.told(answer, stream.len(), scratch) })
+        Ok(Checked { answer, verdict: self.verdict(answer, stream.len(), scratch) })
     }
 
     /// The answer, and what it is about: how many bytes the writer makes, and the first sample that differs.
-    fn told(&self, answer: Result<(), Refusal>, bytes: usize, scratch: &[u16]) -> String {
-        let written = self.written.map(|written| format!("{bytes} bytes, where the writer makes {written}\n"));
+    fn verdict(&self, answer: Result<(), Refusal>, bytes: usize, scratch: &[u16]) -> Verdict {
+        let written = self.written.map(|written| format!("{bytes} bytes, where the writer makes {written}"));
+        let written = written.unwrap_or_default();
         match answer {
-            Ok(()) => format!("taken: {}", written.unwrap_or_default()),
+            Ok(()) => Verdict::new(Status::Taken, written),
             Err(refusal) => {
-                let mut text = report::answer(answer) + "\n";
-                text += &match refusal {
-                    Refusal::LongStream => written.unwrap_or_default(),
+                let about = match refusal {
+                    Refusal::LongStream => format!(": {written}"),
                     Refusal::OtherSample => self.first_other(scratch),
                     _ => String::new(),
                 };
-                text
+                Verdict::new(Status::Refused, format!("{refusal}{about}"))
             }
         }
     }
@@ -73,18 +73,6 @@ impl Meant {
         let mut both = self.samples.iter().zip(scratch);
         let Some(at) = both.position(|(meant, found)| meant != found) else { return String::new() };
         let (row, column) = (at / self.width, at % self.width);
-        format!("row {row}, column {column}: {}, where {} is meant\n", scratch[at], self.samples[at])
-    }
-}
-
-impl Checked {
-    /// 0 taken, 1 refused.
-    pub fn status(&self) -> u8 {
-        u8::from(self.answer.is_err())
-    }
-
-    /// What is told of it.
-    pub fn text(&self, name: &str, frame: &Frame) -> String {
-        format!("{}\n{}", report::heading(name, frame), self.text)
+        format!(": row {row}, column {column} is {}, where {} is meant", scratch[at], self.samples[at])
     }
 }

@@ -1,6 +1,7 @@
-//! What is told of a frame, in words.
+//! The details of a frame, in words: what follows its verdict, each line indented.
 
 use crate::input::shown;
+use crate::look::Look;
 use razvolk::srw::{Frame, V2Header};
 use razvolk::{Marks, Refusal, Run};
 use std::fmt::Write;
@@ -10,10 +11,16 @@ use std::path::Path;
 const MOST_LINES: usize = 12;
 const MOST_RUNS: usize = 8;
 
+/// All that is told of a frame.
+pub fn details(look: &Look, frame: &Frame) -> String {
+    let marks = marks(look.decoded.map(|decoded| decoded.marks), look.missing);
+    format!("  {}\n  {}\n{marks}", heading(frame), answer(look.answer))
+}
+
 /// What the file holds.
-pub fn heading(name: &str, frame: &Frame) -> String {
+pub fn heading(frame: &Frame) -> String {
     let Frame { coding, width, height, stream, missing, .. } = frame;
-    let mut text = format!("{name}: {coding}, {width} by {height}, {} bytes of stream", stream.len());
+    let mut text = format!("{coding}, {width} by {height}, {} bytes of stream", stream.len());
     if *missing > 0 {
         write!(text, ", {missing} more are missing").expect("a string");
     }
@@ -36,52 +43,33 @@ fn header(frame: &Frame) -> String {
 /// What the decoder answers.
 pub fn answer(answer: Result<(), Refusal>) -> String {
     match answer {
-        Ok(()) => "done".into(),
-        Err(refusal) if ends_a_frame(refusal) => {
+        Ok(()) => "decoded to the end".into(),
+        Err(refusal) if matches!(refusal.number(), 5..=8) => {
             format!("refused {}, row {}: {refusal}", refusal.number(), refusal.row())
         }
         Err(refusal) => format!("refused {}: {refusal}", refusal.number()),
     }
 }
 
-/// Whether it is one of V2's refusals, 5 to 8, that end a frame in a row.
-fn ends_a_frame(refusal: Refusal) -> bool {
-    matches!(refusal.number(), 5..=8)
-}
-
-/// Which rows of a V2 frame stand that a refusal ended: those before it read only words that are there, so that no other bytes
-/// from its words on change them.
-pub fn standing(answer: Result<(), Refusal>) -> String {
-    match answer.err().filter(|&refusal| ends_a_frame(refusal)).map(|refusal| refusal.row()) {
-        None => String::new(),
-        Some(0) => "no row stands\n".into(),
-        Some(1) => "row 0 stands, whatever bytes come after it\n".into(),
-        Some(row) => format!("rows 0 to {} stand, whatever bytes come after them\n", row - 1),
-    }
-}
-
-/// That all samples rest on the stream, of which so many bytes are missing; or how many rest on old values, and in which rows, and
-/// where words were missing, how many rest on those.
-pub fn marks(marks: Option<Marks>, missing: usize) -> String {
-    let Some(marks) = marks else { return "nothing was decoded\n".into() };
+/// How many samples are of another picture or missing, and in which rows.
+fn marks(marks: Option<Marks>, missing: usize) -> String {
+    let Some(marks) = marks else { return "  nothing was decoded\n".into() };
     let all = marks.bytes().len();
-    let words = marks.filler_words();
+    let (old, filler, words) = (marks.count_old(), marks.count_filler(), marks.filler_words());
     if marks.is_clean() && words == 0 {
         return match missing {
-            0 => format!("all {all} samples rest on the stream\n"),
-            _ => format!("none of the missing bytes was read: all {all} samples are final\n"),
+            0 => format!("  all {all} samples are determined by the file\n"),
+            _ => format!("  all {all} samples are final: none of the missing bytes was needed\n"),
         };
     }
-    let rest = |count: usize| match count {
-        0 => format!("none of {all} samples rests"),
-        _ => format!("{count} of {all} samples rest"),
-    };
-    let mut text = format!("{} on what the buffer held before\n", rest(marks.count_old()));
-    text += &listing(&alike(marks.rows_old()), marks.width());
+    let mut text = String::new();
+    if old > 0 {
+        writeln!(text, "  of another picture: {old} of {all} samples").expect("a string");
+        text += &listing(&alike(marks.rows_old()), marks.width());
+    }
     if words > 0 {
-        let (filler, bytes) = (rest(marks.count_filler()), words.saturating_mul(4));
-        writeln!(text, "{filler} on missing words: {words} words ({bytes} bytes) were read past the end")
-            .expect("a string");
+        let bytes = words.saturating_mul(4);
+        writeln!(text, "  missing: {filler} of {all} samples; {bytes} bytes were read past the end").expect("a string");
         text += &listing(&alike(marks.rows_filler()), marks.width());
     }
     text
@@ -93,44 +81,49 @@ fn listing(runs: &[Rows], width: usize) -> String {
     let (listed, more) = runs.split_at(runs.len().min(MOST_LINES));
     for &Rows { first, last, count } in listed {
         match last - first {
-            0 => writeln!(text, "  row {first}: {count} of {width}"),
-            _ => writeln!(text, "  rows {first} to {last}: {count} of {width} each"),
+            0 => writeln!(text, "    row {first}: {count} of {width}"),
+            _ => writeln!(text, "    rows {first} to {last}: {count} of {width} each"),
         }
         .expect("a string");
     }
-    text + &unlisted(more.iter().map(|rows| rows.last - rows.first + 1).sum())
+    text + &unlisted_line(more.iter().map(|rows| rows.last - rows.first + 1).sum())
 }
 
-/// How many rows a listing that is cut leaves out.
-fn unlisted(rows: usize) -> String {
-    match rows {
-        0 => String::new(),
-        _ => format!("  and {}\n", plural(rows, "more row")),
-    }
+/// How many rows a listing that is cut leaves out; nothing where it leaves none.
+pub fn unlisted(before: &str, rows: usize) -> String {
+    if rows == 0 { String::new() } else { format!("{before}{}", plural(rows, "more row")) }
 }
 
-fn plural(n: usize, name: &str) -> String {
+fn unlisted_line(rows: usize) -> String {
+    if rows == 0 { String::new() } else { unlisted("    and ", rows) + "\n" }
+}
+
+pub fn plural(n: usize, name: &str) -> String {
     format!("{n} {name}{}", if n == 1 { "" } else { "s" })
 }
 
-/// What was set: how many samples, to what, and in which columns of which rows, up to so many lines.
+/// How many samples were set, and to what.
 pub fn blanked(runs: &[Run], fill: Option<u16>) -> String {
     if runs.is_empty() {
-        return "nothing to blank\n".into();
+        return "  nothing to blank\n".into();
     }
     let set = runs.iter().map(|run| run.length).sum::<usize>();
     let fill = fill.map_or("what lies left".into(), |fill| fill.to_string());
-    let mut text = format!("blanked to {fill}: {} in {}\n", plural(set, "sample"), plural(runs.len(), "run"));
-    // Rows that follow one another and have the same columns are told once.
+    format!("  blanked to {fill}: {} in {}\n", plural(set, "sample"), plural(runs.len(), "run"))
+}
+
+/// In which columns of which rows, up to so many lines. Rows that follow one another and have the same columns are told once.
+pub fn blanked_columns(runs: &[Run]) -> String {
+    let mut text = String::new();
     let same = |one: &[Run], next: &[Run]| one.iter().map(columns).eq(next.iter().map(columns));
     let rows: Vec<&[Run]> = runs.chunk_by(|one, next| one.row == next.row).collect();
     let mut alike = rows.chunk_by(|one, next| one[0].row + 1 == next[0].row && same(one, next));
     for rows in alike.by_ref().take(MOST_LINES) {
         let (first, last) = (rows[0][0].row, rows[rows.len() - 1][0].row);
         let name = if first == last { format!("row {first}") } else { format!("rows {first} to {last}") };
-        writeln!(text, "  {name}: columns {}", listed(rows[0])).expect("a string");
+        writeln!(text, "    {name}: columns {}", listed(rows[0])).expect("a string");
     }
-    text + &unlisted(alike.map(<[_]>::len).sum())
+    text + &unlisted_line(alike.map(<[_]>::len).sum())
 }
 
 fn columns(run: &Run) -> (usize, usize) {
@@ -152,11 +145,10 @@ fn listed(runs: &[Run]) -> String {
 pub fn stored(path: &Path, answer: Result<(), Refusal>, marks: Option<Marks>) -> String {
     let path = shown(path);
     match (answer, marks.map_or(0, Marks::count)) {
-        (Err(_), _) => format!("{path}: not written, since the frame is refused\n"),
+        (Err(_), _) => format!("  {path}: not written, since the frame is refused\n"),
         (Ok(()), 0) => String::new(),
         (Ok(()), marked) => {
-            let rest = "rest on what the buffer held or on missing words";
-            format!("{path}: {marked} samples that {rest} are stored, and not marked\n")
+            format!("  {path}: {marked} samples of another picture or missing are stored, and not marked\n")
         }
     }
 }
@@ -188,11 +180,11 @@ mod tests {
     fn a_long_listing_is_cut() {
         let runs: Vec<Rows> = (0..20).map(|i| Rows { first: 10 * i, last: 10 * i + i % 2, count: 1 + i }).collect();
         let text = listing(&runs, 40);
-        assert!(text.starts_with("  row 0: 1 of 40\n  rows 10 to 11: 2 of 40 each\n  row 20: 3 of 40\n"));
+        assert!(text.starts_with("    row 0: 1 of 40\n    rows 10 to 11: 2 of 40 each\n    row 20: 3 of 40\n"));
         assert_eq!(text.lines().count(), 13);
-        assert!(text.ends_with("  rows 110 to 111: 12 of 40 each\n  and 12 more rows\n"), "{text}");
+        assert!(text.ends_with("    rows 110 to 111: 12 of 40 each\n    and 12 more rows\n"), "{text}");
         assert!(!listing(&runs[..12], 40).contains("more"));
-        assert!(listing(&runs[..13], 40).ends_with("\n  and 1 more row\n"));
+        assert!(listing(&runs[..13], 40).ends_with("\n    and 1 more row\n"));
     }
 
     /// Of rows in which every other sample is marked, and each has other columns than the one before.
@@ -202,17 +194,13 @@ mod tests {
             let run = move |row, i| Run { row, first: row % 2 + 2 * i, length: 1 };
             (0..rows).flat_map(move |row| (0..runs).map(move |i| run(row, i))).collect::<Vec<_>>()
         };
-        let text = blanked(&runs(15, 10), Some(7));
-        assert!(text.starts_with("blanked to 7: 150 samples in 150 runs\n"), "{text}");
-        assert!(
-            text.contains("\n  row 0: columns 0, 2, 4, 6, 8, 10, 12, 14, and 2 more runs\n  row 1: columns 1, 3,"),
-            "{text}"
-        );
-        assert!(
-            text.ends_with("  row 11: columns 1, 3, 5, 7, 9, 11, 13, 15, and 2 more runs\n  and 3 more rows\n"),
-            "{text}"
-        );
-        assert!(!blanked(&runs(12, 8), Some(7)).contains("more"));
-        assert!(blanked(&runs(13, 9), Some(7)).ends_with(", and 1 more run\n  and 1 more row\n"));
+        assert_eq!(blanked(&runs(15, 10), Some(7)), "  blanked to 7: 150 samples in 150 runs\n");
+        let text = blanked_columns(&runs(15, 10));
+        let begins = "    row 0: columns 0, 2, 4, 6, 8, 10, 12, 14, and 2 more runs\n    row 1: columns 1, 3,";
+        assert!(text.starts_with(begins), "{text}");
+        let ends = "    row 11: columns 1, 3, 5, 7, 9, 11, 13, 15, and 2 more runs\n    and 3 more rows\n";
+        assert!(text.ends_with(ends), "{text}");
+        assert!(!blanked_columns(&runs(12, 8)).contains("more"));
+        assert!(blanked_columns(&runs(13, 9)).ends_with(", and 1 more run\n    and 1 more row\n"));
     }
 }

@@ -14,7 +14,7 @@ pub fn file(frame: Decoded) -> Result<Vec<u8>, String> {
     let mut stream = vec![0; most_v2_bytes(width, height)];
     let length = v0_to_v2(coded.stream, offsets, width, height, &mut new, &mut map, &mut stream)
         .map_err(|refusal| format!("can't be written as V2: {refusal}"))?;
-    let mut coded = Frame::new(Coding::V2, width, height, &stream[..length]);
-    coded.model = model;
-    Ok(coded.to_file())
+    let mut file = Frame::new(Coding::V2, width, height, &stream[..length]);
+    (file.model, file.colour_filter, file.orientation) = (model, coded.colour_filter, coded.orientation);
+    Ok(file.to_file())
 }

@@ -3,8 +3,9 @@
 use crate::folder::srw;
 use razvolk::srw::{Coding, Frame, frame};
 use razvolk::{Refusal, Run};
-use razvolk_tool::look::seen;
+use razvolk_tool::look::{Look, Wanted, seen};
 use razvolk_tool::report;
+use razvolk_tool::verdict::Verdict;
 use razvolk_tool::worker::Worker;
 use streams::images::{christening, sitting};
 use streams::random::Random;
@@ -53,16 +54,15 @@ fn a_band_of_another_frame_is_marked() {
     let first = sitting(width, height);
     assert_eq!(samples[20 * width], first[0], "the band carries down what the first rows held");
     assert_eq!(samples[24 * width..], christening(width, height)[24 * width..]);
-    let text = "7680 of 64000 samples rest on what the buffer held before\n  rows 0 to 23: 320 of 320 each\n";
-    assert_eq!(report::marks(Some(marks), 0), text);
+    assert!(marks.rows_old().eq((0..24).map(|row| (row, width))));
 }
 
 #[test]
 fn a_v2_frame_is_found_and_decoded() {
-    let text = "2616 of 281656 samples rest on what the buffer held before\n  rows 0 to 435: 6 of 646 each\n";
-    of_v2(646, 436, text);
-    of_v2(70, 9, "54 of 630 samples rest on what the buffer held before\n  rows 0 to 8: 6 of 70 each\n");
-    of_v2(32, 1, "all 32 samples rest on the stream\n");
+    of_v2(646, 436, "HOLD BACK  1 % of another picture (columns 640 to 645)");
+    of_v2(70, 9, "HOLD BACK  9 % of another picture (columns 64 to 69)");
+    of_v2(33, 9, "HOLD BACK  3 % of another picture (column 32)");
+    of_v2(32, 1, "CLEAN");
 }
 
 /// A V2 frame of this size in a file, of which this is told.
@@ -78,7 +78,16 @@ fn of_v2(width: usize, height: usize, text: &str) {
         let coded = i % width < width / 16 * 16;
         assert_eq!((*sample, *mark), if coded { (image[i], 0) } else { (0, 1) }, "sample {i}");
     }
-    assert_eq!(report::marks(Some(marks), 0), text);
+    let told = seen_all(&file);
+    assert_eq!(told.lines().next(), Some(format!("file  {text}").as_str()));
+}
+
+/// What is told of a frame of any size.
+fn seen_all(file: &[u8]) -> String {
+    let found = frame(file).expect("a frame");
+    let mut worker = Worker::default();
+    let look = Look::at(&mut worker, &found, None, Wanted::default()).expect("few samples");
+    Verdict::of(&look).line("file") + &report::details(&look, &found)
 }
 
 #[test]
@@ -88,10 +97,9 @@ fn a_file_broken_off_is_decoded_as_far_as_it_goes() {
         let _ = seen(&file[..len]);
     }
     let text = seen(&file[..file.len() - 9]).expect("a frame");
-    assert!(
-        text.starts_with(&format!("file: V0, 20 by 5, {} bytes of stream, 9 more are missing", made.stream.len() - 9))
-    );
-    assert!(text.contains(" samples rest on missing words: 10 words (40 bytes) were read past the end\n"), "{text}");
+    let heading = format!("\n  V0, 20 by 5, {} bytes of stream, 9 more are missing\n", made.stream.len() - 9);
+    assert!(text.starts_with("file  HOLD BACK  ") && text.contains(&heading), "{text}");
+    assert!(text.contains(" samples; 40 bytes were read past the end\n"), "{text}");
 }
 
 #[test]
@@ -148,9 +156,9 @@ fn sizes_without_end_cost_no_memory() {
 #[test]
 fn a_header_that_differs_is_told() {
     let made = v2::encode(&christening(646, 436), 646, 436);
-    let heading = |frame: &Frame| report::heading("file", frame);
+    let heading = |frame: &Frame| report::heading(frame);
     let mut frame = Frame::new(Coding::V2, 646, 436, &made.stream);
-    let plain = format!("file: V2, 646 by 436, {} bytes of stream", made.stream.len());
+    let plain = format!("V2, 646 by 436, {} bytes of stream", made.stream.len());
     assert_eq!(heading(&frame), plain);
     frame.bits = Some(14);
     assert_eq!(heading(&frame), plain);
@@ -165,25 +173,46 @@ fn a_header_that_differs_is_told() {
 
 #[test]
 fn answers_in_words() {
-    assert_eq!(report::answer(Ok(())), "done");
+    assert_eq!(report::answer(Ok(())), "decoded to the end");
     assert_eq!(
         report::answer(Err(Refusal::Overrun { row: 9, filler: 1 })),
         "refused 8, row 9: the stream ends in row 9"
     );
     assert_eq!(report::answer(Err(Refusal::TooLarge)), "refused 1: width or height is above 16,384");
-    let standing = |row| report::standing(Err(Refusal::Overrun { row, filler: 1 }));
-    assert_eq!(standing(9), "rows 0 to 8 stand, whatever bytes come after them\n");
-    assert_eq!(standing(1), "row 0 stands, whatever bytes come after it\n");
-    assert_eq!([report::standing(Ok(())), report::standing(Err(Refusal::TooLarge))], ["", ""]);
-    assert_eq!(report::marks(None, 0), "nothing was decoded\n");
     let run = |row, first, length| Run { row, first, length };
     let runs = [run(0, 0, 9), run(1, 0, 9), run(2, 0, 9), run(4, 0, 9), run(5, 2, 1), run(5, 4, 2)];
-    let text = "blanked to 512: 39 samples in 6 runs\n  rows 0 to 2: columns 0 to 8\n  row 4: columns 0 to 8\n  \
-                row 5: columns 2, 4 to 5\n";
-    assert_eq!(report::blanked(&runs, Some(512)), text);
-    assert_eq!(
-        report::blanked(&runs[4..5], None),
-        "blanked to what lies left: 1 sample in 1 run\n  row 5: columns 2\n"
-    );
-    assert_eq!(report::blanked(&[], None), "nothing to blank\n");
+    assert_eq!(report::blanked(&runs, Some(512)), "  blanked to 512: 39 samples in 6 runs\n");
+    let columns = "    rows 0 to 2: columns 0 to 8\n    row 4: columns 0 to 8\n    row 5: columns 2, 4 to 5\n";
+    assert_eq!(report::blanked_columns(&runs), columns);
+    assert_eq!(report::blanked(&runs[4..5], None), "  blanked to what lies left: 1 sample in 1 run\n");
+    assert_eq!(report::blanked(&[], None), "  nothing to blank\n");
+}
+
+/// A fault is shrunk to few changed bytes of a small file, whatever the file claims.
+mod shrunk {
+    use super::*;
+    use proptest::prelude::*;
+
+    proptest! {
+        #![proptest_config(ProptestConfig { cases: 4_000, failure_persistence: None, ..ProptestConfig::default() })]
+        #[test]
+        fn any_damage_is_answered(
+            changes in prop::collection::vec((0usize..400, any::<u8>()), 0..6),
+            len in 0usize..400,
+        ) {
+            let (_, file) = small();
+            let mut damaged = file[..file.len() - len.min(file.len()) / 4].to_vec();
+            for (at, value) in changes {
+                let at = at % damaged.len().max(1);
+                damaged[at] = value;
+            }
+            let _ = seen(&damaged);
+        }
+
+        #[test]
+        fn any_bytes_are_answered(bytes in prop::collection::vec(any::<u8>(), 0..300), order in 0usize..2) {
+            let head: &[u8] = [b"II*\0\x08\0\0\0", b"MM\0*\0\0\0\x08"][order];
+            let _ = seen(&[head, &bytes].concat());
+        }
+    }
 }

@@ -71,11 +71,23 @@ pub fn refused(text: &str) -> Ran {
     (1, text.into(), String::new())
 }
 
+/// A file can't be read, or has no frame.
+pub fn unreadable(text: &str) -> Ran {
+    (2, text.into(), String::new())
+}
+
+/// Nothing is done, and this is why.
 pub fn bad(text: &str) -> Ran {
     (2, String::new(), complaint(text))
 }
 
-/// What is said of an error ends with where to look.
 pub fn complaint(text: &str) -> String {
-    format!("razvolk: {text}\nrazvolk --help lists what there is\n")
+    format!("razvolk: {text}\n")
+}
+
+/// Runs the tool where a fault of the command line is expected: nothing is told, the fault is, and where to look.
+pub fn misused(folder: &Folder, line: &str, text: &str) {
+    let (status, told, fault) = folder.run(line);
+    assert!(status == 2 && told.is_empty() && fault.contains(text), "{line}: {status} {told} {fault}");
+    assert!(fault.ends_with("For more information try '--help'\n") || fault.contains("'--help'"), "{fault}");
 }

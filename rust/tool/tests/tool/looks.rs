@@ -1,11 +1,10 @@
 //! What is printed of a frame, and written of it.
 
-use crate::folder::{Folder, Ran, bad, complaint, done, marked, refused, srw};
+use crate::folder::{Folder, Ran, bad, complaint, done, marked, misused, refused, srw, unreadable};
 use std::fs;
-use std::path::PathBuf;
 use std::process::Command;
 use streams::images::{christening, photo, sitting};
-use streams::v0::encode::{with_band, with_corner};
+use streams::v0::encode::with_band;
 use streams::{Frame, Version, v0, v2};
 
 #[test]
@@ -13,46 +12,20 @@ fn a_frame_over_another() {
     let folder = Folder::new("over");
     folder.put("first.srw", srw(&v0::encode(&sitting(40, 6), 40, 6)));
     folder.put("next.srw", srw(&with_band(&christening(40, 6), 40, 6, 2)));
-    let text = "over first.srw: V0, 40 by 6, 408 bytes of stream\ndone\nnext.srw: V0, 40 by 6, 200 bytes of stream\ndone\n\
-        80 of 240 samples rest on what the buffer held before\n  rows 0 to 1: 40 of 40 each\n";
-    assert_eq!(folder.run("--over first.srw next.srw --pgm next.pgm --png next.png --planes planes.png"), marked(text));
+    let verdict = "next.srw  HOLD BACK  33 % of another picture (rows 0 to 1)\n";
+    let details = "  over first.srw: V0, 40 by 6, 408 bytes of stream, decoded to the end\n  V0, 40 by 6, 200 bytes of stream\n  \
+        decoded to the end\n  of another picture: 80 of 240 samples\n    rows 0 to 1: 40 of 40 each\n";
+    let line = "--over first.srw next.srw --pgm next.pgm --png next.png --planes planes.png";
+    assert_eq!(folder.run(line), marked(verdict));
+    assert_eq!(folder.run(&format!("-v --force {line}")), marked(&format!("{verdict}{details}")));
+    assert_eq!(folder.run(&format!("-q --force {line}")), marked(verdict));
+    assert_eq!(folder.run("-q first.srw"), done(""), "what is clean needs no care");
     let pgm = folder.get("next.pgm").expect("samples");
     assert_eq!((&pgm[..13], pgm.len()), (&b"P5\n40 6\n16383"[..], 14 + 480));
-    for (name, width, height) in [("next.png", 40, 6), ("planes.png", 80, 3)] {
+    for (name, width, height) in [("next.png", 20, 3), ("planes.png", 80, 3)] {
         let picture = folder.get(name).expect("a picture");
         assert!(picture.starts_with(b"\x89PNG\r\n\x1a\n"));
         assert_eq!(picture[16..24], [0, 0, 0, width, 0, 0, 0, height], "{name}");
-    }
-}
-
-/// The README shows the pictures and the texts that `make picture` makes.
-#[test]
-fn the_readme_shows_what_the_tool_does() {
-    let folder = Folder::new("readme");
-    folder.put("sitting.srw", srw(&v0::encode(&sitting(320, 200), 320, 200)));
-    folder.put("christening.srw", srw(&with_band(&christening(320, 200), 320, 200, 24)));
-    folder.put("corner.srw", srw(&with_corner(&christening(320, 200), 320, 200, 24, 96)));
-    let whole = v0::encode(&christening(320, 200), 320, 200);
-    let missing = whole.stream.len() - whole.row(100).start;
-    let file = srw(&whole);
-    folder.put("upload.srw", &file[..file.len() - missing]);
-    let top = PathBuf::from(env!("CARGO_MANIFEST_DIR")).join("../..");
-    let readme = fs::read_to_string(top.join("README.md")).expect("README.md");
-    for (line, picture) in [
-        ("--over sitting.srw christening.srw", "marked.png"),
-        ("--over sitting.srw christening.srw --blank 6000", "blanked.png"),
-        ("--over sitting.srw corner.srw --blank", "softened.png"),
-        ("upload.srw", "upload.png"),
-    ] {
-        let line = format!("{line} --png {picture}");
-        let (status, text, _) = folder.run(&line);
-        assert!(status == 3 && folder.get(picture) == fs::read(top.join("docs").join(picture)).ok(), "{picture}");
-        // Of what was shown above, the README has the last lines alone.
-        let text = text.find("blanked to").map_or(text.as_str(), |at| &text[at..]);
-        let cut = if text.starts_with("blanked") { "    ..\n" } else { "" };
-        let told: String = text.lines().map(|line| format!("    {line}\n")).collect();
-        let shown = format!("    $ razvolk {line}\n{cut}{told}");
-        assert!(readme.contains(&shown), "the README has\n{shown}");
     }
 }
 
@@ -65,8 +38,7 @@ fn what_others_packed() {
     let [short, long] = [found.stream.len(), written.len()];
     folder.put("meant.srw", srw(&v0::encode(&image, 40, 6)));
     folder.put("found.srw", srw(&found));
-    let heading = |name, bytes| format!("{name}.srw: V0, 40 by 6, {bytes} bytes of stream\n");
-    let taken = heading("found", short) + &format!("taken: {short} bytes, where the writer makes {long}\n");
+    let taken = format!("found.srw  TAKEN  {short} bytes, where the writer makes {long}\n");
     assert!(short < long);
     assert_eq!(folder.run("--check-packed meant.srw found.srw"), done(&taken));
 
@@ -75,40 +47,40 @@ fn what_others_packed() {
     other[2 * 40 + 7] += 1;
     folder.put("other.srw", srw(&v0::pack(&other, 40, 6)));
     let (is, meant) = (other[87], image[87]);
-    let what =
-        format!("refused 20: a sample isn't the one that is meant\nrow 2, column 7: {is}, where {meant} is meant\n");
-    let other = heading("other", v0::pack(&other, 40, 6).stream.len()) + &what;
+    let what = format!("a sample isn't the one that is meant: row 2, column 7 is {is}, where {meant} is meant");
+    let other = format!("other.srw  REFUSED  {what}\n");
     assert_eq!(folder.run("--check-packed meant.srw other.srw"), refused(&other));
     let longer = [&written[..], &[0]].concat();
     folder.put("longer.srw", srw(&Frame { version: Version::V0, width: 40, height: 6, stream: longer, offsets }));
-    let what = format!(
-        "refused 21: the stream is longer than what the writer makes\n{} bytes, where the writer makes {long}\n",
-        long + 1
-    );
-    let longer = heading("longer", long + 1) + &what;
+    let what =
+        format!("the stream is longer than what the writer makes: {} bytes, where the writer makes {long}", long + 1);
+    let longer = format!("longer.srw  REFUSED  {what}\n");
     assert_eq!(folder.run("--check-packed meant.srw longer.srw"), refused(&longer));
     let mut upward = found.clone();
     upward.stream[3] |= 0x80;
     folder.put("upward.srw", srw(&upward));
-    let what = "refused 17: row 0 isn't clean: a block looks up to rows that do not exist\n";
-    let upward = heading("upward", short) + what;
-    assert_eq!(folder.run("--check-packed=meant.srw upward.srw"), refused(&upward));
+    let upward = "upward.srw  REFUSED  row 0 isn't clean: a block looks up to rows that do not exist\n";
+    assert_eq!(folder.run("--check-packed=meant.srw upward.srw"), refused(upward));
 
     // All at once, and in JSON.
-    let all = format!("{taken}{longer}{other}{upward}4 files: 1 taken, 3 refused, 0 not read or written\n");
+    let all = format!("{taken}{longer}{other}{upward}4 frames: 1 taken, 3 refused\n");
+    let all = all.replace("found.srw ", "found.srw  ").replace("other.srw ", "other.srw  ");
     assert_eq!(folder.run("--check-packed meant.srw found.srw longer.srw other.srw upward.srw"), refused(&all));
     let (status, text, _) = folder.run("--json --check-packed meant.srw upward.srw");
     assert!(status == 1 && text.contains("\"answer\":17,\"row\":0"), "{text}");
 
     // What can't be checked.
     folder.put("small.srw", srw(&v0::encode(&image[..80], 40, 2)));
-    let text = "small.srw: 40 by 2, where meant.srw is 40 by 6";
-    assert_eq!(folder.run("--check-packed meant.srw small.srw"), bad(text));
+    let text = "small.srw  UNREADABLE  40 by 2, where meant.srw is 40 by 6\n";
+    assert_eq!(folder.run("--check-packed meant.srw small.srw"), unreadable(text));
     folder.put("marked.srw", srw(&with_band(&image, 40, 6, 2)));
-    let text = "marked.srw: samples of it rest on old values or missing words, so that they say nothing";
+    let text = "marked.srw: samples of it are of another picture or missing, so that they say nothing";
     assert_eq!(folder.run("--check-packed marked.srw found.srw"), bad(text));
     folder.put("v2.srw", srw(&v2::encode(&photo(646, 436, 3.0, 1), 646, 436)));
-    assert_eq!(folder.run("--check-packed meant.srw v2.srw"), bad("v2.srw: V2, where V0 is checked"));
+    assert_eq!(
+        folder.run("--check-packed meant.srw v2.srw"),
+        unreadable("v2.srw  UNREADABLE  V2, where V0 is checked\n")
+    );
 }
 
 #[test]
@@ -116,19 +88,18 @@ fn bare_streams() {
     let folder = Folder::new("bare");
     folder.put("v0", [0, 0, 0, 0x80, 0x18, 0x20, 0xa0, 0x7f, 0, 0, 0x70, 0]);
     folder.put("offsets", "0 4\n");
-    let text = "v0: V0, 2 by 2, 12 bytes of stream\ndone\n2 of 4 samples rest on what the buffer held before\n  \
-        rows 0 to 1: 1 of 2 each\n";
+    let text = "v0  HOLD BACK  50 % of another picture (column 0)\n";
     assert_eq!(folder.run("--v0 2x2 --offsets offsets v0 --pgm v0.pgm"), marked(text));
     assert_eq!(folder.get("v0.pgm").expect("samples"), b"P5\n2 2\n16383\n\0\0\0\x83\0\0\0\x7e");
     folder.put("v0", [0x18, 0x20, 0xa0, 0x7f, 0, 0, 0x70, 0, 0x08, 0, 0xa0, 0xff, 0, 0, 0, 0]);
     folder.put("offsets", "0,8");
-    let text = "v0: V0, 2 by 2, 16 bytes of stream\ndone\nall 4 samples rest on the stream\n";
-    assert_eq!(folder.run("--v0 2x2 --offsets offsets v0"), done(text));
+    let text = "v0  CLEAN\n  V0, 2 by 2, 16 bytes of stream\n  decoded to the end\n  all 4 samples are determined by the file\n";
+    assert_eq!(folder.run("-v --v0 2x2 --offsets offsets v0"), done(text));
     folder.put("v2", [0; 16]);
-    let text = "v2: V2, 646 by 436, 16 bytes of stream\nrefused 8, row 0: the stream ends in row 0\nno row stands\n\
-        281016 of 281656 samples rest on what the buffer held before\n  row 0: 6 of 646\n  rows 1 to 435: 646 of 646 each\n\
-        640 of 281656 samples rest on missing words: 7 words (28 bytes) were read past the end\n  row 0: 640 of 646\n";
-    assert_eq!(folder.run("--v2 646x436 v2 --png v2.png"), refused(text));
+    let text = "v2  REFUSED  row 0: the file breaks off\n  V2, 646 by 436, 16 bytes of stream\n  \
+        refused 8, row 0: the stream ends in row 0\n  of another picture: 281016 of 281656 samples\n    row 0: 6 of 646\n    \
+        rows 1 to 435: 646 of 646 each\n  missing: 640 of 281656 samples; 28 bytes were read past the end\n    row 0: 640 of 646\n";
+    assert_eq!(folder.run("-v --v2 646x436 v2 --png v2.png"), refused(text));
     assert!(folder.get("v2.png").is_some(), "what was decoded before the refusal can be looked at");
 }
 
@@ -146,11 +117,8 @@ fn a_frame_written_as_v0_is_read_again() {
         let (first, again) = stored(&folder, "a.srw");
         assert!(first.0 == 0 && first.2.is_empty(), "{first:?}");
         let file = folder.get("stored.srw").expect("a file");
-        let len = razvolk::srw::frame(&file).expect("a frame").stream.len();
-        let n = width * height;
-        let heading = format!("stored.srw: V0, {width} by {height}, {len} bytes of stream");
-        let text = format!("{heading}\ndone\nall {n} samples rest on the stream\n");
-        assert_eq!(again, done(&text));
+        let stored = razvolk::srw::frame(&file).expect("a frame");
+        assert_eq!((stored.width, stored.height, again), (width, height, done("stored.srw  CLEAN\n")));
         assert!(folder.get("again.pgm") == folder.get("first.pgm") && folder.get("again.pgm").is_some());
     }
 }
@@ -163,7 +131,8 @@ fn a_v0_frame_written_as_v2_is_read_again() {
     assert_eq!((status, fault.as_str()), (0, ""));
     let (status, text, fault) = folder.run("b.srw --pgm again.pgm");
     assert_eq!((status, fault.as_str()), (0, ""));
-    assert!(text.starts_with("b.srw: V2, 656 by 436, "), "{text}");
+    assert_eq!(text, "b.srw  CLEAN\n");
+    assert!(folder.run("-v b.srw").1.contains("\n  V2, 656 by 436, "));
     let samples = |name| folder.get(name).expect("a file").split_off(15);
     assert!(samples("first.pgm").ends_with(&samples("again.pgm")[9..]), "the samples are the same");
 
@@ -178,9 +147,9 @@ fn a_v0_frame_written_as_v2_is_read_again() {
     }
     folder.put("crop.srw", srw(&v0::encode(&sitting(48, 9), 48, 9)));
     assert_eq!(folder.run("crop.srw --to-v2 c.srw").0, 0);
-    let (status, text, _) = folder.run("c.srw");
-    assert!(status == 0 && text.starts_with("c.srw: V2, 48 by 9, "), "{text}");
-    assert!(text.ends_with("\ndone\nall 432 samples rest on the stream\n"), "{text}");
+    let (status, text, _) = folder.run("-v c.srw");
+    assert!(status == 0 && text.starts_with("c.srw  CLEAN\n  V2, 48 by 9, "), "{text}");
+    assert!(text.ends_with("\n  all 432 samples are determined by the file\n"), "{text}");
 }
 
 #[test]
@@ -191,9 +160,11 @@ fn a_frame_of_no_samples_is_written_as_v0() {
     for size in ["5x0", "0x3"] {
         let (status, ..) = folder.run(&format!("--v0 {size} --offsets offsets none --write-v0 stored.srw --force"));
         let (width, height) = size.split_once('x').expect("a size");
-        let text =
-            format!("stored.srw: V0, {width} by {height}, 0 bytes of stream\ndone\nall 0 samples rest on the stream\n");
-        assert_eq!((status, folder.run("stored.srw")), (0, done(&text)));
+        let text = format!(
+            "stored.srw  CLEAN\n  V0, {width} by {height}, 0 bytes of stream\n  decoded to the end\n  all 0 samples are \
+             determined by the file\n"
+        );
+        assert_eq!((status, folder.run("-v stored.srw")), (0, done(&text)));
     }
 }
 
@@ -203,10 +174,9 @@ fn samples_that_rest_on_old_values_are_stored_and_told_of() {
     folder.put("v2.srw", srw(&v2::encode(&christening(646, 436), 646, 436)));
     let ((status, text, fault), again) = stored(&folder, "v2.srw");
     assert!(status == 3 && fault.is_empty());
-    let told = "stored.srw: 2616 samples that rest on what the buffer held or on missing words are stored, and \
-        not marked";
+    let told = "  stored.srw: 2616 samples of another picture or missing are stored, and not marked";
     assert_eq!(text.lines().last(), Some(told));
-    assert!(again.1.ends_with("done\nall 281656 samples rest on the stream\n"), "{again:?}");
+    assert_eq!(again, done("stored.srw  CLEAN\n"));
     assert!(folder.get("again.pgm") == folder.get("first.pgm"));
 }
 
@@ -217,17 +187,17 @@ fn what_cannot_be_written_as_v0() {
     let bright: Vec<u16> = (0..240).map(|i| if i == 77 { 16_384 } else { 1_000 }).collect();
     folder.put("bright.srw", srw(&v0::encode(&bright, 40, 6)));
     let (status, text, fault) = folder.run("bright.srw --pgm x.pgm --write-v0 x.srw");
-    assert_eq!((status, text.lines().last()), (2, Some("all 240 samples rest on the stream")));
+    assert_eq!((status, text.as_str()), (2, "bright.srw  CLEAN\n"));
     assert_eq!(fault, complaint("x.srw: can't be written as V0: a sample is above 16,383"));
     assert_eq!(folder.names(), ["bright.srw"]);
     // A frame that is refused: its picture is written, and no frame that would pass for a whole one.
     folder.put("v2", [0; 16]);
     let (status, text, fault) = folder.run("--v2 646x436 v2 --pgm x.pgm --write-v0 x.srw");
     assert_eq!((status, fault.as_str()), (1, ""));
-    assert_eq!(text.lines().last(), Some("x.srw: not written, since the frame is refused"));
+    assert_eq!(text.lines().last(), Some("  x.srw: not written, since the frame is refused"));
     assert_eq!(folder.names(), ["bright.srw", "v2", "x.pgm"]);
     let (status, text, _) = folder.run("--v2 31x1 v2 --write-v0 x.srw");
-    assert_eq!((status, text.lines().last()), (1, Some("x.srw: not written, since the frame is refused")));
+    assert_eq!((status, text.lines().last()), (1, Some("  x.srw: not written, since the frame is refused")));
     assert!(folder.get("x.srw").is_none());
 }
 
@@ -236,20 +206,17 @@ fn refusals() {
     let folder = Folder::new("refusals");
     folder.put("stream", []);
     folder.put("offsets", "0 0");
-    let text =
-        "stream: V2, 31 by 1, 0 bytes of stream\nrefused 2: the frame is smaller than 32 by 1\nnothing was decoded\n";
+    let text = "stream  REFUSED  the frame is smaller than 32 by 1\n";
     assert_eq!(folder.run("--v2 31x1 stream --png none.png"), refused(text));
     assert!(folder.get("none.png").is_none());
-    let text = "stream: V0, 18446744073709551615 by 5, 0 bytes of stream\nrefused 1: width or height is above 16,384\nnothing \
-        was decoded\n";
+    let details =
+        "  V2, 31 by 1, 0 bytes of stream\n  refused 2: the frame is smaller than 32 by 1\n  nothing was decoded\n";
+    assert_eq!(folder.run("-v --v2 31x1 stream"), refused(&format!("{text}{details}")));
+    let text = "stream  REFUSED  width or height is above 16,384\n";
     assert_eq!(folder.run("--v0 18446744073709551615x5 --offsets offsets stream"), refused(text));
-    let text = "stream: V0, 5 by 5, 0 bytes of stream\nrefused 3: the sample buffer or the offset table is too short\nnothing \
-        was decoded\n";
+    let text = "stream  REFUSED  the sample buffer or the offset table is too short\n";
     assert_eq!(folder.run("--v0 5x5 --offsets offsets stream"), refused(text));
-    let text = "stream: V2, 646 by 436, 0 bytes of stream\nrefused 5, row 0: row 0 predicts from rows that do not exist\nno row \
-        stands\n\
-        281656 of 281656 samples rest on what the buffer held before\n  rows 0 to 435: 646 of 646 each\n\
-        none of 281656 samples rests on missing words: 5 words (20 bytes) were read past the end\n";
+    let text = "stream  REFUSED  row 0: predicts from rows that do not exist\n";
     assert_eq!(folder.run("--v2 646x436 stream"), refused(text));
 }
 
@@ -259,16 +226,17 @@ fn bad_input() {
     folder.put("text", "no TIFF");
     folder.put("offsets", "0 x");
     folder.put("none", []);
-    assert_eq!(folder.run("text"), bad("text: not a TIFF file"));
+    assert_eq!(folder.run("text"), unreadable("text  UNREADABLE  not a TIFF file\n"));
     assert_eq!(folder.run("--over text none"), bad("text: not a TIFF file"));
-    assert_eq!(folder.run("gone"), bad("gone: No such file or directory (os error 2)"));
+    assert_eq!(folder.run("gone"), unreadable("gone  UNREADABLE  No such file or directory (os error 2)\n"));
     assert_eq!(folder.run("."), bad(".: no .srw file is in this folder"));
     assert_eq!(folder.run("--v0 2x2 --offsets offsets text"), bad("offsets: x is no number below 2^32"));
-    assert_eq!(folder.run("--what"), bad("there is no option --what"));
-    let text = "a frame of 16384 by 16384 is too large to look at: the limit is 67108864 samples";
-    assert_eq!(folder.run("--v2 16384x16384 none"), bad(&format!("none: {text}")));
+    misused(&folder, "--what", "--what");
+    misused(&folder, "", "<FILE.srw|FOLDER|->");
+    let text = "UNREADABLE  a frame of 16384 by 16384 is too large to look at: the limit is 67108864 samples\n";
+    assert_eq!(folder.run("--v2 16384x16384 none"), unreadable(&format!("none  {text}")));
     folder.put("large.srw", srw(&Frame::new(Version::V2, 16_384, 16_384)));
-    assert_eq!(folder.run("large.srw"), bad(&format!("large.srw: {text}")));
+    assert_eq!(folder.run("large.srw"), unreadable(&format!("large.srw  {text}")));
 }
 
 #[test]
@@ -279,20 +247,32 @@ fn output_that_cannot_be_written() {
     assert_eq!((status, fault), (2, complaint("gone/x.pgm: No such file or directory (os error 2)")));
     folder.put("offsets", "");
     let (status, text, fault) = folder.run("--v0 5x0 --offsets offsets offsets --png x.png");
-    assert_eq!((status, text.lines().last()), (2, Some("all 0 samples rest on the stream")));
+    assert_eq!((status, text.as_str()), (2, "offsets  CLEAN\n"));
     assert_eq!(fault, complaint("x.png: a frame of no samples makes no picture"));
 }
 
 #[test]
 fn help_and_version() {
     let folder = Folder::new("help");
-    let (status, text, _) = folder.run("--help");
-    assert!(status == 0 && text.contains("usage: razvolk") && text.contains("exit status"));
-    assert!([0, 1, 2, 3].iter().all(|status| text.contains(&format!("\n  {status}  "))), "each status is listed");
+    for word in ["-h", "--help"] {
+        let (status, text, fault) = folder.run(word);
+        assert!(
+            status == 0 && fault.is_empty() && text.contains("Usage: razvolk") && text.contains("Exit status"),
+            "{text}"
+        );
+        assert!([0, 1, 2, 3].iter().all(|status| text.contains(&format!("\n  {status}  "))), "each status is listed");
+        let longest = text.lines().max_by_key(|line| line.chars().count()).expect("lines");
+        assert!(longest.chars().count() <= 100, "{longest}");
+        assert!(text.contains("It doesn't mean undamaged"), "{text}");
+        assert!(!["rests on", "filler word"].iter().any(|word| text.contains(word)), "a photographer's words");
+    }
     for word in ["--version", "-V"] {
         assert_eq!(folder.run(word), done(concat!("razvolk ", env!("CARGO_PKG_VERSION"), "\n")));
     }
-    assert_eq!(folder.run(""), bad("no file is named"));
+    for shell in ["bash", "zsh", "fish"] {
+        let (status, text, _) = folder.run(&format!("--completions {shell}"));
+        assert!(status == 0 && text.contains("skip-existing"), "{shell}");
+    }
 }
 
 #[test]
@@ -306,7 +286,7 @@ fn damaged_files_end_with_an_answer() {
         damaged.truncate(file.len() - i * 5 % 200);
         folder.put("damaged.srw", damaged);
         let (status, _, fault) = folder.run("damaged.srw");
-        assert!((0..=3).contains(&status) && fault.is_empty() == (status != 2), "{i}: {status} {fault}");
+        assert!((0..=3).contains(&status) && fault.is_empty(), "{i}: {status} {fault}");
     }
 }
 
@@ -318,9 +298,12 @@ fn a_frame_that_is_cut_is_not_clean() {
     folder.put("cut.srw", &whole[..whole.len() * 2 / 3]);
     let (status, text, fault) = folder.run("cut.srw");
     assert_eq!((status, fault.as_str()), (3, ""));
-    assert!(text.lines().next().is_some_and(|line| line.ends_with("more are missing")), "{text}");
-    assert!(text.contains("\nnone of 64000 samples rests on what the buffer held before\n"), "{text}");
-    assert!(text.contains(" samples rest on missing words: "), "{text}");
+    let verdict = text.strip_prefix("cut.srw  INCOMPLETE  ").and_then(|text| text.strip_suffix(" on missing\n"));
+    let (part, row) = verdict.and_then(|verdict| verdict.split_once(" % final, from row ")).expect("a verdict");
+    let (part, row): (usize, usize) = (part.parse().expect("a number"), row.parse().expect("a number"));
+    assert!((60..75).contains(&part) && part.abs_diff(row / 2) < 2, "{part} % of 200 rows, from row {row}");
+    let (_, text, _) = folder.run("-v cut.srw");
+    assert!(text.contains(" more are missing\n") && text.contains("\n  missing: "), "{text}");
     assert!(text.ends_with(" to 199: 320 of 320 each\n"), "{text}");
 }
 
@@ -332,9 +315,9 @@ fn missing_bytes_that_nobody_reads_are_told() {
     made.stream.extend([0; 100]);
     let file = srw(&made);
     folder.put("a.srw", &file[..file.len() - 60]);
-    let text = "a.srw: V0, 40 by 6, 448 bytes of stream, 60 more are missing\ndone\n\
-        none of the missing bytes was read: all 240 samples are final\n";
-    assert_eq!(folder.run("a.srw"), marked(text));
+    let text = "a.srw  INCOMPLETE  100 % final, 60 bytes at the end missing, and not needed\n  V0, 40 by 6, 448 bytes of stream, \
+        60 more are missing\n  decoded to the end\n  all 240 samples are final: none of the missing bytes was needed\n";
+    assert_eq!(folder.run("-v a.srw"), marked(text));
 }
 
 /// Words of the command line and of a table, too, are printed so that they don't steer the terminal.
@@ -345,8 +328,8 @@ fn words_do_not_steer_the_terminal() {
     folder.put("stream", []);
     let fault = "offsets: \\u{1b}[31mx\\u{7} is no number below 2^32";
     assert_eq!(folder.run("--v0 2x2 --offsets offsets stream"), bad(fault));
-    assert_eq!(folder.run("--\u{1b}c"), bad("there is no option --\\u{1b}c"));
-    assert_eq!(folder.run("--v2 \u{9b}x2 stream"), bad("\\u{9b}x2 is no size, as 5546x3714 is"));
+    misused(&folder, "--\u{1b}c", "--\\u{1b}c");
+    misused(&folder, "--v2 \u{9b}x2 stream", "\\u{9b}x2");
 }
 
 /// Where nobody reads what is told, it ends, with a word on standard error and no fault of its own.
@@ -375,12 +358,11 @@ fn clean_frames_alone() {
     folder.put("whole.srw", &whole);
     let (status, text, fault) = folder.run("--clean whole.srw");
     assert_eq!((status, fault.as_str()), (0, ""));
-    assert!(text.contains("\ndone\n"), "{text}");
+    assert_eq!(text, "whole.srw  CLEAN\n");
     folder.put("cut.srw", &whole[..whole.len() * 2 / 3]);
     let (status, text, _) = folder.run("--clean --pgm out.pgm cut.srw");
-    let told = text.lines().find(|line| line.starts_with("refused 19: row ")).unwrap_or_else(|| panic!("{text}"));
-    assert!(status == 1 && told.ends_with(" isn't clean: the stream ends in it"), "{text}");
-    assert!(text.ends_with("nothing was decoded\n") && folder.get("out.pgm").is_none(), "{text}");
+    assert!(text.starts_with("cut.srw  REFUSED  row ") && text.ends_with(": the stream ends in it\n"), "{text}");
+    assert!(status == 1 && folder.get("out.pgm").is_none(), "{text}");
     let mut up = Frame::new(Version::V0, 4, 1);
     up.push_row(&[0, 0, 0x80, 0xff]);
     folder.put("up.srw", srw(&up));
@@ -397,11 +379,11 @@ fn names_do_not_steer_the_terminal() {
     folder.put(name, srw(&v0::encode(&sitting(40, 6), 40, 6)));
     let tool = env!("CARGO_BIN_EXE_razvolk");
     let (status, text, _) = folder.ran(Command::new(tool).arg(name));
-    assert!(status == 0 && text.starts_with("a\\u{1b}[2J\\nb.srw: V0"), "{text}");
+    assert!(status == 0 && text == "a\\u{1b}[2J\\nb.srw  CLEAN\n", "{text}");
     let (_, text, _) = folder.ran(Command::new(tool).args(["--json", name]));
-    assert!(text.starts_with("{\"file\":\"a\\u001b[2J\\u000ab.srw\","), "{text}");
-    let (status, _, fault) = folder.ran(Command::new(tool).arg("gone\r"));
-    assert!(status == 2 && fault.starts_with("razvolk: gone\\r: "), "{fault}");
+    assert!(text.starts_with("{\"file\":\"a\\u001b[2J\\nb.srw\","), "{text}");
+    let (status, text, _) = folder.ran(Command::new(tool).arg("gone\r"));
+    assert!(status == 2 && text.starts_with("gone\\r  UNREADABLE  "), "{text}");
 }
 
 #[test]
@@ -413,10 +395,11 @@ fn an_object_for_each_frame() {
     let (status, text, fault) = folder.run("--json a.srw b c.srw");
     assert_eq!((status, fault.as_str()), (2, ""));
     let lines: Vec<&str> = text.lines().collect();
-    let a = "{\"file\":\"a.srw\",\"version\":\"V0\",\"width\":40,\"height\":6,\"bits\":14,\"stream_bytes\":200,\"missing_bytes\":0,\
+    let a = "{\"file\":\"a.srw\",\"status\":\"hold_back\",\"clean\":false,\"version\":\"V0\",\"width\":40,\"height\":6,\"bits\":14,\"stream_bytes\":200,\"missing_bytes\":0,\
         \"missing_words\":0,\"answer\":0,\"row\":0,\"text\":\"done\",\"samples\":240,\"old\":80,\"old_rows\":[{\"first\":0,\"last\":1,\"samples\":40}],\
         \"filler\":0,\"filler_rows\":[],\"runs\":[[0,0,40],[1,0,40]]}";
-    assert_eq!(lines[..2], [a, "{\"file\":\"b\",\"error\":\"b: not a TIFF file\"}"]);
+    let b = "{\"file\":\"b\",\"status\":\"unreadable\",\"clean\":false,\"error\":\"b: not a TIFF file\"}";
+    assert_eq!(lines[..2], [a, b]);
     assert!(
         lines[2].contains("\"missing_words\":7,\"answer\":8,\"row\":0,\"text\":\"the stream ends in row 0\""),
         "{}",
@@ -440,24 +423,18 @@ fn files_and_folders_at_once() {
     let tells = |jobs: usize| folder.run(&format!(". --jobs {jobs}"));
     let (status, text, fault) = tells(1);
     assert_eq!((status, fault.as_str()), (3, ""));
-    let names: Vec<&str> = text.lines().filter(|line| line.contains(": V0, ")).map(|line| &line[..8]).collect();
-    assert_eq!(
-        names,
-        ["./0.SRW:", "./1.SRW:", "./2.SRW:", "./3.SRW:", "./4.SRW:", "./5.SRW:", "./6.SRW:", "./7.SRW:", "./8.SRW:"]
-    );
-    let summary = "9 files: 6 clean, 3 with samples old or missing, 0 refused, 0 not read or written";
-    assert_eq!(text.lines().last(), Some(summary));
+    let lines: Vec<&str> = text.lines().collect();
+    for (i, line) in lines[..9].iter().enumerate() {
+        let verdict = if i % 3 == 0 { "HOLD BACK  33 % of another picture (rows 0 to 1)" } else { "CLEAN" };
+        assert_eq!(*line, format!("./{i}.SRW  {verdict}"));
+    }
+    assert_eq!(lines[9..], ["9 frames: 6 clean, 3 to hold back"]);
     for jobs in [2, 5, 100] {
         assert_eq!(tells(jobs), (status, text.clone(), String::new()), "{jobs} workers tell the same");
     }
-    let (status, text, fault) = folder.run("1.SRW gone other.txt --jobs 3");
-    assert_eq!(status, 2);
-    assert!(
-        text.ends_with("3 files: 1 clean, 0 with samples old or missing, 0 refused, 2 not read or written\n"),
-        "{text}"
-    );
-    let fault_of_gone = "gone: No such file or directory (os error 2)\nrazvolk: other.txt: not a TIFF file";
-    assert_eq!(fault, complaint(fault_of_gone));
+    let text = "1.SRW      CLEAN\ngone       UNREADABLE  No such file or directory (os error 2)\n\
+        other.txt  UNREADABLE  not a TIFF file\n3 frames: 1 clean, 2 unreadable\n";
+    assert_eq!(folder.run("1.SRW gone other.txt --jobs 3"), unreadable(text));
 }
 
 /// A pipe, whose writer the tool would wait for, and another folder are passed over.
@@ -468,7 +445,7 @@ fn what_is_no_file_in_a_folder() {
     assert_eq!(folder.ran(Command::new("mkfifo").arg("pipe.srw")), done(""));
     fs::create_dir(folder.0.join("folder.srw")).expect("a folder");
     let ran = folder.ran(Command::new("timeout").args(["20", env!("CARGO_BIN_EXE_razvolk"), "."]));
-    assert_eq!(ran, done("./a.srw: V0, 40 by 6, 408 bytes of stream\ndone\nall 240 samples rest on the stream\n"));
+    assert_eq!(ran, done("./a.srw  CLEAN\n"));
 }
 
 #[test]
@@ -501,7 +478,7 @@ fn standard_input() {
     folder.put("a.srw", srw(&v0::encode(&sitting(40, 6), 40, 6)));
     let tool = env!("CARGO_BIN_EXE_razvolk");
     let by_shell = |line: &str| folder.ran(Command::new("sh").args(["-c", &line.replace("razvolk", tool)]));
-    let text = "-: V0, 40 by 6, 408 bytes of stream\ndone\nall 240 samples rest on the stream\n";
+    let text = "-  CLEAN\n";
     assert_eq!(by_shell("cat a.srw | razvolk -"), done(text));
     assert_eq!(by_shell("razvolk - --pgm . < a.srw"), done(text));
     assert_eq!(folder.names(), ["a.srw", "stdin.pgm"]);
@@ -511,19 +488,16 @@ fn standard_input() {
     );
 }
 
-/// A picture with little noise, with some and with much takes about as many bytes as zlib's level 6 makes of the same filtered
-/// rows: those were counted with zlib 1.2.13.
+/// A picture that goes to standard output alone, and what is told to standard error.
 #[test]
-fn pictures_are_small() {
-    let folder = Folder::new("small");
-    for (noise, by_zlib) in [(4.0, 35_643), (60.0, 148_683), (300.0, 302_096)] {
-        folder.put("a.srw", srw(&v0::encode(&photo(800, 600, noise, 1), 800, 600)));
-        assert_eq!(folder.run("a.srw --force --png a.png").0, 0);
-        let bytes = folder.get("a.png").expect("a picture").len();
-        // What stands around the rows, the palette above all, takes less than a thousand bytes.
-        assert!(bytes < by_zlib + by_zlib / 100 + 1_000, "{bytes} bytes with noise {noise}");
-    }
-    assert_eq!(folder.run("a.srw --half --png half.png").0, 0);
-    let half = folder.get("half.png").expect("a picture");
-    assert_eq!(half[16..24], [0, 0, 1, 144, 0, 0, 1, 44]);
+fn standard_output() {
+    let folder = Folder::new("stdout");
+    folder.put("a.srw", srw(&v0::encode(&sitting(40, 6), 40, 6)));
+    assert_eq!(folder.run("a.srw --pgm a.pgm").0, 0);
+    let tool = env!("CARGO_BIN_EXE_razvolk");
+    let run = Command::new(tool).args(["a.srw", "--pgm", "-"]).current_dir(&folder.0).output().expect("the tool runs");
+    assert!(Some(run.stdout) == folder.get("a.pgm") && run.stderr == b"a.srw  CLEAN\n" && run.status.success());
+    let (status, _, fault) = folder.run("a.srw a.srw --png -");
+    assert_eq!((status, fault), (2, complaint("-: outputs of several files go to a folder that is there")));
+    assert_eq!(folder.names(), ["a.pgm", "a.srw"]);
 }

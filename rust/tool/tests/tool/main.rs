@@ -2,6 +2,9 @@
 
 mod files;
 mod folder;
+mod folders;
 mod json;
+mod left_behind;
 mod looks;
 mod outputs;
+mod pictures;

@@ -28,7 +28,7 @@ fn refused(folder: &Folder, line: &str, fault: &str) {
 }
 
 fn is_done(ran: &Ran) -> bool {
-    ran.0 == 0 && ran.1.contains("\ndone\n") && ran.2.is_empty()
+    ran.0 == 0 && ran.1.ends_with("  CLEAN\n") && ran.2.is_empty()
 }
 
 /// Where a shell makes two names of `*.srw`, the first is the output.
@@ -157,14 +157,16 @@ fn a_failure_leaves_the_old_file() {
     let line = "a.srw --force --pgm old.pgm --png old.png";
     let (status, _, fault) = run_out_of_room(&folder, "trap '' XFSZ;", line);
     assert_eq!((status, fault), (2, complaint("old.pgm: File too large (os error 27)")));
-    // The samples have room, the picture of their noise and its palette have not: both files stay as they were.
+    // The samples have room, the file that stores them has not: both files stay as they were.
     let noise: Vec<u16> = (0..400u32).map(|i| (i * i * 31 % 16_384) as u16).collect();
     folder.put("b.srw", srw(&v0::encode(&noise, 20, 20)));
-    let (status, _, fault) = run_out_of_room(&folder, "trap '' XFSZ;", "b.srw --force --pgm old.pgm --png old.png");
+    let (status, _, fault) =
+        run_out_of_room(&folder, "trap '' XFSZ;", "b.srw --force --pgm old.pgm --write-v0 old.png");
     assert_eq!((status, fault), (2, complaint("old.png: File too large (os error 27)")));
     assert_eq!(folder.names(), ["a.srw", "b.srw", "old.pgm", "old.png"], "nothing is left beside them");
-    // A tool that is ended while it writes leaves a file beside the old one, at most.
+    // A tool that is ended while it writes leaves no more.
     assert_eq!(run_out_of_room(&folder, "", line).0, -1);
+    assert_eq!(folder.names(), ["a.srw", "b.srw", "old.pgm", "old.png"], "nor after an end by a signal");
     assert_eq!([folder.get("old.pgm"), folder.get("old.png")], [Some(b"old".to_vec()), Some(b"old".to_vec())]);
 }
 
