@@ -83,7 +83,8 @@ wheel: $(shared) $(container)
 bench-python: wheel
 	PYTHON=$(PYTHON) python/bench/run $(made)/bench-python target/wheel/razvolk-*.whl
 
-# Every wrong edit that the proofs must refuse, also those of edits/, which cost too much for the gate (edits/README.md).
+# Every wrong edit that the proofs must refuse, also those of crates/*/must-fail/more, which cost too much for the gate
+# (docs/TESTING.md, "Wrong edits").
 refuse:
 	$(need_rt)
 	tests/try-edits --all
