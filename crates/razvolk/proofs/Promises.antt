@@ -7,9 +7,11 @@ use mathlib.Core.Path.{_≡_, refl, sym, subst}
 use mathlib.Core.List.{List, [], _∷_}
 use contract.Lifetimes.{Lfts}
 use borrow.Fn.Kinds.{PK, RK, Dens, In, Out}
+use denote.Ref.{now}
 use Rattle.rules.specs.Answer.{Yields}
+use Rattle.rules.specs.Reader as Reader
 use Rattle.samsung.proofs.Answered.{Answered, answered}
-use Rattle.samsung.proofs.Isolation.{Banded, Cleaned, called, yielded, checked, returned, ended}
+use Rattle.samsung.proofs.Isolation.{Made, Banded, Cleaned, called, yielded, checked, returned, ended}
 use Rattle.samsung.proofs.TwoPhase.{Paired, SameFrame, entries-same}
 use Rattle.samsung.proofs.CutUpload.{CutFinal, cut-final}
 use Rattle.samsung.proofs.InBands.{InBands, in-bands}
@@ -111,10 +113,13 @@ pub record EveryInput (M : Type 1) : Type 2 where
   pub into-v2 : (x : Converts) → OneOf (0 ∷ 1 ∷ 2 ∷ 3 ∷ 4 ∷ 9 ∷ 10 ∷ 15 ∷ 16 ∷ []) (converts x .answered .answer .number)
   pub check-packed : (c : Checks) → OneOf (0 ∷ 1 ∷ 3 ∷ 9 ∷ 17 ∷ 18 ∷ 19 ∷ 20 ∷ 21 ∷ []) (checks c .answered .number)
 
--- A decoder's answer and what it leaves in every buffer are the rules'; the two-phase decoder gives what the direct one gives.
+-- A decoder's answer and what it leaves in every buffer are the rules'; the two-phase decoder gives what the direct one gives. So are the
+-- reader's values and states.
 pub record ByTheRules : Type 0 where
   pub rules : (c : Export) → Yields (returned c .ask) (returned c .found) (returned c .answered) (returned c .left)
   pub two-phase : (c d : Export) → Paired (returned c) (returned d) → SameFrame (returned c) (returned d)
+  pub get : (c : Made get.Kinds.ps get.Kinds.r get.Reads.Learnt) → c .result ≡ Reader.read (now (c .args .0)) (c .args .1 .0) (c .args .1 .1 .0)
+  pub reset-at : (c : Made reset-at.Kinds.ps reset-at.Kinds.r reset-at.Reads.Learnt) → c .result ≡ Reader.reset-at (c .args .0) (c .args .1 .0)
 
 -- The stream and the offsets that are written are those of the definitions, byte for byte, and they are decoded back.
 pub record WrittenV0 : Type 0 where
@@ -132,7 +137,7 @@ pub record Blanked : Type 0 where
 pub record Promises (M : Type 1) : Type 2 where
   -- 1. Every byte string, offset table, size and set of buffers is answered.
   pub p1-answered : EveryInput M
-  -- 2. Each decoder equals the rules, and two-phase equals direct.
+  -- 2. Each decoder and the reader equal the rules, and two-phase equals direct.
   pub p2-by-the-rules : ByTheRules
   -- 3. No earlier frame reaches a sample that is not marked old, by every two lists of calls of exports that write a sample buffer.
   pub p3-no-earlier-frame : Isolation
@@ -203,7 +208,7 @@ pub promises : {M : Type 1} → Promises M
 promises =
     record {
       p1-answered = every-input;
-      p2-by-the-rules = record { rules = λ c. returned c .yields; two-phase = entries-same };
+      p2-by-the-rules = record { rules = λ c. returned c .yields; two-phase = entries-same; get = λ c. c .learnt; reset-at = λ c. c .learnt };
       p3-no-earlier-frame = isolation;
       p4-cut-uploads = cut-final;
       p5-late-faults = late-fault;
