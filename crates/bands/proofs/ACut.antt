@@ -3,7 +3,8 @@ use mathlib.Core.Bool.{true, false}
 use mathlib.Core.Path.{_≡_, refl}
 use mathlib.Core.List.{[], _∷_, map}
 use lib.ListN.{replicate}
-use Rattle.bands.specs.Bands.{Cut, cut, sized, fits, band-start, blocks-per-band, step-count, step-band, step-block}
+use Rattle.rules.specs.Frame.{tabulate}
+use Rattle.bands.specs.Bands.{Cut, cut, sized, fits, band-start, blocks-per-band, step-count, step-band, step-block, block-directions}
 
 -- 7 late rows in 3 bands of 2, 2 and 3 rows, and 40 columns in blocks of 16, the last of 8.
 abbrev uneven : Cut
@@ -29,3 +30,8 @@ cuts-that-fit = refl
 pub cuts-that-fail : map fits (cut (sized 40 9) 4 16 ∷ cut (sized 40 9) 0 16 ∷ cut (sized 40 9_000) 65 16 ∷ cut (sized 40 9) 3 8 ∷ cut (sized 40 9) 3 0 ∷ cut (sized 40 4) 2 16 ∷ cut (sized 40 2) 2 16 ∷ []) ≡ replicate 7 false
 unfolding fits
 cuts-that-fail = refl
+
+-- A block of 240 columns has fifteen direction bytes of its row.
+pub directions : block-directions 720 240 1 2 (tabulate 45 0 (λ i. i)) ≡ tabulate 15 15 (λ i. i)
+unfolding tabulate
+directions = refl

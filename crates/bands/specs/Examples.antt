@@ -82,6 +82,8 @@ examples =
     ∷ decoded (of-cut 2 16 (0 ∷ 1 ∷ 2 ∷ 3 ∷ [])) (samples ++ (7 ∷ 7 ∷ [])) (directions ++ (9 ∷ []))
     ∷ decoded (of-cut 1 32 (0 ∷ [])) (samples ++ (7 ∷ 7 ∷ [])) (directions ++ (9 ∷ []))
     ∷ decoded (call wide-stream (36 ∷ 36 ∷ 0 ∷ 16 ∷ []) 33 4 (replicate 132 7) (replicate 6 9) 1 32 (0 ∷ 1 ∷ [])) wide-samples (0 ∷ 1 ∷ 1 ∷ 1 ∷ 0 ∷ 0 ∷ [])
+    -- 1 by 8: three bands, and more late rows than columns.
+    ∷ decoded (call stream (48 ∷ 48 ∷ 0 ∷ 16 ∷ 32 ∷ 48 ∷ 0 ∷ 16 ∷ []) 1 8 (replicate 8 7) (replicate 6 9) 3 16 (0 ∷ 1 ∷ 2 ∷ [])) (129 ∷ 129 ∷ 129 ∷ 128 ∷ 129 ∷ 129 ∷ 129 ∷ 128 ∷ []) (1 ∷ 0 ∷ 1 ∷ 0 ∷ 1 ∷ 0 ∷ [])
     -- No late rows, and no columns: the empty list.
     ∷ decoded (call (0 ∷ 0 ∷ 128 ∷ 127 ∷ []) (0 ∷ 0 ∷ []) 1 2 (7 ∷ 7 ∷ 7 ∷ []) (9 ∷ []) 1 16 []) (128 ∷ 128 ∷ 7 ∷ []) (9 ∷ [])
     ∷ decoded (call [] (replicate 7 0) 0 7 (7 ∷ []) (9 ∷ []) 2 16 []) (7 ∷ []) (9 ∷ [])

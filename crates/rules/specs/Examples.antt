@@ -1,8 +1,8 @@
 -- Document 01, "Promises and proved examples": the lines marked P, as one list. `proofs/Examples.antt` proves the one claim, that
 -- in each what the rules give is what the document states.
-use Prim.Native.Nat.{ℕ, suc, _*_}
-use mathlib.Core.List.{List, [], _∷_, _++_, map}
-use mathlib.Core.Option.{none, some}
+use Prim.Native.Nat.{ℕ, suc}
+use mathlib.Core.List.{List, [], _∷_, _++_}
+use mathlib.Core.Option.{some}
 use lib.IntN.{ℤ, pos, negsuc}
 use lib.ListN.{replicate}
 use Rattle.rules.specs.declared.answer.Size.{Size}
@@ -29,8 +29,8 @@ of-ℤ (pos n) = 0 ∷ n ∷ []
 of-ℤ (negsuc n) = 1 ∷ suc n ∷ []
 
 -- The read of one bit of three bytes.
-abbrev one-of-three : Got
-one-of-three = read (0 ∷ 0 ∷ 0 ∷ []) (fresh 0) 1
+abbrev one-of-three : ℕ → ℕ → ℕ → Got
+one-of-three x y z = read (x ∷ y ∷ z ∷ []) (fresh 0) 1
 
 -- The stream of the job's example, with offsets 0 and 4.
 abbrev job-stream : List ℕ
@@ -40,10 +40,6 @@ job-stream = 0x00 ∷ 0x00 ∷ 0x00 ∷ 0x80 ∷ 0x18 ∷ 0x20 ∷ 0xA0 ∷ 0x7F
 abbrev spill-stream : List ℕ
 spill-stream =
     0x18 ∷ 0x20 ∷ 0xA0 ∷ 0x7F ∷ 0x00 ∷ 0x00 ∷ 0x70 ∷ 0x00 ∷ 0x08 ∷ 0x00 ∷ 0xA0 ∷ 0xFF ∷ 0x00 ∷ 0x00 ∷ 0x00 ∷ 0x00 ∷ []
-
--- Row 0 has no bytes, and its block spills over row 1, whose own reader has its word; with offsets 12 and 0.
-abbrev spilt-filler : List ℕ
-spilt-filler = 0x00 ∷ 0x00 ∷ 0x00 ∷ 0x80 ∷ replicate 8 0x00
 
 -- One sample and no bytes.
 abbrev one-by-one : Answer.Ask
@@ -55,33 +51,24 @@ one-lent = record { samples = 1; map = some 1; scratch = 0 }
 abbrev no-bytes : V2Hdr
 no-bytes = V2.header [] .hdr
 
--- The block in row 0, column 0 at a depth, with options 7, where every remembered length is 0: its bits are motion 0, then flag 2.
+-- The block in row 0, column 0 at a depth, with options 7, where every remembered length is 0. Its first bit is 0, which gives
+-- motion 7 by option 2, and then comes flag 2.
 abbrev one-less : ℕ → ℕ
 one-less depth =
     V2.number
     (V2.read-block (0x00 ∷ 0x00 ∷ 0x00 ∷ 0x40 ∷ []) (record { depth = depth; options = 7; initial = 0 }) 646 0 0
     (fresh 0) V2.fresh-row (replicate 3 (replicate 2 0)) .outcome)
 
--- A V2 frame 32 by 1 whose first length is too long: the second, which would need a word that is missing, is not read.
-abbrev long-length : List ℕ
-long-length = replicate 9 0x00 ++ (0x01 ∷ []) ++ replicate 6 0x00 ++ (0xFF ∷ 0xFF ∷ 0x01 ∷ 0xC0 ∷ [])
-
--- What a V2 call answers: number, row, and how many words were missing.
-abbrev answered : ℕ → ℕ → List ℕ → List ℕ
-answered w h s =
-    let a = Answer.answer (Answer.ask Answer.v2 s [] w h) (Answer.lent (w * h) none 0) in
-    a .number ∷ a .row ∷ a .filler ∷ []
-
 -- A header of depth 8.
 abbrev depth-8 : V2Hdr
 depth-8 = record { depth = 8; options = 0; initial = 0 }
 
--- The list, over old samples a, b, c and d.
-unfoldable pub examples : ℕ → ℕ → ℕ → ℕ → List Example
-examples a b c d =
+-- The list, over old samples a, b, c and d, and three bytes x, y and z. A depth is 1 to 16, as the header's 4 bits give it.
+unfoldable pub examples : ℕ → ℕ → ℕ → ℕ → ℕ → ℕ → ℕ → List Example
+examples a b c d x y z =
     record { given = fields (0x78 ∷ 0x56 ∷ 0x34 ∷ 0x12 ∷ []) (4 ∷ 4 ∷ 4 ∷ []) (fresh 0) .values; stated = 1 ∷ 2 ∷ 3 ∷ [] }
     ∷ record {
-      given = one-of-three .value ∷ one-of-three .bits .filler ∷ one-of-three .bits .pos ∷ [];
+      given = one-of-three x y z .value ∷ one-of-three x y z .bits .filler ∷ one-of-three x y z .bits .pos ∷ [];
       stated = 1 ∷ 1 ∷ 4 ∷ [];
     }
     ∷ record { given = V0.decoded job-stream (0 ∷ 4 ∷ []) (size 2 2) (7 ∷ 8 ∷ 9 ∷ 10 ∷ []); stated = 7 ∷ 131 ∷ 8 ∷ 126 ∷ [] }
@@ -109,11 +96,6 @@ examples a b c d =
     }
     ∷ record { given = V2.sample-kind (V2.top depth-8) .average 4 7 ∷ []; stated = 6 ∷ [] }
     ∷ record { given = tabulate 16 1 one-less; stated = replicate 16 7 }
-    ∷ record { given = Map.v0-map spilt-filler (12 ∷ 0 ∷ []) (size 2 2); stated = 3 ∷ 3 ∷ 3 ∷ 3 ∷ [] }
-    ∷ record { given = V0.frame-filler spilt-filler (12 ∷ 0 ∷ []) (size 2 2) ∷ []; stated = 1 ∷ [] }
-    ∷ record { given = answered 32 1 long-length; stated = 7 ∷ 0 ∷ 0 ∷ [] }
-    ∷ record { given = answered 32 1 []; stated = 5 ∷ 0 ∷ 5 ∷ [] }
-    ∷ record { given = answered 31 1 [] ++ answered 32 0 []; stated = 2 ∷ 0 ∷ 0 ∷ 2 ∷ 0 ∷ 0 ∷ [] }
     ∷ []
 
 -- Beside them the job program's example: its input, and the text "done", "0: 0* 131", "1: 0* 126".

@@ -1,5 +1,5 @@
 -- Pinned examples of specs/Answer.antt, by the definition's name.
-use Prim.Native.Nat.{ℕ}
+use Prim.Native.Nat.{ℕ, _*_}
 use mathlib.Core.Bool.{true, false}
 use mathlib.Core.Path.{refl}
 use mathlib.Core.List.{List, [], _∷_, _++_, map}
@@ -62,6 +62,14 @@ least-bytes = 0 ∷ 13 ∷ replicate 7 0 ++ (4 ∷ 0 ∷ 0 ∷ 5 ∷ 0 ∷ 0 ∷
 abbrev least : Ask
 least = ask v2 least-bytes [] 32 1
 
+-- What a V2 call of a size answers.
+abbrev answered : ℕ → ℕ → List ℕ → List ℕ
+answered w h s = of-answer (answer (ask v2 s [] w h) (lent (w * h) none 0))
+
+-- A V2 frame of 32 by 1 whose first length is too long: the second, which would need a word that is missing, is not read.
+abbrev long-length : List ℕ
+long-length = replicate 9 0x00 ++ (0x01 ∷ []) ++ replicate 6 0x00 ++ (0xFF ∷ 0xFF ∷ 0x01 ∷ 0xC0 ∷ [])
+
 abbrev pub examples : List Example
 examples =
     -- done-with, done, refused; ask, lent: each argument in its place
@@ -108,6 +116,9 @@ examples =
     ∷ are (of-answer (answer (ask v2 [] [] 646 436) (lent 281_656 none 0))) (5 ∷ 0 ∷ 5 ∷ [])
     ∷ are (of-answer (answer (ask v2 (replicate 16 0) [] 646 436) (lent 281_656 none 0))) (8 ∷ 0 ∷ 7 ∷ [])
     ∷ are (of-answer (answer least (lent 32 none 0))) (0 ∷ 0 ∷ 0 ∷ [])
+    ∷ are (answered 32 1 long-length) (7 ∷ 0 ∷ 0 ∷ [])
+    ∷ are (answered 32 1 []) (5 ∷ 0 ∷ 5 ∷ [])
+    ∷ are (answered 31 1 [] ++ answered 32 0 []) (2 ∷ 0 ∷ 0 ∷ 2 ∷ 0 ∷ 0 ∷ [])
     -- frame-samples, frame-marks, frame-scratch: by each decoder
     ∷ are (frame-samples direct rows-bytes rows-offsets (size 3 4) (tabulate 12 7 (λ i. i))) new-samples
     ∷ are (frame-samples two-phase rows-bytes rows-offsets (size 3 4) (tabulate 12 7 (λ i. i))) new-samples

@@ -10,7 +10,7 @@ use Rattle.rules.specs.V0 as V0
 use Rattle.rules.specs.V2 as V2
 use Rattle.rules.specs.Map.{all-old, old-part, with-filler, v0-marks, either-part, v2-marks, v0-map, v2-map, Origin, stream, old, moved, origin-kind, origins, position, amount}
 use Rattle.rules.specs.Examples.{Example}
-use Rattle.rules.proofs.Pins.Values.{are, Hold, size, words, rows-bytes, rows-offsets}
+use Rattle.rules.proofs.Pins.Values.{are, Hold, size, words, rows-bytes, rows-offsets, spilt-bytes, spilt-offsets}
 use Rattle.rules.proofs.Pins.V2Pins.{frame-bytes}
 
 -- An origin: 0 and a number, or 1, position and amount.
@@ -44,6 +44,8 @@ examples =
     ∷ are (v0-map (words ++ replicate 8 0) rows-offsets (size 3 4)) (1 ∷ 2 ∷ 1 ∷ 1 ∷ 2 ∷ 2 ∷ 2 ∷ 2 ∷ 2 ∷ 3 ∷ 2 ∷ 2 ∷ [])
     ∷ are (v0-map words (0 ∷ 4 ∷ 0 ∷ 4 ∷ []) (size 3 4)) (1 ∷ 3 ∷ 1 ∷ 1 ∷ 3 ∷ 3 ∷ 3 ∷ 3 ∷ 3 ∷ 3 ∷ 3 ∷ 3 ∷ [])
     ∷ are (v0-map rows-bytes (0 ∷ 0 ∷ 0 ∷ 0 ∷ 8 ∷ []) (size 3 5)) (1 ∷ 1 ∷ 1 ∷ 1 ∷ 1 ∷ 1 ∷ 1 ∷ 1 ∷ 1 ∷ 1 ∷ 1 ∷ 1 ∷ 0 ∷ 0 ∷ 0 ∷ [])
+    -- row 0 has no bytes, and its block spills over row 1, whose own reader has its word
+    ∷ are (v0-map spilt-bytes spilt-offsets (size 2 2)) (3 ∷ 3 ∷ 3 ∷ 3 ∷ [])
     ∷ are (drop 51 (v2-map frame-bytes (size 17 4))) (2 ∷ 2 ∷ 2 ∷ 2 ∷ 2 ∷ 2 ∷ 2 ∷ 2 ∷ 2 ∷ 2 ∷ 2 ∷ 2 ∷ 2 ∷ 2 ∷ 2 ∷ 2 ∷ 1 ∷ [])
     ∷ are (v2-map frame-bytes (size 17 3))
     (0 ∷ 0 ∷ 0 ∷ 0 ∷ 0 ∷ 0 ∷ 0 ∷ 0 ∷ 0 ∷ 0 ∷ 0 ∷ 0 ∷ 0 ∷ 0 ∷ 0 ∷ 0 ∷ 1 ∷ 0 ∷ 0 ∷ 0 ∷ 0 ∷ 0 ∷ 0 ∷ 0 ∷ 0 ∷ 0 ∷ 0 ∷ 0 ∷ 0 ∷ 0 ∷ 0 ∷ 0 ∷ 0 ∷ 1

@@ -13,7 +13,7 @@ use Rattle.rules.specs.Reader.{fresh, fetched, counted, held, read, fiel
 use Rattle.rules.specs.Frame.{tabulate, change-cells}
 use Rattle.rules.specs.V0.{Step, Block, Kind, fresh-row, operated, operate, head, limit, bounded, rows-up, columns-back, predictor, length-of, length-bits, residual-bits, sample, samples, order, blocks-in, blocks, row-blocks, rows, rows-filler, frame-filler, put, apply, write, write-all, swap, exchange-columns, exchange-rows, exchange, sample-kind}
 use Rattle.rules.specs.Examples.{Example}
-use Rattle.rules.proofs.Pins.Values.{is, are, Hold, of-bool, minus, of-ℤ, of-bits, size, words, op, of-predictor, of-op, op-at}
+use Rattle.rules.proofs.Pins.Values.{is, are, Hold, of-bool, minus, of-ℤ, of-bits, size, words, op, of-predictor, of-op, op-at, spilt-bytes, spilt-offsets}
 
 abbrev of-length : V0Length → List ℕ
 of-length x = of-ℤ (x .length) ∷ of-bits (x .bits)
@@ -137,6 +137,7 @@ examples =
     ∷ is (rows-filler words (9 ∷ 4 ∷ 0 ∷ []) (size 1 3) 3 0 (2 ^ 64 - 2)) (2 ^ 64 - 1)
     ∷ is (frame-filler words (9 ∷ 4 ∷ 0 ∷ []) (size 1 3)) 2
     ∷ is (frame-filler words [] (size 1 0)) 0
+    ∷ is (frame-filler spilt-bytes spilt-offsets (size 2 2)) 1
     -- put: skipped; 128; a sample; a predictor at N counts as 0; a place at N isn't written
     ∷ are (put sample-kind 1 Skipped 5 (10 ∷ 20 ∷ 30 ∷ [])) (10 ∷ 20 ∷ 30 ∷ [])
     ∷ are (put sample-kind 1 Constant 5 (10 ∷ 20 ∷ 30 ∷ [])) (10 ∷ 133 ∷ 30 ∷ [])

@@ -75,6 +75,13 @@ rows-bytes = words ++ replicate 12 0
 abbrev pub rows-offsets : List ℕ
 rows-offsets = 4 ∷ 8 ∷ 4 ∷ 8 ∷ []
 
+-- Two rows, of which the first has no bytes.
+abbrev pub spilt-bytes : List ℕ
+spilt-bytes = 0x00 ∷ 0x00 ∷ 0x00 ∷ 0x80 ∷ replicate 8 0x00
+
+abbrev pub spilt-offsets : List ℕ
+spilt-offsets = 12 ∷ 0 ∷ []
+
 -- Some cells of a frame.
 abbrev pub cells-at : List ℕ → List ℕ → List ℕ
 cells-at is f = map (λ i. getD f i 0) is
