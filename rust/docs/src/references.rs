@@ -125,15 +125,20 @@ impl Repository {
             "make" => words[1..].iter().copied().find(|word| !word.contains(['=', '-', '.']) && !self.has_target(word)),
             "cargo" => words.windows(2).find_map(|pair| (!self.has_of_cargo(pair[0], pair[1])).then_some(pair[1])),
             "compare" => words.get(1).copied().filter(|name| !holds_word(self.text("rust/compare/src/main.rs"), name)),
-            "razvolk" if !command.contains(" = ") => {
-                options().find(|option| !self.text("rust/tool/src/options.rs").contains(&format!("--{option}")))
-            }
+            "razvolk" if !command.contains(" = ") => options().find(|option| !self.has_option(option)),
             script if script.starts_with("tests/") || script.starts_with("dist/") => {
                 Some(script).filter(|script| !self.has_file(script))
             }
             _ => None,
         };
         missing.map(|missing| format!("`{command}`: there is no {missing}"))
+    }
+
+    /// Whether the tool has an option: a field of its options, or one of the two that every program has.
+    fn has_option(&self, option: &str) -> bool {
+        let field = option.replace('-', "_");
+        let mut sources = self.files.iter().filter(|(path, _)| path.starts_with("rust/tool/src/"));
+        ["help", "version"].contains(&option) || sources.any(|(_, text)| declares(text, &field))
     }
 
     fn has_target(&self, name: &str) -> bool {
@@ -294,7 +299,7 @@ mod tests {
             file("crates/low/proofs/Laws.antt", "row-by-row : ℕ\n"),
             file("rust/src/lib.rs", "impl Kind {\n    pub fn is_short(self) {}\n}\n"),
             file("rust/compare/src/main.rs", "usage: v2|v2-crops COUNT"),
-            file("rust/tool/src/options.rs", "\"--png\""),
+            file("rust/tool/src/options.rs", "    pub png: Option<PathBuf>,"),
             file("rust/tool/Cargo.toml", "name = \"razvolk-tool\"\n"),
             file("tests/try", ""),
             file("crates/low/must-fail/more/one_less.edit", ""),
