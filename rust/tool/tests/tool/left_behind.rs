@@ -90,12 +90,14 @@ fn a_signal_that_is_ignored() {
     assert_eq!(all_whole(&folder, None), 18);
 }
 
-/// Runs a line of a shell where `out` is a small file system of its own; none where this user may not make one.
+/// Runs a line of a shell where `out` is a small file system of its own; none where this user may not make one, which the gate
+/// doesn't take for a pass.
 fn mounted(folder: &Folder, options: &str, line: &str) -> Option<(i32, String, String)> {
     fs::create_dir_all(folder.0.join("out")).expect("a folder");
     let may = folder.ran(Command::new("unshare").args(["-rm", "mount", "-t", "tmpfs", "none", "out"]));
     if may.0 != 0 {
-        eprintln!("left out, since no file system can be mounted: {}", may.2);
+        assert!(std::env::var("CI").as_deref() != Ok("true"), "no file system can be mounted: {}", may.2);
+        eprintln!("left out: no file system can be mounted: {}", may.2);
         return None;
     }
     let line =
