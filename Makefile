@@ -12,7 +12,7 @@ need_rt = @command -v rt >/dev/null || { echo 'rt, the Rattle toolchain, is not 
 run:
 	$(need_rt)
 	@echo 'Proving what is not proved yet: some five minutes the first time, and a line for each crate.'
-	@tests/rt-lines target/rt.log check samrows
+	@tests/rt-lines target/rt.log rt check samrows
 	target/bin/samrows < crates/samrows/stdin
 
 # The gate.
@@ -25,7 +25,7 @@ archive: $(archive) $(shared)
 
 $(archive): crates.txt $(shell find crates -type f)
 	$(need_rt)
-	@tests/rt-lines target/rt.log staticlib razvolk
+	@tests/rt-lines target/rt.log rt staticlib razvolk
 
 $(shared): $(archive) include/razvolk.h dist/shared
 	dist/shared $(archive) include/razvolk.h $@
