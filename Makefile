@@ -1,4 +1,4 @@
-.PHONY: tool install-tool install-libraries run test archive container install dist wheel bench-python refuse mutate compare compare-long bench memcheck fuzz fuzz-srw frames picture sheet bench-tool soak fmt fuzz-container hour
+.PHONY: tool install-tool install-libraries run test archive container install dist wheel bench-python refuse mutate compare compare-long bench memcheck fuzz fuzz-srw frames picture sheet bench-tool soak fmt fuzz-container hour landings
 
 archive = target/staticlib/librazvolk.a
 shared = target/staticlib/librazvolk.so.0
@@ -98,6 +98,12 @@ SINCE =
 COUNT = 0
 mutate:
 	RT_JOBS=1 nice -n 19 python3 tests/mutate.py --crate $(CRATE) --file '$(FILE)' --since '$(SINCE)' --count $(COUNT) --seed $(SEED)
+
+# What the check cost before and after each landing, tree by tree, from nothing: two hours on a machine that does nothing else. The
+# figures are appended to the file; those that it has are not measured again.
+landings:
+	tests/landings.py measure --ci docs/landings.tsv
+	tests/landings.py draw docs/landings.tsv docs/landings.svg
 
 # The long comparison with the Rust, ten to twenty minutes.
 compare: $(archive)
