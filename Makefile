@@ -1,4 +1,4 @@
-.PHONY: tool install-tool install-libraries run test archive container install dist wheel bench-python refuse mutate compare compare-long bench memcheck fuzz fuzz-srw frames picture sheet bench-tool soak fmt fuzz-container hour landings
+.PHONY: tool install-tool install-libraries run test archive container install dist wheel bench-python refuse mutate compare compare-long bench memcheck fuzz frames picture sheet bench-tool soak fmt fuzz-container hour landings
 
 archive = target/staticlib/librazvolk.a
 shared = target/staticlib/librazvolk.so.0
@@ -176,18 +176,6 @@ fuzz-container: include/razvolk_srw.h frames
 HOUR_SECONDS = 3600
 hour: $(archive)
 	nice -n 19 tests/hour $(HOUR_SECONDS)
-
-# FOR seconds of the container as it is in Rust, with overflow checks: files found, and written again.
-fuzz-srw: frames
-	cd rust && RUSTFLAGS='$(counters)' cargo build --release --offline --locked -p fuzz-srw --target $(fuzz_target) \
-		--target-dir target/fuzz
-	clang -fsanitize=fuzzer rust/target/fuzz/$(fuzz_target)/release/libfuzz_srw.a -lgcc_s -lpthread -ldl -lm -o $(made)/find
-	mkdir -p $(made)/corpus-srw
-	cp $(made)/frames/small*.srw $(made)/corpus-srw/
-	cd $(made) && ./find -max_total_time=$(FOR) -max_len=4096 -rss_limit_mb=1024 -print_final_stats=1 corpus-srw > find.log 2>&1 || \
-		{ tail -40 find.log; exit 1; }
-	grep 'cov:' $(made)/find.log | tail -1
-	grep '^Done\|^stat' $(made)/find.log
 
 # Frames in a camera's container, to look at and to damage.
 frames: $(archive)

@@ -72,6 +72,29 @@ static void decode(const razvolk_srw_frame *frame, const uint32_t *offsets) {
     free(map);
 }
 
+/* What is written of a frame is found again. A V0 frame too high to be decoded comes without offsets, and makes no file. */
+static void write_again(const razvolk_srw_frame *frame, const uint32_t *offsets) {
+    size_t room = frame->stream_len + 4 * frame->offsets + frame->model_len + 1024;
+    uint8_t *file = memory(room);
+    uint32_t *rows = memory(4 * frame->offsets);
+    razvolk_srw_frame found;
+    size_t len = razvolk_srw_write(frame, offsets, file, room);
+    expect((len > 0) == (frame->version == 2 || frame->offsets == frame->height), "a frame with its offsets makes a file");
+    expect(len <= room && untouched(file + len, room - len), "bytes past the file stay");
+    if (len > 0) {
+        razvolk_srw_answer answer = razvolk_srw_find(file, len, &found, rows, frame->offsets);
+        expect(answer.number == RAZVOLK_SRW_FOUND && found.offsets == frame->offsets, "what is written is found");
+        expect(memcmp(rows, offsets, 4 * frame->offsets) == 0, "with its offsets");
+        expect(found.width == frame->width && found.height == frame->height && found.orientation == frame->orientation &&
+                   memcmp(found.colours, frame->colours, sizeof found.colours) == 0,
+               "with its size, colours and orientation");
+        expect(found.stream_len == frame->stream_len && (frame->stream_len == 0 || memcmp(found.stream, frame->stream, frame->stream_len) == 0),
+               "and with its stream");
+    }
+    free(file);
+    free(rows);
+}
+
 static void find(const uint8_t *file, size_t len, size_t lent) {
     razvolk_srw_frame *frame = memory(sizeof *frame), again;
     uint32_t *offsets = memory(4 * lent);
@@ -99,6 +122,7 @@ static void find(const uint8_t *file, size_t len, size_t lent) {
     if (answer.number == RAZVOLK_SRW_FOUND) {
         expect(untouched(offsets + frame->offsets, 4 * (lent - frame->offsets)), "offsets past the rows stay");
         decode(frame, offsets);
+        write_again(frame, offsets);
     }
     razvolk_srw_answer second = razvolk_srw_find(file, len, &again, NULL, 0);
     expect(second.number == answer.number || second.number == RAZVOLK_SRW_SHORT_OFFSETS, "the same file answers the same");
