@@ -34,32 +34,56 @@ fn all_whole(folder: &Folder, before: Option<&[u8]>) -> usize {
     count
 }
 
-/// Ends the tool by a signal after a while; whether it ended by it.
-fn ended(folder: &Folder, words: &[&str], signal: &str, after: Duration) -> bool {
-    let mut tool = Command::new(env!("CARGO_BIN_EXE_razvolk"))
-        .args(words)
-        .current_dir(&folder.0)
-        .stdout(Stdio::null())
-        .spawn()
-        .expect("the tool runs");
-    sleep(after);
-    let sent = Command::new("kill").args([signal, &tool.id().to_string()]).stderr(Stdio::null()).status();
-    sent.expect("kill runs");
-    tool.wait().expect("it ends").code().is_none()
+/// Where the tool's unfinished files stand.
+#[derive(Clone, Copy, PartialEq)]
+enum Unfinished {
+    /// Nowhere: they have no name.
+    Unnamed,
+    /// Beside the outputs, under a name: the tool can't tell the kernel which open file it means, since /proc is hidden.
+    Named,
 }
 
-/// Signals at random moments: new files, and files that are replaced.
-#[test]
-fn signals() {
-    let folder = frames("signals");
-    let line = ["in", "-o", "out", "--write", "png,pgm,v0", "--force"];
+impl Unfinished {
+    /// A command that runs the tool.
+    fn tool(self, folder: &Folder, words: &str) -> Command {
+        let line = format!("exec {} {words}", env!("CARGO_BIN_EXE_razvolk"));
+        let mut command = match self {
+            Unfinished::Unnamed => Command::new("sh"),
+            Unfinished::Named => {
+                let mut command = Command::new("unshare");
+                command.args(["-rm", "sh"]);
+                command
+            }
+        };
+        let hidden = if self == Unfinished::Named { "mount -t tmpfs none /proc && " } else { "" };
+        command.args(["-c", &format!("{hidden}{line}")]).current_dir(&folder.0).stdout(Stdio::null());
+        command
+    }
+}
+
+/// Ends the tool by a signal after a while; whether it ended by it, and whether a hidden file stood in `out` then.
+fn ended(folder: &Folder, mut command: Command, signal: &str, after: Duration) -> (bool, bool) {
+    let mut tool = command.spawn().expect("the tool runs");
+    sleep(after);
+    let hidden = fs::read_dir(folder.0.join("out"))
+        .expect("a folder")
+        .any(|entry| entry.is_ok_and(|entry| entry.file_name().to_string_lossy().starts_with('.')));
+    let sent = Command::new("kill").args([signal, &tool.id().to_string()]).stderr(Stdio::null()).status();
+    sent.expect("kill runs");
+    (tool.wait().expect("it ends").code().is_none(), hidden)
+}
+
+/// Signals at random moments: new files, and files that are replaced. How often a hidden file stood there when the signal came.
+fn at_random_moments(test: &str, unfinished: Unfinished, signals: &[&str]) -> usize {
+    let folder = frames(test);
+    let line = "in -o out --write png,pgm,v0 --force";
     let began = Instant::now();
-    assert_eq!(folder.run(&line.join(" ")).0, 0);
+    assert!(unfinished.tool(&folder, line).status().is_ok_and(|status| status.success()));
     let took = began.elapsed();
     let mut random = Random::new(1);
-    let (mut by_signal, mut between) = (0, 0);
+    let (mut by_signal, mut between, mut hidden) = (0, 0, 0);
     for round in 0..60 {
-        let signal = ["-INT", "-TERM", "-HUP", "-KILL"][round % 4];
+        let signal = signals[round % signals.len()];
         let replaced = round / 4 % 2 == 1;
         fs::remove_dir_all(folder.0.join("out")).expect("it was there");
         fs::create_dir(folder.0.join("out")).expect("a folder");
@@ -68,11 +92,31 @@ fn signals() {
             folder.put(&format!("out/{}", name.to_string_lossy()), "old");
         }
         let after = took.mul_f64(random.below(1_000) as f64 / 1_000.0);
-        by_signal += usize::from(ended(&folder, &line, signal, after));
+        let (ended, stood) = ended(&folder, unfinished.tool(&folder, line), signal, after);
+        by_signal += usize::from(ended);
+        hidden += usize::from(ended && stood);
         between += usize::from((1..18).contains(&all_whole(&folder, Some(b"old"))));
     }
     // Else the moments were none at which something could be left.
     assert!(by_signal >= 20 && between >= 10, "{by_signal} ended by the signal, {between} of them between two files");
+    hidden
+}
+
+#[test]
+fn signals() {
+    at_random_moments("signals", Unfinished::Unnamed, &["-INT", "-TERM", "-HUP", "-KILL"]);
+}
+
+/// As on a file system without unnamed files: what has a name is taken away.
+#[test]
+fn signals_where_unfinished_files_have_names() {
+    let may = Command::new("unshare").args(["-rm", "mount", "-t", "tmpfs", "none", "/proc"]).output();
+    if !may.as_ref().is_ok_and(|may| may.status.success()) {
+        assert!(std::env::var("CI").as_deref() != Ok("true"), "/proc can't be hidden: {may:?}");
+        return eprintln!("left out: /proc can't be hidden: {may:?}");
+    }
+    let hidden = at_random_moments("signals_named", Unfinished::Named, &["-INT", "-TERM", "-HUP"]);
+    assert!(hidden >= 5, "a file under a name stood there {hidden} times");
 }
 
 /// A signal that is ignored, as nohup does it, ends nothing.
