@@ -14,6 +14,12 @@ fn name(text: &str) -> String {
     bold.map_or(text.into(), |(words, _)| words.to_lowercase().replace(' ', "-"))
 }
 
+/// The promises that a document cites: P3 is 3.
+pub fn cited(markdown: &str) -> Vec<usize> {
+    let words = markdown.split(|c: char| !c.is_alphanumeric());
+    words.filter_map(|word| word.strip_prefix('P')?.parse().ok()).collect()
+}
+
 /// The fields of a record of a proof file, in their order.
 pub fn fields(antt: &str, record: &str) -> Vec<String> {
     let head = format!("pub record {record} ");
@@ -31,6 +37,11 @@ mod tests {
         let page = "# A\n- **P1 Not here.** x\n## B\n\n- **P1 No earlier frame.** x **y.**\n- plain\n\nText. More.\n- **P3 V0 into V2.** z\n# C\n- **P4 Over.**\n";
         assert_eq!(told(page, "## B"), ["p1-no-earlier-frame", "plain", "p3-v0-into-v2"]);
         assert!(told(page, "## D").is_empty());
+    }
+
+    #[test]
+    fn what_a_document_cites_is_found() {
+        assert_eq!(cited("P3, (P12) and P1 to P4; PGM, `P`, XP5, Ph1 and P5x are none"), [3, 12, 1, 4]);
     }
 
     #[test]
