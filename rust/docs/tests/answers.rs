@@ -29,10 +29,17 @@ fn the_header_names_each_refusal() {
 }
 
 #[test]
-fn the_rust_crate_and_the_migration_page_list_the_same_refusals() {
-    for place in ["rust/src/answer.rs", "docs/MIGRATION.md"] {
-        hold(&rules()[1..], place, &of_tables(&text(place)));
-    }
+fn the_rust_crate_lists_the_same_refusals() {
+    let place = "rust/src/answer.rs";
+    hold(&rules()[1..], place, &of_tables(&text(place)));
+}
+
+/// The migration page lists those that samsung.rs has, too, as they stand in the rules.
+#[test]
+fn the_migration_page_lists_the_refusals_of_samsung_rs() {
+    let ported: Vec<Listed> = rules().into_iter().filter(|one| [2, 3, 5, 6, 7, 8].contains(&one.number)).collect();
+    let place = "docs/MIGRATION.md";
+    hold(&ported, place, &of_tables(&text(place)));
 }
 
 #[test]

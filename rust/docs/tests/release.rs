@@ -16,6 +16,8 @@ fn the_version_is_one() {
     for (path, begins) in [("include/razvolk.h", "#define RAZVOLK_VERSION "), ("dist/razvolk.pc", "Version: ")] {
         assert_eq!(told(path, begins), version, "{path}");
     }
+    let newest = told("CHANGELOG.md", "## [");
+    assert!(newest.starts_with(&format!("{version}]")), "CHANGELOG.md: {newest}");
 }
 
 #[test]
