@@ -1,2 +1,3 @@
+-- What the proofs share: filler over a block's bytes, the parts of two bytes, and the greatest of a list.
 pub mod MapLaws
 pub mod GreatestLaws

@@ -1,3 +1,4 @@
+-- What an operation does to a frame of any kind of cell; inner blocks; and the exchange, part by part.
 pub mod CellLaws
 pub mod StagedLaws
 pub mod InnerLaws

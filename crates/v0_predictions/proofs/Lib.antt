@@ -1,1 +1,2 @@
+-- Phase two, block by block and sample by sample: what is left comes to the whole.
 pub mod PredictionLaws

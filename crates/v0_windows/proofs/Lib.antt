@@ -1,3 +1,4 @@
+-- A head, residuals and runs by position are those that the record reads.
 pub mod ChosenLaws
 pub mod GroupLaws
 pub mod RunLaws

@@ -56,8 +56,8 @@ fn without_comments(antt: &str) -> String {
     kept
 }
 
-/// The definitions that a document cites, each once: in backticks, `File.name`, where File begins with a capital. A file's own
-/// name, as README.md, is no citation, and neither is what stands in a block of code.
+/// The definitions that a document cites, each once: in backticks, `File.name`, where File begins with a capital; several of one
+/// file as `File.{name,other}`. A file's own name, as README.md, is no citation, and neither is what stands in a block of code.
 pub fn citations(markdown: &str) -> Vec<String> {
     let mut cited: Vec<String> = Vec::new();
     let mut code = false;
@@ -65,12 +65,21 @@ pub fn citations(markdown: &str) -> Vec<String> {
         if line.trim_start().starts_with("```") {
             code = !code;
         } else if !code {
-            cited.extend(names(line).into_iter().filter(|text| is_citation(text)).map(str::to_string));
+            cited.extend(names(line).into_iter().flat_map(each).filter(|text| is_citation(text)));
         }
     }
     cited.sort();
     cited.dedup();
     cited
+}
+
+/// `File.{name,other}` as `File.name` and `File.other`; any other text as it is.
+fn each(text: &str) -> Vec<String> {
+    let parted = text.split_once(".{").and_then(|(file, rest)| Some((file, rest.strip_suffix('}')?)));
+    match parted {
+        Some((file, names)) => names.split(',').map(|name| format!("{file}.{name}")).collect(),
+        None => vec![text.to_string()],
+    }
 }
 
 fn is_citation(text: &str) -> bool {
@@ -128,7 +137,7 @@ pub _⊕_ : ℕ → ℕ → ℕ
     #[test]
     fn citations_are_file_and_name() {
         let text = "A rule (`Reader.read`, `V2.header-of`, again `Reader.read`) of `README.md`, `count`, `Reader. x` and `Bits::new`.\n\
-            ```\n`Code.block`\n```\nThen `Reader._⊕_`; `samsung.rs`, `a.B` and `Reader.a.b` are none.";
-        assert_eq!(citations(text), ["Reader._⊕_", "Reader.read", "V2.header-of"]);
+            ```\n`Code.block`\n```\nThen `Reader._⊕_`; `samsung.rs`, `a.B`, `a.{B,c}`, `Map.{}` and `Reader.a.b` are none. `V0.{put,rows-up}`, `V0.put`.";
+        assert_eq!(citations(text), ["Reader._⊕_", "Reader.read", "V0.put", "V0.rows-up", "V2.header-of"]);
     }
 }
