@@ -11,10 +11,10 @@ use Rattle.rules.specs.Frame.{tabulate}
 use Rattle.rules.specs.V0.{blocks-in}
 use Rattle.writers.specs.Writer.{bits-of, gap, padded, bytes, words-bytes, run, lengths-for, length-for, block-bits, Coding, Unit, word, line, blocks-bits, row-bytes}
 use Rattle.writers.specs.declared.Pending.{Pending}
-use Rattle.writers.specs.Pending.{nothing, finished, Wrote}
+use Rattle.writers.specs.Pending.{nothing, put-state, put-out}
 use Rattle.writers.proofs.Blocks.{block-length}
 use Rattle.writers.proofs.Packed.{padded-length}
-use Rattle.writers.proofs.PendingLaws.{wrote-none, wrote-both}
+use Rattle.writers.proofs.PendingLaws.{Wrote, wrote-none, wrote-both}
 use Rattle.writers.proofs.Rows.{row-bits, gap-whole, blocks-length, row-is}
 use Rattle.pack.specs.Block.{numbers}
 use Rattle.frame_writer.specs.Frames.{block-of}
@@ -55,7 +55,7 @@ pub record Rowing (x : Coding) (row at : ℕ) (f f′ : List ℕ) (p : Pending) 
 
 pub row-begun : (x : Coding) (row at : ℕ) (f : List ℕ) (p : Pending) → p ≡ nothing at → Rowing x row at f f p 0
 unfolding blocks-bits
-row-begun x row at f p e = rw e (record { whole = refl; most = omega arith; wrote = wrote-none f (nothing at) (lit< tt) })
+row-begun x row at f p e = rw e (record { whole = refl; most = omega arith; wrote = wrote-none f (nothing at) (lit< tt) (lit< tt) })
 
 -- Units before them do not matter to how bits are padded.
 past-units : {unit : ℕ} (at n : ℕ) → Unit unit → at % unit ≡ 0 → gap (8 * unit) (8 * at + 0 + n) ≡ gap (8 * unit) n
@@ -68,19 +68,13 @@ past-units at n line e = let m : (8 * at + 0 + n) % 128 ≡ n % 128 = go (at / 1
     go : (j : ℕ) → at ≡ 16 * j → (8 * at + 0 + n) % 128 ≡ n % 128
     go j q = omega arith
 
--- Whole words are not padded.
-words-padded : (bs : List Bool) → length bs % 32 ≡ 0 → padded 32 bs ≡ bs
-unfolding padded
-words-padded bs e = let n : gap 32 (length bs) ≡ 0 = omega arith in rw n (append-nil bs)
-
--- What was written from nothing on, once nothing waits.
-wrote-whole : (f : List ℕ) (at : ℕ) (bs : List Bool) (f′ : List ℕ) (q : Pending) → q .count ≡ 0 → length bs % 32 ≡ 0
-    → Wrote f (nothing at) bs f′ q → f′ ≡ sets f at (bytes bs)
-unfolding finished bits-of bytes padded words-bytes
-wrote-whole f at bs f′ q e words w =
-    sym (ap (λ n. sets f′ (q .pos) (bytes (padded 32 (bits-of n (q .word) ++ [])))) e)
-    ∙ w .same []
-    ∙ ap (λ l. sets f at (bytes l)) (ap (padded 32) (append-nil bs) ∙ words-padded bs words)
+-- What was written from nothing on, where it is whole words: nothing waits, and its bytes are stored.
+wrote-whole : (f : List ℕ) (at : ℕ) (bs : List Bool) (f′ : List ℕ) (q : Pending) → length bs % 32 ≡ 0 → Wrote f (nothing at) bs f′ q
+    → (q .count ≡ 0) × (f′ ≡ sets f at (bytes bs))
+unfolding put-state put-out bits-of bytes
+wrote-whole f at bs f′ q words w =
+    let n : 0 + length bs ≡ length bs = omega arith in
+    (rw (w .state) (omega arith), w .stored ∙ ap (λ m. sets f at (words-bytes (m / 32) bs)) n)
 
 module _ {x : Coding} (u : Unit (x .unit)) {row at : ℕ} {f f′ : List ℕ} {p : Pending} {col : ℕ} (r : Rowing x row at f f′ p col) where
   here : 16 * (col / 16) ≡ col
@@ -136,16 +130,15 @@ module _ {x : Coding} (u : Unit (x .unit)) {row at : ℕ} {f f′ : List ℕ} {p
     end-is = let w = gap-whole (length (row-bits x row)) u in rw gap-is (omega (arith, before, row-is x u row, w))
 
     -- .. and then the buffer has the row.
-    pub row-gone : (f″ : List ℕ) (q : Pending) → (q .count ≡ 0) × Wrote f′ p (replicate (gap (8 * v) (8 * p .pos + p .count)) false) f″ q
+    pub row-gone : (f″ : List ℕ) (q : Pending) → Wrote f′ p (replicate (gap (8 * v) (8 * p .pos + p .count)) false) f″ q
         → (q .pos ≡ at + length (row-bytes x row)) × (f″ ≡ sets f at (row-bytes x row))
     unfolding row-bytes padded
-    row-gone f″ q (e, w) =
+    row-gone f″ q w =
         let n = gap (8 * x .unit) (length (row-bits x row)) in
-        let w′ : Wrote f′ p (replicate n false) f″ q = rw gap-is at w in (
-          omega (arith, e, w .grown, length-replicate (gap (8 * v) (8 * p .pos + p .count)) false, end-is),
-          wrote-whole f at (padded (8 * x .unit) (row-bits x row)) f″ q e
-              (rw (padded-length (8 * x .unit) (row-bits x row)) (gap-whole (length (row-bits x row)) u)) (wrote-both all w′),
-        )
+        let w′ : Wrote f′ p (replicate n false) f″ q = rw gap-is at w in
+        let words : length (padded (8 * x .unit) (row-bits x row)) % 32 ≡ 0 = rw (padded-length (8 * x .unit) (row-bits x row)) (gap-whole (length (row-bits x row)) u) in
+        let r = wrote-whole f at (padded (8 * x .unit) (row-bits x row)) f″ q words (wrote-both all w′) in
+        (omega (arith, r .0, w .grown, length-replicate (gap (8 * v) (8 * p .pos + p .count)) false, end-is), r .1)
 
 -- ── Measuring ──
 

@@ -5,24 +5,25 @@ use mathlib.Core.Path.{_≡_, refl, sym, ap, ap₂, _∙_}
 use mathlib.Core.List.{List, [], _∷_, _++_, append-nil, append-assoc}
 use native.Mathlib.Omega.{arith}
 use native.Mathlib.Nat.{mod-eq-of-lt, mod-lt, one-mul, mul-le-mul-left}
-use lib.ListN.{length, getD, set, length-append}
-use lib.Seq.{sets}
+use lib.ListN.{length, getD, set, take, length-append}
+use lib.Seq.{sets, take-at}
 use lib.Arith.{digits-lt}
 use lib.Count.{leadingZeros, leading-length}
-use lib.Dec.{lit<, lit≤}
+use lib.Dec.{lit<}
 use lib.Pow.{pow-pos, pow-lt, pow-mono}
 use borrow.Author.Tests.{lt-ltb, le-ltb}
 use Rattle.rules.specs.Frame.{tabulate}
 use Rattle.rules.proofs.Cells.{all-get}
 use Rattle.writers.specs.declared.Pending.{Pending}
-use Rattle.writers.specs.Writer.{bits-of, fields-bits, run, word-bytes, smallest, lengths-for, length-for, block-bits}
-use Rattle.writers.specs.Pending.{joined, put-state, put-out, Wrote}
+use Rattle.writers.specs.Writer.{bits-of, number-of, fields-bits, run, word-bytes, words-bytes, smallest, lengths-for, length-for, block-bits}
+use Rattle.writers.specs.Pending.{put-state, put-out}
 use Rattle.writers.specs.Weight.{weight, Short}
 use Rattle.writers.proofs.Ahead.{bits-low}
-use Rattle.writers.proofs.BitLists.{bits-length, bits-join}
+use Rattle.writers.proofs.BitLists as BitLists
+use Rattle.writers.proofs.BitLists.{bits-length, bits-split, bits-join}
 use Rattle.writers.proofs.BlockLength.{block-length-is}
 use Rattle.writers.proofs.Blocks.{opening-widths, opening, lengths-most}
-use Rattle.writers.proofs.PendingLaws.{put-wrote, wrote-none, wrote-both}
+use Rattle.writers.proofs.PendingLaws.{same-state, Wrote, wrote, wrote-none, wrote-both}
 use Rattle.writers.proofs.Smallest.{smallest-most}
 use Rattle.writers.proofs.WeightLaws.{heaviest, weight-short, smallest-by-weight}
 use Rattle.pack.specs.Block.{numbers, number-bits, numbers-bits, opening-number, Lengths}
@@ -51,10 +52,8 @@ pair-bits a b n =
     let e : 2 * n ≡ n + n = omega arith in
     rw e (bits-join n n a (b % 2 ^ n) (mod-lt b (pow-pos n)) ∙ ap (λ l. bits-of n a ++ l) (bits-low n b))
 
-pub pair-wrote : (f f′ : List ℕ) (p q : Pending) (n a b x : ℕ) → p .count < 32 → n < 16 → x ≡ a * 2 ^ n + b % 2 ^ n → q ≡ put-state p (2 * n) x
-    → f′ ≡ put-out f p (2 * n) x → Wrote f p (bits-of n a ++ bits-of n b) f′ q
-pair-wrote f f′ p q n a b x h l e s o =
-    rw (e, pair-bits a b n) at (put-wrote f p (2 * n) x f′ q h (omega arith) s o)
+pub pair-law : (n a b x : ℕ) → x ≡ a * 2 ^ n + b % 2 ^ n → bits-of (2 * n) x ≡ bits-of n a ++ bits-of n b
+pair-law n a b x e = rw e (pair-bits a b n)
 
 -- Four stores are a word's bytes.
 pub stored : (f : List ℕ) (at x a b c d : ℕ) → a ≡ x % 256 → b ≡ x / 256 % 256 → c ≡ x / 65_536 % 256 → d ≡ x / 16_777_216 % 256
@@ -65,22 +64,43 @@ stored f at x a b c d p q r t =
     let three : at + 3 ≡ suc (suc (suc at)) = omega arith in
     rw (p, q, r, t, one, two, three)
 
--- The two ways of a step.
-pub put-waits : (p : Pending) (n x v : ℕ) → p .count + n < 32 → v ≡ joined p n x % 2 ^ 32 → record { pos = p .pos; word = v; count = p .count + n } ≡ put-state p n x
-unfolding put-state
-put-waits p n x v l e = rw (lt-ltb (p .count + n) 32 l, e)
+-- The two ways of a step: the bits wait, ..
+module _ (p : Pending) (n x : ℕ) where
+  abbrev with : ℕ
+  with = p .word * 2 ^ n + x % 2 ^ n
 
-pub out-waits : (f : List ℕ) (p : Pending) (n x : ℕ) → p .count + n < 32 → f ≡ put-out f p n x
-unfolding put-out
-out-waits f p n x l = rw (lt-ltb (p .count + n) 32 l)
+  word-is : (v : ℕ) → v ≡ with % 2 ^ 32 → v ≡ (p .word * 2 ^ length (bits-of n x) + number-of (bits-of n x)) % 2 ^ 32
+  word-is v e = rw (bits-length n x, BitLists.number-bits n x) e
 
-pub put-full : (p : Pending) (n x v : ℕ) → 32 ≤ p .count + n → v ≡ joined p n x % 2 ^ 32 → record { pos = p .pos + 4; word = v; count = p .count + n - 32 } ≡ put-state p n x
-unfolding put-state
-put-full p n x v l e = rw (le-ltb (p .count + n) 32 l, e)
+  pub put-waits : (v : ℕ) → p .count + n < 32 → v ≡ with % 2 ^ 32 → record { pos = p .pos; word = v; count = p .count + n } ≡ put-state p (bits-of n x)
+  unfolding put-state
+  put-waits v l e = same-state (rw (bits-length n x) (omega arith)) (word-is v e) (rw (bits-length n x) (omega arith))
 
-pub out-full : (f f′ : List ℕ) (p : Pending) (n x v : ℕ) → 32 ≤ p .count + n → v ≡ joined p n x / 2 ^ (p .count + n - 32) % 2 ^ 32 → f′ ≡ sets f (p .pos) (word-bytes v) → f′ ≡ put-out f p n x
-unfolding put-out
-out-full f f′ p n x v l e k = k ∙ rw (le-ltb (p .count + n) 32 l, e)
+  pub out-waits : (f : List ℕ) → p .count + n < 32 → f ≡ put-out f p (bits-of n x)
+  unfolding put-out words-bytes
+  out-waits f l = let none : (p .count + length (bits-of n x)) / 32 ≡ 0 = rw (bits-length n x) (omega arith) in rw none
+
+  -- .. or the word is full.
+  module _ (h : p .count < 32) (k : n ≤ 32) (l : 32 ≤ p .count + n) where
+    pub put-full : (v : ℕ) → v ≡ with % 2 ^ 32 → record { pos = p .pos + 4; word = v; count = p .count + n - 32 } ≡ put-state p (bits-of n x)
+    unfolding put-state
+    put-full v e = same-state (rw (bits-length n x) (omega arith)) (word-is v e) (rw (bits-length n x) (omega arith))
+
+    -- The first 32 of its bits.
+    word-first : number-of (take 32 (bits-of (p .count) (p .word) ++ bits-of n x)) ≡ with / 2 ^ (p .count + n - 32) % 2 ^ 32
+    word-first =
+        let m = p .count + n - 32 in
+        let e : 32 + m ≡ p .count + n = omega arith in
+        let all : bits-of (p .count) (p .word) ++ bits-of n x ≡ bits-of 32 (with / 2 ^ m) ++ bits-of m with
+        = sym (bits-join (p .count) n (p .word) (x % 2 ^ n) (mod-lt x (pow-pos n)) ∙ ap (λ b. bits-of (p .count) (p .word) ++ b) (bits-low n x))
+        ∙ ap (λ i. bits-of i with) (sym e) ∙ bits-split 32 m with in
+        ap (λ b. number-of (take 32 b)) all ∙ ap number-of (take-at (bits-of 32 (with / 2 ^ m)) (bits-of m with) 32 (bits-length 32 (with / 2 ^ m))) ∙ BitLists.number-bits 32 (with / 2 ^ m)
+
+    pub out-full : (f f′ : List ℕ) (v : ℕ) → v ≡ with / 2 ^ (p .count + n - 32) % 2 ^ 32 → f′ ≡ sets f (p .pos) (word-bytes v) → f′ ≡ put-out f p (bits-of n x)
+    unfolding put-out words-bytes
+    out-full f f′ v e s =
+        let one : (p .count + length (bits-of n x)) / 32 ≡ 1 = rw (bits-length n x) (omega arith) in
+        s ∙ rw one (ap (λ y. sets f (p .pos) (word-bytes y)) (e ∙ sym word-first))
 
 -- ── Lengths ──
 
@@ -173,9 +193,9 @@ pub record Going (ls d f : List ℕ) (p : Pending) (f′ : List ℕ) (q : Pendin
   pub even : k % 2 ≡ 0
   pub wrote : Wrote f p (run (number-bits ls d) (tabulate k 0 (λ k. k))) f′ q
 
-pub begun : (ls d f : List ℕ) (p : Pending) → p .count < 32 → Going ls d f p f p 0
+pub begun : (ls d f : List ℕ) (p : Pending) → p .count < 32 → p .word < 2 ^ 32 → Going ls d f p f p 0
 unfolding run tabulate
-begun ls d f p h = record { most = omega arith; even = refl; wrote = wrote-none f p h }
+begun ls d f p h l = record { most = omega arith; even = refl; wrote = wrote-none f p h l }
 
 -- The next two.
 abbrev next-bits : (ls d : List ℕ) → ℕ → List Bool
@@ -231,18 +251,15 @@ pub block-length-law : (d ls : List ℕ) → ls ≡ lengths-for (numbers d) → 
 block-length-law d ls e = rw e (sym (block-length-is (numbers d)))
 
 -- After the opening there is room for the numbers.
-pub after-opening : (f f′ : List ℕ) (p q : Pending) (x : ℕ) (d ls : List ℕ) → ls ≡ lengths-for (numbers d) → p .count < 32
-    → 8 * p .pos + p .count + length (block-bits (numbers d)) ≤ 8 * length f → q ≡ put-state p 25 x
-    → f′ ≡ put-out f p 25 x → (q .count < 32) × (8 * q .pos + q .count + length (numbers-bits ls d) ≤ 8 * length f′)
-after-opening f f′ p q x d ls e h room s o =
-    let w = put-wrote f p 25 x f′ q h (lit≤ tt) s o in
-    (w .count-small, omega (arith, w .grown, w .length-is, bits-length 25 x, block-parts-length d ls e))
+pub after-opening : (f f′ : List ℕ) (p q : Pending) (x : ℕ) (d ls : List ℕ) → ls ≡ lengths-for (numbers d)
+    → 8 * p .pos + p .count + length (block-bits (numbers d)) ≤ 8 * length f → Wrote f p (bits-of 25 x) f′ q
+    → 8 * q .pos + q .count + length (numbers-bits ls d) ≤ 8 * length f′
+after-opening f f′ p q x d ls e room w = omega (arith, w .grown, w .length-is, bits-length 25 x, block-parts-length d ls e)
 
 -- The opening, and then the numbers, are a block.
 pub block-wrote : (d : List ℕ) {f f′ f″ : List ℕ} {p q r : Pending} (ls : List ℕ) (x : ℕ) → ls ≡ lengths-for (numbers d) → x ≡ opening-number ls
-    → p .count < 32 → q ≡ put-state p 25 x → f′ ≡ put-out f p 25 x → Wrote f′ q (run (number-bits ls d) (tabulate 16 0 (λ k. k))) f″ r → Wrote f p (block-bits (numbers d)) f″ r
+    → Wrote f p (bits-of 25 x) f′ q → Wrote f′ q (numbers-bits ls d) f″ r → Wrote f p (block-bits (numbers d)) f″ r
 unfolding block-bits length-for
-block-wrote d {f} {f′} {f″} {p} {q} {r} ls x e e′ h s o w =
-    let first = put-wrote f p 25 x f′ q h (lit≤ tt) s o in
-    let all : Wrote f p (bits-of 25 x ++ run (number-bits ls d) (tabulate 16 0 (λ k. k))) f″ r = wrote-both first w in
+block-wrote d {f} {f′} {f″} {p} {q} {r} ls x e e′ first rest =
+    let all : Wrote f p (bits-of 25 x ++ numbers-bits ls d) f″ r = wrote-both first rest in
     rw (e′, e, opening-law (numbers d)) at all

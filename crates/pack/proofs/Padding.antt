@@ -1,5 +1,5 @@
 -- Zero bits up to a whole word, and then words of zeros up to a whole unit.
-use Prim.Native.Nat.{ℕ, zero, suc, _+_, _-_, _*_, _/_, _%_, _<_, _≤_}
+use Prim.Native.Nat.{ℕ, zero, suc, _+_, _-_, _*_, _/_, _%_, _^_, _<_, _≤_}
 use mathlib.Core.Bool.{false}
 use mathlib.Core.Path.{_≡_, refl, sym, ap, _∙_, subst}
 use mathlib.Core.Logic.{_≢_}
@@ -7,12 +7,12 @@ use mathlib.Core.List.{List}
 use native.Mathlib.Omega.{arith}
 use native.Mathlib.Nat.{div-eq-of-lt, mod-lt}
 use lib.ListN.{replicate, length-replicate, replicate-append-replicate}
-use lib.Dec.{lit<, lit≤}
+use lib.Dec.{lit<}
 use lib.Pow.{pow-pos}
 use Rattle.writers.specs.declared.Pending.{Pending}
 use Rattle.writers.specs.Writer.{bits-of, gap, Unit, word, line}
-use Rattle.writers.specs.Pending.{put-state, put-out, Wrote}
-use Rattle.writers.proofs.PendingLaws.{put-wrote, wrote-none, wrote-both}
+use Rattle.writers.specs.Pending.{put-state, put-out}
+use Rattle.writers.proofs.PendingLaws.{Wrote, wrote, wrote-none, wrote-both}
 
 zero-bits : (n : ℕ) → bits-of n 0 ≡ replicate n false
 unfolding bits-of
@@ -20,8 +20,8 @@ zero-bits zero = refl
 zero-bits (suc n) = rw (div-eq-of-lt (pow-pos n), zero-bits n)
 
 -- A step that writes zeros.
-zeros-wrote : (f f′ : List ℕ) (p q : Pending) (n : ℕ) → p .count < 32 → n ≤ 32 → q ≡ put-state p n 0 → f′ ≡ put-out f p n 0 → Wrote f p (replicate n false) f′ q
-zeros-wrote f f′ p q n h l s o = rw (zero-bits n) at (put-wrote f p n 0 f′ q h l s o)
+pub zeros-wrote : {f f′ : List ℕ} {p q : Pending} (n : ℕ) → (q ≡ put-state p (bits-of n 0)) × (f′ ≡ put-out f p (bits-of n 0)) → Wrote f p (replicate n false) f′ q
+zeros-wrote {f} {f′} {p} {q} n e = rw (zero-bits n) at (wrote e)
 
 -- ── Ends ──
 
@@ -64,15 +64,18 @@ ends n line = rw (to-words n) (to-lines (32 * ((n + 31) / 32)) ∙ ap (λ m. 128
 
 -- ── To a word ──
 
-pub word-none : (f : List ℕ) (p : Pending) → p .count ≡ 0 → (p .count ≡ 0) × Wrote f p (replicate (gap 32 (p .count)) false) f p
-word-none f p e = let g : gap 32 (p .count) ≡ 0 = omega arith in (e, rw g (wrote-none f p (omega arith)))
+pub word-none : (f : List ℕ) (p : Pending) → p .count ≡ 0 → p .word < 2 ^ 32 → Wrote f p (replicate (gap 32 (p .count)) false) f p
+word-none f p e l = let g : gap 32 (p .count) ≡ 0 = omega arith in rw g (wrote-none f p (omega arith) l)
 
-pub word-law : (f f′ : List ℕ) (p q : Pending) (n : ℕ) → p .count < 32 → 0 < p .count → n ≡ 32 - p .count → q ≡ put-state p n 0 → f′ ≡ put-out f p n 0
-    → (q .count ≡ 0) × Wrote f p (replicate (gap 32 (p .count)) false) f′ q
-word-law f f′ p q n small some e s o =
+pub word-law : (f f′ : List ℕ) (p q : Pending) (n : ℕ) → p .count < 32 → 0 < p .count → n ≡ 32 - p .count → (q ≡ put-state p (bits-of n 0)) × (f′ ≡ put-out f p (bits-of n 0))
+    → Wrote f p (replicate (gap 32 (p .count)) false) f′ q
+word-law f f′ p q n small some e s =
     let g : n ≡ gap 32 (p .count) = omega arith in
-    let w : Wrote f p (replicate (gap 32 (p .count)) false) f′ q = subst (λ m. Wrote f p (replicate m false) f′ q) g (zeros-wrote f f′ p q n small (omega arith) s o) in
-    (omega (arith, w .grown, w .whole, w .count-small, length-replicate (gap 32 (p .count)) false), w)
+    subst (λ m. Wrote f p (replicate m false) f′ q) g (zeros-wrote n s)
+
+-- Then nothing waits.
+pub word-done : {f f′ : List ℕ} {p q : Pending} → p .count < 32 → Wrote f p (replicate (gap 32 (p .count)) false) f′ q → q .count ≡ 0
+word-done {f} {f′} {p} {q} small w = omega (arith, w .grown, w .whole, w .count-small, length-replicate (gap 32 (p .count)) false)
 
 -- ── To a unit ──
 
@@ -84,10 +87,10 @@ pub record Padding (unit : ℕ) (p : Pending) (f f′ : List ℕ) (q : Pending) 
   pub most : 8 * q .pos ≤ end-of unit p
   pub wrote : Wrote f p (replicate (8 * q .pos - bits-before p) false) f′ q
 
-pub padding-begun : (unit : ℕ) (f : List ℕ) (q : Pending) → q .count ≡ 0 → q .pos % 4 ≡ 0 → Padding unit q f f q
-padding-begun unit f q e fourth =
+pub padding-begun : (unit : ℕ) (f : List ℕ) (q : Pending) → q .count ≡ 0 → q .word < 2 ^ 32 → q .pos % 4 ≡ 0 → Padding unit q f f q
+padding-begun unit f q e low fourth =
     let n : 8 * q .pos - bits-before q ≡ 0 = omega arith in
-    record { none-waits = e; fourth = fourth; least = omega arith; most = omega arith; wrote = rw n (wrote-none f q (omega arith)) }
+    record { none-waits = e; fourth = fourth; least = omega arith; most = omega arith; wrote = rw n (wrote-none f q (omega arith) low) }
 
 -- Where a unit isn't whole, there is a word to its end.
 word-left : {unit : ℕ} (pos n : ℕ) → Unit unit → pos % 4 ≡ 0 → pos % unit ≢ 0 → 8 * pos ≤ n + gap (8 * unit) n → 8 * pos + 32 ≤ n + gap (8 * unit) n
@@ -130,9 +133,8 @@ module _ {unit : ℕ} (u : Unit unit) (p : Pending) (f f′ : List ℕ) (q : Pen
   pub word-fits : q .pos % unit ≢ 0 → 8 * q .pos + 32 ≤ end-of unit p
   word-fits n = word-left (q .pos) (bits-before p) u (r .fourth) n (r .most)
 
-  pub padding-on : (f″ : List ℕ) (q′ : Pending) → q .pos % unit ≢ 0 → q′ ≡ put-state q 32 0 → f″ ≡ put-out f′ q 32 0 → Padding unit p f f″ q′
-  padding-on f″ q′ n s o =
-      let w = zeros-wrote f′ f″ q q′ 32 (r .wrote .count-small) (lit≤ tt) s o in
+  pub padding-on : (f″ : List ℕ) (q′ : Pending) → q .pos % unit ≢ 0 → Wrote f′ q (replicate 32 false) f″ q′ → Padding unit p f f″ q′
+  padding-on f″ q′ n w =
       let long = length-replicate 32 false in
       let l = word-fits n in
       let m = word-more (q .pos) (q′ .pos) (q′ .count) (omega (arith, w .grown, r .none-waits, long)) (w .whole) (w .count-small) in
@@ -145,23 +147,22 @@ module _ {unit : ℕ} (u : Unit unit) (p : Pending) (f f′ : List ℕ) (q : Pen
         wrote = subst (λ m. Wrote f p m f″ q′) (replicate-append-replicate (8 * q .pos - bits-before p) 32 false ∙ ap (λ m. replicate m false) k) (wrote-both (r .wrote) w);
       }
 
-  pub pos-more : (f″ : List ℕ) (q′ : Pending) → q′ ≡ put-state q 32 0 → f″ ≡ put-out f′ q 32 0 → q′ .pos ≡ q .pos + 4
-  pos-more f″ q′ s o =
-      let w = zeros-wrote f′ f″ q q′ 32 (r .wrote .count-small) (lit≤ tt) s o in
+  pub pos-more : (f″ : List ℕ) (q′ : Pending) → Wrote f′ q (replicate 32 false) f″ q′ → q′ .pos ≡ q .pos + 4
+  pos-more f″ q′ w =
       word-more (q .pos) (q′ .pos) (q′ .count) (omega (arith, w .grown, r .none-waits, length-replicate 32 false)) (w .whole) (w .count-small) .1
 
-  pub padding-gone : q .pos % unit ≡ 0 → (q .count ≡ 0) × Wrote f p (replicate (gap (8 * unit) (bits-before p)) false) f′ q
-  padding-gone e = (r .none-waits, subst (λ m. Wrote f p (replicate m false) f′ q) (unit-gone (q .pos) (bits-before p) u e (r .most) (r .least)) (r .wrote))
+  pub padding-gone : q .pos % unit ≡ 0 → Wrote f p (replicate (gap (8 * unit) (bits-before p)) false) f′ q
+  padding-gone e = subst (λ m. Wrote f p (replicate m false) f′ q) (unit-gone (q .pos) (bits-before p) u e (r .most) (r .least)) (r .wrote)
 
 -- ── Both ──
 
 module _ {unit : ℕ} (u : Unit unit) (p : Pending) (f f′ : List ℕ) (q : Pending) (small : p .count < 32) (fourth : p .pos % 4 ≡ 0)
-    (r : (q .count ≡ 0) × Wrote f p (replicate (gap 32 (p .count)) false) f′ q) where
+    (r : Wrote f p (replicate (gap 32 (p .count)) false) f′ q) where
   words-before : gap 32 (bits-before p) ≡ gap 32 (p .count)
   words-before = let e : 8 * p .pos ≡ 32 * (p .pos / 4) = omega arith in rw e (past-words (p .pos / 4) (p .count))
 
   here : bits-before q ≡ bits-before p + gap 32 (bits-before p)
-  here = rw words-before (omega (arith, r .1 .grown, length-replicate (gap 32 (p .count)) false))
+  here = rw words-before (omega (arith, r .grown, length-replicate (gap 32 (p .count)) false))
 
   pub end-same : end-of unit q ≡ end-of unit p
   end-same = rw here (ends (bits-before p) u)
@@ -169,10 +170,10 @@ module _ {unit : ℕ} (u : Unit unit) (p : Pending) (f f′ : List ℕ) (q : Pen
   ends-are : gap 32 (p .count) + gap (8 * unit) (bits-before q) ≡ gap (8 * unit) (bits-before p)
   ends-are = omega (arith, end-same, here, words-before)
 
-  pub finish-law : (f″ : List ℕ) (q′ : Pending) → (q′ .count ≡ 0) × Wrote f′ q (replicate (gap (8 * unit) (bits-before q)) false) f″ q′
-      → (q′ .count ≡ 0) × Wrote f p (replicate (gap (8 * unit) (bits-before p)) false) f″ q′
-  finish-law f″ q′ (e, w) =
-      (e, subst (λ m. Wrote f p m f″ q′) (replicate-append-replicate (gap 32 (p .count)) (gap (8 * unit) (bits-before q)) false ∙ ap (λ m. replicate m false) ends-are) (wrote-both (r .1) w))
+  pub finish-law : (f″ : List ℕ) (q′ : Pending) → Wrote f′ q (replicate (gap (8 * unit) (bits-before q)) false) f″ q′
+      → Wrote f p (replicate (gap (8 * unit) (bits-before p)) false) f″ q′
+  finish-law f″ q′ w =
+      subst (λ m. Wrote f p m f″ q′) (replicate-append-replicate (gap 32 (p .count)) (gap (8 * unit) (bits-before q)) false ∙ ap (λ m. replicate m false) ends-are) (wrote-both r w)
 
 -- A whole word fits where a unit's end does.
 pub word-room : {unit : ℕ} (p : Pending) (n : ℕ) → Unit unit → p .pos % 4 ≡ 0 → end-of unit p ≤ 8 * n → bits-before p + gap 32 (p .count) ≤ 8 * n

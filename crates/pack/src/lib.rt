@@ -7,7 +7,7 @@ ghost use lib.ListN.{length, replicate};
 ghost use lib.Seq.{sets};
 ghost use Rattle.writers.specs.Writer.{bits-of, gap, Unit, word-bytes, smallest, lengths-for, block-bits};
 ghost use Rattle.writers.specs.Weight.{weight, Short};
-ghost use Rattle.writers.specs.Pending.{joined, put-state, put-out, Wrote};
+ghost use Rattle.writers.specs.Pending.{put-state, put-out};
 ghost use Rattle.pack.specs.Block.{numbers, numbers-bits, opening-number, Shorts, Lengths};
 use rules::V0Row;
 pub use writers::Pending;
@@ -43,7 +43,7 @@ pub fn store(out: &mut [u8], at: usize, x: u32)
 // The bits that wait, and the low n bits of x after them.
 fn join(p: Pending, n: u32, x: u32) -> u64
     requires { ⌜ n ≤ 32 ⌝ }
-    ensures { λ r. ⌜ r ≡ joined p n x ⌝ }
+    ensures { λ r. ⌜ r ≡ p .word * 2 ^ n + x % 2 ^ n ⌝ }
 {
     p.word as u64 * power(n) + x as u64 % power(n)
 }
@@ -60,7 +60,7 @@ fn low(x: u64) -> u32
 // Writes the low n bits of x, n at most 32: a word is stored once it is full.
 pub fn put(out: &mut [u8], p: Pending, n: u32, x: u32) -> Pending
     requires { ⌜ (p .count < 32) × (n ≤ 32) × (8 * p .pos + p .count + n ≤ 8 * length (now out)) ⌝ }
-    ensures { λ q. ⌜ (q ≡ put-state p n x) × (now (out .exit) ≡ put-out (now (out .entry)) p n x) ⌝ }
+    ensures { λ q. ⌜ (q ≡ put-state p (bits-of n x)) × (now (out .exit) ≡ put-out (now (out .entry)) p (bits-of n x)) ⌝ }
 {
     let both = join(p, n, x);
     let at = p.pos;
@@ -84,7 +84,7 @@ pub fn put(out: &mut [u8], p: Pending, n: u32, x: u32) -> Pending
 // Writes zero bits up to a whole word.
 fn to_word(out: &mut [u8], p: Pending) -> Pending
     requires { ⌜ (p .count < 32) × (8 * p .pos + p .count + gap 32 (p .count) ≤ 8 * length (now out)) ⌝ }
-    ensures { λ q. ⌜ (q .count ≡ 0) × Wrote (now (out .entry)) p (replicate (gap 32 (p .count)) false) (now (out .exit)) q ⌝ }
+    ensures { λ q. ⌜ (q ≡ put-state p (replicate (gap 32 (p .count)) false)) × (now (out .exit) ≡ put-out (now (out .entry)) p (replicate (gap 32 (p .count)) false)) ⌝ }
 {
     if p.count == 0 {
         return p;
@@ -96,7 +96,7 @@ fn to_word(out: &mut [u8], p: Pending) -> Pending
 // Writes zero bits up to a whole number of `unit` bytes.
 pub fn finish(out: &mut [u8], p: Pending, unit: usize) -> Pending
     requires { ⌜ Unit unit × (p .count < 32) × (p .pos % 4 ≡ 0) × (8 * p .pos + p .count + gap (8 * unit) (8 * p .pos + p .count) ≤ 8 * length (now out)) ⌝ }
-    ensures { λ q. ⌜ (q .count ≡ 0) × Wrote (now (out .entry)) p (replicate (gap (8 * unit) (8 * p .pos + p .count)) false) (now (out .exit)) q ⌝ }
+    ensures { λ q. ⌜ (q ≡ put-state p (replicate (gap (8 * unit) (8 * p .pos + p .count)) false)) × (now (out .exit) ≡ put-out (now (out .entry)) p (replicate (gap (8 * unit) (8 * p .pos + p .count)) false)) ⌝ }
 {
     let mut q = to_word(out, p);
     while q.pos % unit != 0 {
@@ -177,7 +177,7 @@ fn pair(n: u32, a: u16, b: u16) -> u32
 // Writes the low n bits of two numbers at once.
 fn put_pair(out: &mut [u8], p: Pending, n: u32, a: u16, b: u16) -> Pending
     requires { ⌜ (p .count < 32) × (n < 16) × (8 * p .pos + p .count + 2 * n ≤ 8 * length (now out)) ⌝ }
-    ensures { λ q. ⌜ Wrote (now (out .entry)) p (bits-of n a ++ bits-of n b) (now (out .exit)) q ⌝ }
+    ensures { λ q. ⌜ (q ≡ put-state p (bits-of n a ++ bits-of n b)) × (now (out .exit) ≡ put-out (now (out .entry)) p (bits-of n a ++ bits-of n b)) ⌝ }
 {
     put(out, p, 2 * n, pair(n, a, b))
 }
@@ -185,7 +185,7 @@ fn put_pair(out: &mut [u8], p: Pending, n: u32, a: u16, b: u16) -> Pending
 // Writes sixteen numbers, each with its length. Two that follow one another have the same.
 fn put_numbers(out: &mut [u8], p: Pending, lengths: [u32; 4], d: [u16; 16]) -> Pending
     requires { ⌜ (p .count < 32) × Lengths lengths × (8 * p .pos + p .count + length (numbers-bits lengths d) ≤ 8 * length (now out)) ⌝ }
-    ensures { λ q. ⌜ Wrote (now (out .entry)) p (numbers-bits lengths d) (now (out .exit)) q ⌝ }
+    ensures { λ q. ⌜ (q ≡ put-state p (numbers-bits lengths d)) × (now (out .exit) ≡ put-out (now (out .entry)) p (numbers-bits lengths d)) ⌝ }
 {
     let mut q = p;
     let mut k: usize = 0;
@@ -199,7 +199,7 @@ fn put_numbers(out: &mut [u8], p: Pending, lengths: [u32; 4], d: [u16; 16]) -> P
 // Writes a block of V0 or V2, whose numbers come in the order of the stream.
 pub fn put_block(out: &mut [u8], p: Pending, d: [u16; 16]) -> Pending
     requires { ⌜ (p .count < 32) × Shorts d × (8 * p .pos + p .count + length (block-bits (numbers d)) ≤ 8 * length (now out)) ⌝ }
-    ensures { λ q. ⌜ Wrote (now (out .entry)) p (block-bits (numbers d)) (now (out .exit)) q ⌝ }
+    ensures { λ q. ⌜ (q ≡ put-state p (block-bits (numbers d))) × (now (out .exit) ≡ put-out (now (out .entry)) p (block-bits (numbers d))) ⌝ }
 {
     let lengths = lengths_of(d);
     let q = put(out, p, 25, opening(lengths));

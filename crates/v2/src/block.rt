@@ -7,6 +7,7 @@ ghost use Rattle.rules.specs.Frame.{tabulate};
 ghost use Rattle.rules.specs.V2.{tail, read-block, top, sample, block-cells, sample-kind};
 ghost use Rattle.rules.specs.Ranges.{Between};
 ghost use Rattle.v2_stream.specs.Colours.{colours};
+ghost use Rattle.v2_differences.specs.Positions.{row-positions};
 ghost use Rattle.v2.specs.Blocks.{Ready, written};
 use rules::Answer;
 use rules::Bits;
@@ -48,10 +49,11 @@ fn read_tail(
     state: V2Row,
     lengths: [[u32; 2]; 3],
     bits: Bits,
+    positions: &[u8; 16],
     base: &[u16; 16],
     samples: &mut [u16; 16],
 ) -> Outcome
-    requires { ⌜ (hdr .depth ≤ 16) × (Between 512 4_605 (state .scale) × (length (now samples) ≡ 16)) ⌝ }
+    requires { ⌜ (hdr .depth ≤ 16) × (Between 512 4_605 (state .scale) × ((length (now samples) ≡ 16) × (now positions ≡ row-positions row))) ⌝ }
     ensures { λ r. ⌜ r .block ≡ tail (now (src .entry)) hdr row state lengths bits .outcome ⌝ }
     ensures { λ r. ⌜ colours (r .remembered) ≡ tail (now (src .entry)) hdr row state lengths bits .mode ⌝ }
     ensures { λ r. ⌜ now (samples .exit) ≡ written (r .block) (tabulate 16 0 (λ i. sample (top hdr) (state .scale) (getD (tail (now (src .entry)) hdr row state lengths bits .differences) i (pos 0)) (getD (now (base .entry)) i 0))) (now (samples .entry)) ⌝ }
@@ -68,7 +70,7 @@ fn read_tail(
     }
     let four = read.four;
     let mut d = [0i32; 16];
-    let b2 = block_differences(src, row, four, b1, &mut d);
+    let b2 = block_differences(src, positions, four, b1, &mut d);
     let most = top_of(hdr);
     build(base, &d, state.scale, most, samples);
     Outcome {
@@ -86,9 +88,10 @@ pub fn read_block(
     bits: Bits,
     state: V2Row,
     lengths: [[u32; 2]; 3],
+    positions: &[u8; 16],
     samples: &mut [u16; 16],
 ) -> Outcome
-    requires { ⌜ Ready hdr (length (now out)) at state × (length (now samples) ≡ 16) ⌝ }
+    requires { ⌜ Ready hdr (length (now out)) at state × ((length (now samples) ≡ 16) × (now positions ≡ row-positions (at .row))) ⌝ }
     ensures { λ r. ⌜ r .block ≡ read-block (now (src .entry)) hdr (at .width) (at .row) (at .col) bits state lengths .outcome ⌝ }
     ensures { λ r. ⌜ colours (r .remembered) ≡ read-block (now (src .entry)) hdr (at .width) (at .row) (at .col) bits state lengths .mode ⌝ }
     ensures { λ r. ⌜ now (samples .exit) ≡ written (r .block) (block-cells (sample-kind (top hdr)) (now (out .entry)) (read-block (now (src .entry)) hdr (at .width) (at .row) (at .col) bits state lengths .block)) (now (samples .entry)) ⌝ }
@@ -110,5 +113,15 @@ pub fn read_block(
         motion: m.value,
         scale: c.scale,
     };
-    read_tail(src, hdr, at.row, next, lengths, b2, &base, samples)
+    read_tail(
+        src,
+        hdr,
+        at.row,
+        next,
+        lengths,
+        b2,
+        positions,
+        &base,
+        samples,
+    )
 }

@@ -11,6 +11,7 @@ use rules::V2Row;
 use v2_cells::Place;
 use v2_cells::marks::mark_block;
 use v2_cells::samples::store;
+use v2_differences::positions_of;
 use v2_stream::header::align;
 use v2_stream::header::read_header;
 
@@ -29,6 +30,7 @@ pub fn decode_frame(src: &[u8], size: Size, out: &mut [u16], map: &mut [u8]) -> 
     let mut answer = Answer::done_with(bits.filler);
     let mut row: usize = 0;
     'frame: while row < height {
+        let positions = positions_of(row);
         bits = align(bits);
         let mut state = V2Row::fresh();
         let mut lengths = V2Row::mode(row);
@@ -36,7 +38,17 @@ pub fn decode_frame(src: &[u8], size: Size, out: &mut [u16], map: &mut [u8]) -> 
         while col + V2Row::BLOCK <= width {
             let at = Place { width, row, col };
             let mut samples = [0u16; 16];
-            let read = read_block(src, hdr, at, &out[..], bits, state, lengths, &mut samples);
+            let read = read_block(
+                src,
+                hdr,
+                at,
+                &out[..],
+                bits,
+                state,
+                lengths,
+                &positions,
+                &mut samples,
+            );
             let outcome = read.block;
             let V2Block::Next(next_bits, next_state) = outcome else {
                 let after = outcome.bits();

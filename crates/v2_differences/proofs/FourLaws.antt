@@ -1,10 +1,10 @@
 -- Differences by position are those that the reader's state reads: the sixteen of a block out of four windows.
 use mathlib.Core.Path.{_≡_, refl, sym, _∙_}
-use mathlib.Core.Bool.{Bool, true, false, cond, _&&_}
+use mathlib.Core.Bool.{true, _&&_}
 use mathlib.Core.List.{List}
 use Prim.Native.Nat.{ℕ, zero, suc, _+_, _*_, _-_, _/_, _%_, _^_, _≤_, _<_, min}
 use native.Mathlib.Omega.{arith}
-use lib.Dec.{leb, eqb}
+use lib.Dec.{leb}
 use lib.IntN.{ℤ, pos}
 use lib.ListN.{length, getD, set}
 use borrow.Author.Tests.{leb-true, le-leb}
@@ -12,11 +12,13 @@ use Rattle.rules.specs.Reader.{word-at, signed, read-signed}
 use Rattle.rules.specs.V2.{position, differences-from}
 use Rattle.rules.specs.declared.reader.Bits.{Bits}
 use Rattle.rules.proofs.ReaderLaws.{read-signed-is}
-use Rattle.rules.proofs.Tests.{both, by-test}
+use Rattle.rules.proofs.Tests.{both}
 use Rattle.window.specs.Window.{bits-from, state-at, FourAt, Standing}
 use Rattle.window.proofs.WindowLaws.{read-at}
 use Rattle.v2_differences.specs.Four.{Short, short}
+use Rattle.v2_differences.specs.Positions.{row-positions, stored-four}
 use Rattle.v2_differences.proofs.DifferenceLaws.{difference-more, difference-end}
+use Rattle.v2_differences.proofs.PositionLaws.{position-at}
 
 -- ── Short lengths ──
 
@@ -75,66 +77,52 @@ module _ (s : List ℕ) (row : ℕ) (ls : List ℕ) (base f : ℕ) (j : ℕ) (h 
       ∙ difference-more s row ls (4 * j + 1 + 1) _ (state-at s base (q + n + n) f) _ p₂ (omega arith) (rw (k₂, ← en) (sym g₂)) e₂
       ∙ difference-more s row ls (4 * j + 1 + 1 + 1) _ (state-at s base (q + n + n + n) f) _ p₃ (omega arith) (rw (k₃, ← en) (sym g₃)) e₃
 
--- The positions of four differences of one length: every other one from the first on.
-every-other : (row j i : ℕ) → j < 4 → i < 4 → position row (4 * j) + 2 * i ≡ position row (4 * j + i)
-unfolding position
-every-other row j i k l = go (eqb (row % 2) 0) (j / 2) (j % 2) (omega arith) (omega arith) (omega arith)
-  where
-    last : (t : Bool) (a b : ℕ) → a < 2 → cond t (2 * (4 * b) + a) (2 * (4 * b) + 1 - a) + 2 * i ≡ cond t (2 * (4 * b + i) + a) (2 * (4 * b + i) + 1 - a)
-    last true a b g = omega arith
-    last false a b g = omega arith
-
-    go : (t : Bool) (a b : ℕ) → j ≡ 2 * a + b → b < 2 → a < 2
-        → cond t (2 * (4 * j % 8) + 4 * j / 8) (2 * (4 * j % 8) + 1 - 4 * j / 8) + 2 * i ≡ cond t (2 * ((4 * j + i) % 8) + (4 * j + i) / 8) (2 * ((4 * j + i) % 8) + 1 - (4 * j + i) / 8)
-    go t a b e h g =
-        let x : 4 * j ≡ a * 8 + 4 * b = omega arith in
-        let y : 4 * j + i ≡ a * 8 + (4 * b + i) = omega arith in
-        let m : (a * 8 + 4 * b) % 8 ≡ 4 * b = omega arith in
-        let d : (a * 8 + 4 * b) / 8 ≡ a = omega arith in
-        let m′ : (a * 8 + (4 * b + i)) % 8 ≡ 4 * b + i = omega arith in
-        let d′ : (a * 8 + (4 * b + i)) / 8 ≡ a = omega arith in
-        rw (y, m′, d′, x, m, d) (last t a b g)
-
-pub first-below : (row j : ℕ) → j < 4 → position row (4 * j) + 6 < 16
-unfolding position
-first-below row j h = by-test (eqb (row % 2) 0) (λ e. rw e (omega arith)) (λ e. rw e (omega arith))
-
 -- The loop over four windows, before length number j: the differences from number 4 j on, by the state that stands before bit q,
--- come to what all sixteen come to.
-pub record Reached (s : List ℕ) (row : ℕ) (ls : List ℕ) (base f q₀ : ℕ) (ds₀ : List ℤ) (j q : ℕ) (ds : List ℤ) : Type 0 where
+-- come to what all sixteen come to, in each row whose positions are ps.
+pub record Reached (s ps ls : List ℕ) (base f q₀ : ℕ) (ds₀ : List ℤ) (j q : ℕ) (ds : List ℤ) : Type 0 where
   pub within : j ≤ 4
   pub late : 64 < q
   pub soon : q ≤ 96 + 64 * j
-  pub is : differences-from s row ls 16 0 (record { values = ds₀; bits = state-at s base q₀ f })
+  pub is : (row : ℕ) → ps ≡ row-positions row
+      → differences-from s row ls 16 0 (record { values = ds₀; bits = state-at s base q₀ f })
       ≡ differences-from s row ls (16 - 4 * j) (4 * j) (record { values = ds; bits = state-at s base q f })
 
-pub reached-start : (s : List ℕ) (row : ℕ) (ls : List ℕ) (base f count : ℕ) (ds : List ℤ) → count < 32
-    → Reached s row ls base f (96 - count) ds 0 (96 - count) ds
-reached-start s row ls base f count ds few = record { within = omega arith; late = omega arith; soon = omega arith; is = refl }
+pub reached-start : (s ps ls : List ℕ) (base f count : ℕ) (ds : List ℤ) → count < 32
+    → Reached s ps ls base f (96 - count) ds 0 (96 - count) ds
+reached-start s ps ls base f count ds few = record { within = omega arith; late = omega arith; soon = omega arith; is = λ row e. refl }
 
-module _ (s : List ℕ) (row : ℕ) (ls : List ℕ) (base f q₀ : ℕ) (ds₀ : List ℤ) where
-  pub reached-more : (j q n p : ℕ) (ds ds′ r : List ℤ) → j < 4 → n ≡ getD ls j 0 → n ≤ 16 → base + 48 ≤ length s → base + 48 < 2 ^ 64 → p ≡ position row (4 * j) → FourAt (signed n) s base q n r
-      → ds′ ≡ set (set (set (set ds p (getD r 0 (pos 0))) (p + 2) (getD r 1 (pos 0))) (p + 4) (getD r 2 (pos 0))) (p + 6) (getD r 3 (pos 0))
-      → Reached s row ls base f q₀ ds₀ j q ds → Reached s row ls base f q₀ ds₀ (j + 1) (q + 4 * n) ds′
-  reached-more j q n p ds ds′ r h en few there far ep x ed l =
+module _ (s ps ls : List ℕ) (base f q₀ : ℕ) (ds₀ : List ℤ) where
+  pub reached-more : (j q n : ℕ) (ds ds′ r : List ℤ) → j < 4 → n ≡ getD ls j 0 → n ≤ 16 → base + 48 ≤ length s → base + 48 < 2 ^ 64 → FourAt (signed n) s base q n r
+      → ds′ ≡ stored-four ds ps (4 * j) r
+      → Reached s ps ls base f q₀ ds₀ j q ds → Reached s ps ls base f q₀ ds₀ (j + 1) (q + 4 * n) ds′
+  reached-more j q n ds ds′ r h en few there far x ed l =
       let late : 64 < q = l .late in
       let soon : q ≤ 96 + 64 * j = l .soon in
-      let k : 4 * j + 1 + 1 + 1 + 1 ≡ 4 * (j + 1) = omega arith in
-      let k₂ : 4 * j + 1 + 1 ≡ 4 * j + 2 = omega arith in
-      let k₃ : 4 * j + 1 + 1 + 1 ≡ 4 * j + 3 = omega arith in
-      let q₂ : q + n + n ≡ q + 2 * n = omega arith in
-      let q₃ : q + 2 * n + n ≡ q + 3 * n = omega arith in
-      let q₄ : q + 3 * n + n ≡ q + 4 * n = omega arith in
-      let e₁ : p + 2 ≡ position row (4 * j + 1) = rw ep (every-other row j 1 h (omega arith)) in
-      let e₂ : p + 4 ≡ position row (4 * j + 1 + 1) = rw (k₂, ep) (every-other row j 2 h (omega arith)) in
-      let e₃ : p + 6 ≡ position row (4 * j + 1 + 1 + 1) = rw (k₃, ep) (every-other row j 3 h (omega arith)) in
-      let g = group-more s row ls base f j h ds q n p (p + 2) (p + 4) (p + 6) en few (omega arith) (omega arith) (omega arith) (x .whole) ep e₁ e₂ e₃ in
-      record { within = omega arith; late = omega arith; soon = omega arith; is = l .is ∙ rw (ed, x .are) (rw (k, q₂, q₃, q₄) at g) }
+      record { within = omega arith; late = omega arith; soon = omega arith; is = on }
+    where
+      on : (row : ℕ) → ps ≡ row-positions row
+          → differences-from s row ls 16 0 (record { values = ds₀; bits = state-at s base q₀ f })
+          ≡ differences-from s row ls (16 - 4 * (j + 1)) (4 * (j + 1)) (record { values = ds′; bits = state-at s base (q + 4 * n) f })
+      on row e =
+          let late : 64 < q = l .late in
+          let soon : q ≤ 96 + 64 * j = l .soon in
+          let k : 4 * j + 1 + 1 + 1 + 1 ≡ 4 * (j + 1) = omega arith in
+          let k₂ : 4 * j + 1 + 1 ≡ 4 * j + 2 = omega arith in
+          let k₃ : 4 * j + 1 + 1 + 1 ≡ 4 * j + 3 = omega arith in
+          let q₂ : q + n + n ≡ q + 2 * n = omega arith in
+          let q₃ : q + 2 * n + n ≡ q + 3 * n = omega arith in
+          let q₄ : q + 3 * n + n ≡ q + 4 * n = omega arith in
+          let e₀ = position-at row (4 * j) ps e (omega arith) .0 in
+          let e₁ = position-at row (4 * j + 1) ps e (omega arith) .0 in
+          let e₂ : getD ps (4 * j + 2) 0 ≡ position row (4 * j + 1 + 1) = rw k₂ (position-at row (4 * j + 2) ps e (omega arith) .0) in
+          let e₃ : getD ps (4 * j + 3) 0 ≡ position row (4 * j + 1 + 1 + 1) = rw k₃ (position-at row (4 * j + 3) ps e (omega arith) .0) in
+          let g = group-more s row ls base f j h ds q n _ _ _ _ en few (omega arith) (omega arith) (omega arith) (x .whole) e₀ e₁ e₂ e₃ in
+          l .is row e ∙ rw (ed, x .are) (rw (k, q₂, q₃, q₄) at g)
 
 -- After the four the state is made again.
-pub reached-end : (s : List ℕ) (row : ℕ) (ls : List ℕ) (b b′ : Bits) (j q : ℕ) (ds₀ ds : List ℤ) → Standing s b 40 → b′ ≡ state-at s (b .pos - 12) q (b .filler)
-    → Reached s row ls (b .pos - 12) (b .filler) (96 - b .count) ds₀ j q ds → 4 ≤ j
+pub reached-end : (s ps ls : List ℕ) (b b′ : Bits) (j q : ℕ) (ds₀ ds : List ℤ) → Standing s b 40 → b′ ≡ state-at s (b .pos - 12) q (b .filler)
+    → Reached s ps ls (b .pos - 12) (b .filler) (96 - b .count) ds₀ j q ds → 4 ≤ j → (row : ℕ) → ps ≡ row-positions row
     → record { values = ds; bits = b′ } ≡ differences-from s row ls 16 0 (record { values = ds₀; bits = b })
-reached-end s row ls b b′ j q ds₀ ds at e l h =
+reached-end s ps ls b b′ j q ds₀ ds at e l h row p =
     let d = difference-end s row ls (4 * j) (record { values = ds; bits = state-at s (b .pos - 12) q (b .filler) }) (omega arith) in
-    rw e (sym (rw (← at .is) at (l .is) ∙ d))
+    rw e (sym (rw (← at .is) at (l .is row p) ∙ d))

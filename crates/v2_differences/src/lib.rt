@@ -1,13 +1,12 @@
 // What V2 reads of a block last: its differences, out of windows where the reader's record stands in the stream, else two by two.
 ghost use mathlib.Core.Path.{_≡_};
-ghost use Prim.Native.Nat.{_+_, _<_};
-ghost use lib.IntN.{pos};
-ghost use lib.ListN.{getD, set};
+ghost use Prim.Native.Nat.{ℕ, _+_, _<_};
+ghost use lib.ListN.{getD};
 ghost use Rattle.rules.specs.V2.{differences-from};
 ghost use Rattle.window.specs.Window.{Standing};
 ghost use Rattle.v2_differences.specs.Four.{Short, short};
 ghost use Rattle.v2_differences.specs.Pairs.{signed-pair};
-ghost use Rattle.v2_differences.specs.Positions.{row-positions, positions};
+ghost use Rattle.v2_differences.specs.Positions.{row-positions, positions, OfARow, stored-four};
 
 mod four;
 
@@ -24,7 +23,7 @@ use window::SHORT_BITS;
 use window::stands_within;
 use window::state_at;
 
-// Where the sixteen differences go in even rows, and in odd ones.
+// Where the sixteen differences go in even rows, and in odd ones: docs/RULES.md, "V2", a block's differences.
 const POSITIONS: [[u8; 16]; 2] = [
     [0, 2, 4, 6, 8, 10, 12, 14, 1, 3, 5, 7, 9, 11, 13, 15],
     [1, 3, 5, 7, 9, 11, 13, 15, 0, 2, 4, 6, 8, 10, 12, 14],
@@ -37,12 +36,21 @@ fn table() -> [[u8; 16]; 2]
     POSITIONS
 }
 
-// A row's part of the table.
-fn positions_of(row: usize) -> [u8; 16]
+// A row's part of the table. It is made once for a row and lent to its blocks, since a constant that is read in a loop is laid on
+// the stack at each read.
+pub fn positions_of(row: usize) -> [u8; 16]
     ensures { λ r. ⌜ r ≡ row-positions row ⌝ }
 {
     let both = table();
     both[row % 2]
+}
+
+// Where difference k goes, by a row's part of the table.
+fn entry(positions: &[u8; 16], k: usize) -> usize
+    requires { ⌜ OfARow (now positions) × (k < 16) ⌝ }
+    ensures { λ r. ⌜ (r ≡ getD (now (positions .entry)) k 0) × (r < 16) ⌝ }
+{
+    positions[k] as usize
 }
 
 // Two differences, and the reader's state after them.
@@ -77,21 +85,24 @@ fn read_pair(src: &[u8], bits: Bits, n: u32) -> Pair
 }
 
 // The sixteen differences two by two, whatever the state and the lengths.
-fn by_pairs(src: &[u8], row: usize, lengths: [u32; 4], bits: Bits, values: &mut [i32; 16]) -> Bits
-    ensures { λ r. ⌜ record { values = now (values .exit); bits = r } ≡ differences-from (now (src .entry)) row lengths 16 0 (record { values = now (values .entry); bits = bits }) ⌝ }
+fn by_pairs(
+    src: &[u8],
+    positions: &[u8; 16],
+    lengths: [u32; 4],
+    bits: Bits,
+    values: &mut [i32; 16],
+) -> Bits
+    requires { ⌜ OfARow (now positions) ⌝ }
+    ensures { λ r. ⌜ ((row : ℕ) → now (positions .entry) ≡ row-positions row → record { values = now (values .exit); bits = r } ≡ differences-from (now (src .entry)) row lengths 16 0 (record { values = now (values .entry); bits = bits })) ⌝ }
 {
-    // A copy, since a constant that is read in the loop is made anew at each read.
-    let positions = positions_of(row);
     let mut at = bits;
     let mut k: usize = 0;
     while k < V2Row::BLOCK {
         let pair = read_pair(src, at, lengths[k / 4]);
-        let p = positions[k] as usize;
-        let q = positions[k + 1] as usize;
         let a = pair.first;
         let b = pair.second;
-        values[p] = a;
-        values[q] = b;
+        values[entry(positions, k)] = a;
+        values[entry(positions, k + 1)] = b;
         at = pair.bits;
         k += 2;
     }
@@ -102,31 +113,37 @@ fn by_pairs(src: &[u8], row: usize, lengths: [u32; 4], bits: Bits, values: &mut 
 // takes three words.
 const REACH: usize = 40;
 
-// Four differences to position p and every other one after it.
-fn store_four(values: &mut [i32; 16], p: usize, four: [i32; 4])
-    requires { ⌜ p + 6 < 16 ⌝ }
-    ensures { λ _. ⌜ now (values .exit) ≡ set (set (set (set (now (values .entry)) p (getD four 0 (pos 0))) (p + 2) (getD four 1 (pos 0))) (p + 4) (getD four 2 (pos 0))) (p + 6) (getD four 3 (pos 0)) ⌝ }
+// Four differences, from number k on, each to the position that the table has for it, which is read right before its store: a
+// register holds it no longer than that.
+fn store_four(values: &mut [i32; 16], positions: &[u8; 16], k: usize, four: [i32; 4])
+    requires { ⌜ OfARow (now positions) × (k + 3 < 16) ⌝ }
+    ensures { λ _. ⌜ now (values .exit) ≡ stored-four (now (values .entry)) (now (positions .entry)) k four ⌝ }
 {
-    values[p] = four[0];
-    values[p + 2] = four[1];
-    values[p + 4] = four[2];
-    values[p + 6] = four[3];
+    values[entry(positions, k)] = four[0];
+    values[entry(positions, k + 1)] = four[1];
+    values[entry(positions, k + 2)] = four[2];
+    values[entry(positions, k + 3)] = four[3];
 }
 
 // The sixteen differences out of four windows, where the state stands in the stream: no read asks whether a word is left, and the
 // state is made again at the end. Bits are counted from two words before the one fetched last.
-fn by_windows(src: &[u8], row: usize, lengths: [u32; 4], bits: Bits, values: &mut [i32; 16]) -> Bits
-    requires { ⌜ Standing (now src) bits 40 × Short lengths ⌝ }
-    ensures { λ r. ⌜ record { values = now (values .exit); bits = r } ≡ differences-from (now (src .entry)) row lengths 16 0 (record { values = now (values .entry); bits = bits }) ⌝ }
+fn by_windows(
+    src: &[u8],
+    positions: &[u8; 16],
+    lengths: [u32; 4],
+    bits: Bits,
+    values: &mut [i32; 16],
+) -> Bits
+    requires { ⌜ Standing (now src) bits 40 × (Short lengths × OfARow (now positions)) ⌝ }
+    ensures { λ r. ⌜ ((row : ℕ) → now (positions .entry) ≡ row-positions row → record { values = now (values .exit); bits = r } ≡ differences-from (now (src .entry)) row lengths 16 0 (record { values = now (values .entry); bits = bits })) ⌝ }
 {
-    let positions = positions_of(row);
     let base = bits.pos as usize - BACK_BYTES;
     let mut q = BACK_BITS - bits.count as usize;
     let mut j: usize = 0;
     while j < 4 {
         let n = lengths[j];
         let four = four_at(src, base, q, n);
-        store_four(values, positions[4 * j] as usize, four);
+        store_four(values, positions, 4 * j, four);
         q += 4 * n as usize;
         j += 1;
     }
@@ -149,18 +166,19 @@ fn are_short(lengths: [u32; 4]) -> bool
     lengths[3] <= SHORT_BITS
 }
 
-// The sixteen differences, each at its position.
+// The sixteen differences, each at its position, for a row that has these.
 pub fn block_differences(
     src: &[u8],
-    row: usize,
+    positions: &[u8; 16],
     lengths: [u32; 4],
     bits: Bits,
     values: &mut [i32; 16],
 ) -> Bits
-    ensures { λ r. ⌜ record { values = now (values .exit); bits = r } ≡ differences-from (now (src .entry)) row lengths 16 0 (record { values = now (values .entry); bits = bits }) ⌝ }
+    requires { ⌜ OfARow (now positions) ⌝ }
+    ensures { λ r. ⌜ ((row : ℕ) → now (positions .entry) ≡ row-positions row → record { values = now (values .exit); bits = r } ≡ differences-from (now (src .entry)) row lengths 16 0 (record { values = now (values .entry); bits = bits })) ⌝ }
 {
     if are_short(lengths) && stands_within(src, bits, REACH) {
-        return by_windows(src, row, lengths, bits, values);
+        return by_windows(src, positions, lengths, bits, values);
     }
-    by_pairs(src, row, lengths, bits, values)
+    by_pairs(src, positions, lengths, bits, values)
 }

@@ -1,7 +1,9 @@
 -- One write of twice the bits writes both.
+use mathlib.Core.Path.{ap, _∙_}
 use denote.Ref.{now}
 use borrow.Author.Needs.{needs}
-use Rattle.pack.proofs.Laws.{pair-wrote}
+use Rattle.writers.specs.Pending.{put-state, put-out}
+use Rattle.pack.proofs.Laws.{pair-law}
 use Rattle.pack.proofs.put_pair.Statement.{statement}
 use Rattle.pack.proofs.put_pair.Tie as tie
 
@@ -23,9 +25,10 @@ at-start c = c .before .before .before .before .before
 
 returns : tie.Need-returns
 returns c =
-    let s = at-start (c .before) in
-    let a = s .args in
-    pair-wrote (now (a .out)) _ (a .p) _ (a .n) (a .a) (a .b) _ (s .pre .0) (s .pre .1) (c .before .before .before .pair .ensures) (c .before .before .put .ensures .0) (c .before .before .put .ensures .1)
+    let a = at-start (c .before) .args in
+    let e = pair-law (a .n) (a .a) (a .b) _ (c .before .before .before .pair .ensures) in
+    let w = c .before .before .put .ensures in
+    (w .0 ∙ ap (put-state (a .p)) e, w .1 ∙ ap (put-out (now (a .out)) (a .p)) e)
 
 pub put-pair-spec : {M : Type 1} → statement M
 put-pair-spec = tie.close (tie.spec mul-put pair-requires put-requires same-length returns)

@@ -8,7 +8,10 @@ use Rattle.pack.proofs.to_word.Statement.{statement}
 use Rattle.pack.proofs.to_word.Tie as tie
 
 returns : tie.Need-returns
-returns c = let a = c .before .before .before .args in word-none (now (a .out)) (a .p) (omega arith)
+returns c =
+    let a = c .before .before .before .args in
+    let w = word-none (now (a .out)) (a .p) (omega arith) (omega arith) in
+    (w .state, w .stored)
 
 sub-n : tie.Need-sub-n
 sub-n c = search needs
@@ -27,7 +30,8 @@ returns-2 : tie.Need-returns-2
 returns-2 c =
     let s = at-start (c .before .before .before) in
     let a = s .args in
-    word-law (now (a .out)) _ (a .p) _ _ (s .pre .0) (omega arith) refl (c .before .before .put .ensures .0) (c .before .before .put .ensures .1)
+    let w = word-law (now (a .out)) _ (a .p) _ _ (s .pre .0) (omega arith) refl (c .before .before .put .ensures) in
+    (w .state, w .stored)
 
 pub to-word-spec : {M : Type 1} → statement M
 to-word-spec = tie.close (tie.spec returns sub-n put-requires same-length returns-2)

@@ -12,7 +12,7 @@ stands-within-requires : tie.Need-stands-within-requires
 stands-within-requires c κs = search needs
 
 by-windows-requires : tie.Need-by-windows-requires
-by-windows-requires c κs = (c .before .before .stands-within .ensures .1 (c .before .if2 .taken), short-is _ (sym (c .before .before .before .before .are-short .ensures) ∙ c .before .before .before .if1 .taken))
+by-windows-requires c κs = (c .before .before .stands-within .ensures .1 (c .before .if2 .taken), (short-is _ (sym (c .before .before .before .before .are-short .ensures) ∙ c .before .before .before .if1 .taken), c .before .before .before .before .before .before .pre))
 
 returns : tie.Need-returns
 returns c = search needs

@@ -4,6 +4,7 @@ use Prim.Native.Nat.{_+_, _-_, _≤_}
 use native.Mathlib.Omega.{arith}
 use denote.Ref.{now}
 use borrow.Author.Needs.{needs}
+use Rattle.writers.proofs.PendingLaws.{wrote}
 use Rattle.frame_writer.specs.Frames.{coding}
 use Rattle.frame_writer.proofs.CodingLaws.{unit-is, width-is, coding-unit, format-unit, block-short, block-lent}
 use Rattle.frame_writer.proofs.RowLaws.{Rowing, row-begun, block-room, row-on, fourth, end-is, row-gone}
@@ -56,7 +57,7 @@ loop-again c =
     let s = at-start (at-loop (c .before)) in
     let a = s .args in
     let l = at-loop (c .before) .loop in
-    row-on (coding-unit _ _ _ _) (l .inv) _ _ _ (c .before .before .before .before .numbers-of .ensures) (omega (arith, width-is (a .width) (a .height) (a .samples .now) (a .format))) (c .before .before .put-block .ensures)
+    row-on (coding-unit _ _ _ _) (l .inv) _ _ _ (c .before .before .before .before .numbers-of .ensures) (omega (arith, width-is (a .width) (a .height) (a .samples .now) (a .format))) (wrote (c .before .before .put-block .ensures))
 
 unit-of-requires : tie.Need-unit-of-requires Inv-loop μ-loop
 unit-of-requires c κs = tt
@@ -85,7 +86,7 @@ returns c =
     let a = s .args in
     let l = after-loop .before .loop in
     let e = c .before .before .before .unit-of .ensures in
-    row-gone (coding-unit _ _ _ _) (l .inv) _ (e ∙ sym (unit-is (a .width) (a .height) (a .samples .now) (a .format))) (rw e (s .pre .2)) (omega (arith, width-is (a .width) (a .height) (a .samples .now) (a .format))) _ _ (c .before .before .finish .ensures)
+    row-gone (coding-unit _ _ _ _) (l .inv) _ (e ∙ sym (unit-is (a .width) (a .height) (a .samples .now) (a .format))) (rw e (s .pre .2)) (omega (arith, width-is (a .width) (a .height) (a .samples .now) (a .format))) _ _ (wrote (c .before .before .finish .ensures))
 
 pub write-row-spec : {M : Type 1} → statement M
 write-row-spec =

@@ -17,18 +17,18 @@ returns c =
     let e = c .before .before .before .before .block-lengths .ensures in
     (tail-long _ _ _ _ _ _ _ _ e (c .if1 .taken), (tail-mode _ _ _ _ _ _ _ _ e, kept-long _ _ _))
 
-block-differences-requires : tie.Need-block-differences-requires
-block-differences-requires c κs = search needs
-
-top-of-requires : tie.Need-top-of-requires
-top-of-requires c κs = search needs
-
 -- Places that the answers look back at.
 abbrev at-start : tie.Else1 → tie.Start
 at-start c = c .before .before .before .before .before .before
 
 abbrev else1 : tie.After-d2 → tie.Else1
 else1 c = c .before .before .before .before .before
+
+block-differences-requires : tie.Need-block-differences-requires
+block-differences-requires c κs = record { row = _; are = at-start (c .before .before) .pre .1 .1 .1 }
+
+top-of-requires : tie.Need-top-of-requires
+top-of-requires c κs = search needs
 
 build-requires : tie.Need-build-requires
 build-requires c κs =
@@ -37,7 +37,7 @@ build-requires c κs =
     let z = a .args .state .scale in
     let e = b .before .before .before .before .block-lengths .ensures in
     rw (toZ-ofZ w32 z (scale-fits z (a .pre .1 .0)))
-    (tail-small _ _ _ (a .args .state) _ _ _ _ e _ _ (c .before .before .before .before .block-differences .ensures) (a .pre .0) (b .if1 .left), (a .pre .1 .0, (omega (arith, c .before .before .before .top-of .ensures, top-below (a .args .hdr) (a .pre .0)), a .pre .1 .1)))
+    (tail-small _ _ _ (a .args .state) _ _ _ _ e _ _ (c .before .before .before .before .block-differences .ensures _ (a .pre .1 .1 .1)) (a .pre .0) (b .if1 .left), (a .pre .1 .0, (omega (arith, c .before .before .before .top-of .ensures, top-below (a .args .hdr) (a .pre .0)), a .pre .1 .1 .0)))
 
 returns-2 : tie.Need-returns-2
 returns-2 c =
@@ -45,7 +45,7 @@ returns-2 c =
     let a = at-start b in
     let z = a .args .state .scale in
     let e = b .before .before .before .before .block-lengths .ensures in
-    let ed = c .before .before .before .before .before .block-differences .ensures in (
+    let ed = c .before .before .before .before .before .block-differences .ensures _ (a .pre .1 .1 .1) in (
       tail-next _ _ _ _ _ _ _ _ e _ _ ed (b .if1 .left),
       (
         tail-mode _ _ _ _ _ _ _ _ e,

@@ -18,12 +18,12 @@ use Rattle.v2.proofs.frame.decode_frame.Statement.{statement}
 use Rattle.v2.proofs.frame.decode_frame.Tie as tie
 
 abbrev Inv-loop : tie.InvT-loop
-Inv-loop src out₀ map₀ width height hdr bits₀ row state₀ lengths₀ col₀ out map bits state lengths col =
+Inv-loop src out₀ map₀ width height hdr bits₀ row positions state₀ lengths₀ col₀ out map bits state lengths col =
     (length out ≡ width * height) × ((length map ≡ length map₀)
     × RowGoing (top hdr) src hdr width row (blocks src hdr width row (width / 16) 0 bits₀ state₀ lengths₀) out₀ map₀ col bits state lengths out map)
 
 abbrev μ-loop : tie.MeasureT-loop
-μ-loop src out₀ map₀ width height hdr bits₀ row state₀ lengths₀ col₀ out map bits state lengths col = width - col
+μ-loop src out₀ map₀ width height hdr bits₀ row positions state₀ lengths₀ col₀ out map bits state lengths col = width - col
 
 abbrev Inv-frame : tie.InvT-frame
 Inv-frame src out₀ map₀ width height hdr bits₀ answer₀ row₀ out map bits answer row =
@@ -47,13 +47,13 @@ abbrev after-read-header : tie.In-frame Inv-loop μ-loop Inv-frame μ-frame → 
 after-read-header c = c .before .before .before .before .before
 
 abbrev in-frame : tie.At-loop Inv-loop μ-loop Inv-frame μ-frame → tie.In-frame Inv-loop μ-loop Inv-frame μ-frame
-in-frame c = c .before .before .before .before
+in-frame c = c .before .before .before .before .before
 
 abbrev at-loop : tie.After-struct-known Inv-loop μ-loop Inv-frame μ-frame → tie.At-loop Inv-loop μ-loop Inv-frame μ-frame
 at-loop c = c .before .before
 
 abbrev in-loop : tie.After-read-block Inv-loop μ-loop Inv-frame μ-frame → tie.In-loop Inv-loop μ-loop Inv-frame μ-frame
-in-loop c = c .before .before .before
+in-loop c = c .before .before .before .before
 
 abbrev after-read-block : tie.After-number Inv-loop μ-loop Inv-frame μ-frame → tie.After-read-block Inv-loop μ-loop Inv-frame μ-frame
 after-read-block c = c .before .before .before
@@ -70,6 +70,9 @@ after-mark-block c = c .before .before
 frame-holds : tie.Need-frame-holds Inv-loop μ-loop Inv-frame μ-frame
 frame-holds c = (omega arith, (at-start (c .before .before .before) .pre .samples-lent, (refl, (c .done-with .ensures, frame-starts _ _ _ _ _ _ _ _))))
 
+positions-of-requires : tie.Need-positions-of-requires Inv-loop μ-loop Inv-frame μ-frame
+positions-of-requires c κs = search needs
+
 align-requires : tie.Need-align-requires Inv-loop μ-loop Inv-frame μ-frame
 align-requires c κs = search needs
 
@@ -80,7 +83,7 @@ mode-requires : tie.Need-mode-requires Inv-loop μ-loop Inv-frame μ-frame
 mode-requires c κs = search needs
 
 loop-holds : tie.Need-loop-holds Inv-loop μ-loop Inv-frame μ-frame
-loop-holds c = (c .before .before .before .before .frame .inv .1 .0, (refl, row-starts _ _ _ _ _ _ _ _ _ _ (c .before .fresh .ensures)))
+loop-holds c = (c .before .before .before .before .before .frame .inv .1 .0, (refl, row-starts _ _ _ _ _ _ _ _ _ _ (c .before .fresh .ensures)))
 
 add-loop : tie.Need-add-loop Inv-loop μ-loop Inv-frame μ-frame
 add-loop c = search needs
@@ -101,14 +104,15 @@ room c =
 
 read-block-requires : tie.Need-read-block-requires Inv-loop μ-loop Inv-frame μ-frame
 read-block-requires c κs =
-    let g = c .before .before .before .loop .inv in (
+    let l = c .before .before .before .before in
+    let g = l .loop .inv in (
       record {
-        depth = depth-is _ _ (after-read-header (in-frame (c .before .before .before)) .read-header .ensures);
-        inside = record { placed = placed (c .before .before); room = omega (arith, g .0, room (c .before .before)) };
+        depth = depth-is _ _ (after-read-header (in-frame l) .read-header .ensures);
+        inside = record { placed = placed (c .before .before .before); room = omega (arith, g .0, room (c .before .before .before)) };
         motion = g .1 .1 .motion;
         scale = g .1 .1 .scale;
       },
-      refl,
+      (refl, l .before .before .before .before .positions-of .ensures),
     )
 
 enum-known-outcome : tie.Need-enum-known-outcome Inv-loop μ-loop Inv-frame μ-frame
@@ -120,8 +124,8 @@ bits-requires c κs = search needs
 number-requires : tie.Need-number-requires Inv-loop μ-loop Inv-frame μ-frame
 number-requires c κs = search needs
 
-cast-t30 : tie.Need-cast-t30 Inv-loop μ-loop Inv-frame μ-frame
-cast-t30 c =
+cast-t33 : tie.Need-cast-t33 Inv-loop μ-loop Inv-frame μ-frame
+cast-t33 c =
     let l = in-frame (in-loop (after-read-block c) .before) in
     omega (arith, l .frame-test .taken, at-start (after-read-header l) .pre .height)
 
@@ -165,8 +169,8 @@ loop-again c =
       ),
     )
 
-cast-t37 : tie.Need-cast-t37 Inv-loop μ-loop Inv-frame μ-frame
-cast-t37 c = search needs
+cast-t40 : tie.Need-cast-t40 Inv-loop μ-loop Inv-frame μ-frame
+cast-t40 c = search needs
 
 done-requires : tie.Need-done-requires Inv-loop μ-loop Inv-frame μ-frame
 done-requires c κs = search needs
@@ -252,6 +256,7 @@ decode-frame-spec =
     read-header-requires
     done-with-requires
     frame-holds
+    positions-of-requires
     align-requires
     fresh-requires
     mode-requires
@@ -261,7 +266,7 @@ decode-frame-spec =
     enum-known-outcome
     bits-requires
     number-requires
-    cast-t30
+    cast-t33
     first-requires
     store-requires
     mark-block-requires
@@ -269,7 +274,7 @@ decode-frame-spec =
     add-col
     loop-less
     loop-again
-    cast-t37
+    cast-t40
     done-requires
     add-row
     frame-less
