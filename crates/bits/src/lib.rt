@@ -1,5 +1,5 @@
 // The reader's core: bits of a stream of words, the state by value. Any state, any stream, any count of bits and any 64-bit
-// position is answered, by document 01's "Reader record".
+// position is answered, by docs/RULES.md, "The reader".
 ghost use mathlib.Core.Bool.{true};
 ghost use mathlib.Core.Path.{_≡_};
 ghost use Prim.Native.Nat.{_+_, _*_, _%_, _≤_, _<_, min};

@@ -1,4 +1,4 @@
-// The job of `samrows` as a function on slices, by document 01's "Job program". Its text is written into a lent array that has
+// The job of `samrows` as a function on slices, by docs/RULES.md, "The job program". Its text is written into a lent array that has
 // room for every text.
 mod input;
 mod lines;

@@ -1,4 +1,4 @@
--- Request 13: an outside program packs a frame as V0, by whatever means, and proposes what it found. The proposal is taken exactly if
+-- Packed by an outside optimiser (docs/RULES.md): an outside program packs a frame as V0, by whatever means, and proposes what it found. The proposal is taken exactly if
 -- the clean-frame profile takes it, the frame decoded equals the samples meant, and the stream is no longer than what the writer
 -- makes of them. The verdict rests on the proposal and not on how it was found.
 use Prim.Native.Nat.{ℕ}

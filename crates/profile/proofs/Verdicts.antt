@@ -36,7 +36,7 @@ use Rattle.profile.specs.Profile.{fits, all-fit, first-fault, block-faul
 
 -- ── A clean frame ──
 
--- The three conditions of request 11, in its own words.
+-- The three conditions on a clean frame (docs/RULES.md, "Clean frames"), one by one and without an order.
 pub record Clean (s offsets : List ℕ) (z : Size) : Type 0 where
   pub downward : (row : ℕ) → row < 2 → row < z .height → NoUpward s offsets z row
   pub lengths : (row : ℕ) → row < z .height → EachInRow (λ h b. All (Between 0 16) (h .row .lengths)) s offsets z row

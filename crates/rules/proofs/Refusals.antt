@@ -1,4 +1,4 @@
--- Document 01, "Answer record": the answer among 1 to 4 is the least number whose test holds, and none of them only if none does.
+-- Refusals (docs/RULES.md, "Answers"): the answer among 1 to 4 is the least number whose test holds, and none of them only if none does.
 -- What a call that was not refused may count on, what the stream may answer then, and that 1 to 4 change no buffer.
 use Prim.Native.Nat.{ℕ, zero, suc, _+_, _/_, _<_, _≤_}
 use mathlib.Core.Logic.{_⊎_, inl, inr, _≢_}

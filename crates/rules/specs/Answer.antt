@@ -1,4 +1,4 @@
--- Document 01, "Answer record": what a call answers, and what it leaves in samples, map and scratch. The three decoders' contracts
+-- Answers (docs/RULES.md, "Answers"): what a call answers, and what it leaves in samples, map and scratch. The three decoders' contracts
 -- cite these definitions, for every input.
 use Prim.Native.Nat.{ℕ, _-_, _*_}
 use mathlib.Core.Bool.{Bool, false, _||_, cond}

@@ -1,5 +1,5 @@
--- Document 01, "Promises and proved examples": the lines marked P, as one list. `proofs/Examples.antt` proves the one claim, that
--- in each what the rules give is what the document states.
+-- The worked examples that are proved (docs/RULES.md, "Proved examples"), as one list. `proofs/Examples.antt` proves the one claim, that
+-- in each what the rules give is what is stated.
 use Prim.Native.Nat.{ℕ, suc}
 use mathlib.Core.List.{List, [], _∷_, _++_}
 use mathlib.Core.Option.{some}
