@@ -99,7 +99,7 @@ COUNT = 0
 mutate:
 	RT_JOBS=1 nice -n 19 python3 tests/mutate.py --crate $(CRATE) --file '$(FILE)' --since '$(SINCE)' --count $(COUNT) --seed $(SEED)
 
-# The long comparison with the Rust, ten to twenty minutes.
+# The long comparison with samsung.rs, ten to twenty minutes.
 compare: $(archive)
 	$(cargo_run) -p compare -- long
 
@@ -117,7 +117,7 @@ compare-long: $(archive)
 	$(cargo_run) -p compare -- late 20_000 $(SEED)
 	$(cargo_run) -p compare -- packed 200_000 $(SEED)
 
-# Razvolk and the Rust timed in turn on the same frames, three to four minutes.
+# Razvolk and samsung.rs timed in turn on the same frames, three to four minutes.
 bench: $(archive)
 	$(cargo_run) -p bench
 
