@@ -1,5 +1,13 @@
 // The reader's core: bits of a stream of words, the state by value. Any state, any stream, any count of bits and any 64-bit
 // position is answered, by docs/RULES.md, "The reader".
+//
+// The state, `Bits`:
+//   word     the word fetched last; its low `count` bits are unread
+//   count    how many bits are unread, 0 to 31; a greater number counts as 0
+//   pos      the byte position of the next word
+//   filler   how many words were missing so far, held at the greatest count
+//
+// A word is missing where fewer than 4 bytes of the stream remain. It is read as ones, the filler.
 ghost use mathlib.Core.Bool.{true};
 ghost use mathlib.Core.Path.{_≡_};
 ghost use Prim.Native.Nat.{_+_, _*_, _%_, _≤_, _<_, min};
@@ -177,7 +185,7 @@ pub fn read_signed(src: &[u8], bits: Bits, n: u32) -> Signed
     }
 }
 
-// Reads the same number modulo 65,536, as a sample adds it.
+// Reads a number of n bits, at most 32, in two's complement, modulo 65,536 as a sample adds it.
 pub fn read_residual(src: &[u8], bits: Bits, n: u32) -> Residual
     ensures { λ r. ⌜ r ≡ read-residual (now (src .entry)) bits n ⌝ }
 {

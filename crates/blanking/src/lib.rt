@@ -55,7 +55,7 @@ pub struct Tally {
     pub runs: usize,
 }
 
-// 14: a byte is one that no map has.
+// Whether a map has a byte above 3, which no decoder leaves: refusal 14.
 pub fn is_bad_map(map: &[u8]) -> bool
     ensures { λ r. ⌜ r ≡ bad-map (now (map .entry)) ⌝ }
 {
@@ -101,7 +101,7 @@ fn tally_row(map: &[u8]) -> Tally
     }
 }
 
-// Those of a frame.
+// The marked samples and the runs of a frame.
 pub fn tally_frame(map: &[u8], size: Size) -> Tally
     requires { ⌜ MapLent size (now map) ⌝ }
     ensures { λ r. ⌜ r ≡ tally (now (map .entry)) (runs-of size (now (map .entry))) ⌝ }

@@ -76,7 +76,7 @@ module _ {x : Coding} {h start : ℕ} {f o f′ o′ : List ℕ} {at row : ℕ} 
       ap (λ l. start + length l) (rows-snoc x row 0 ∙ ap (λ i. rows-bytes x row 0 ++ row-bytes x i) z)
       ∙ omega (arith, length-append (rows-bytes x row 0) (row-bytes x row), r .at-is)
 
-  -- There is room for the next row ..
+  -- There is room for the next row.
   pub row-room : row < h → start + length (rows-bytes x h 0) ≤ length f → at + length (row-bytes x row) ≤ length f′
   row-room l room =
       let all : suc row + (h - suc row) ≡ h = omega arith in
@@ -87,7 +87,7 @@ module _ {x : Coding} {h start : ℕ} {f o f′ o′ : List ℕ} {at row : ℕ} 
   pub offset-fits : Unit (x .unit) → x .width ≤ 16_384 → h ≤ 16_384 → start ≤ 16 → at < 2 ^ 32
   offset-fits u wide high few = omega (arith, r .at-is, rows-most x u wide row 0, r .most)
 
-  -- .. and then it is written.
+  -- With room for it, the next row is written.
   pub frame-on : Unit (x .unit) → (at′ : ℕ) (f″ o″ : List ℕ) → row < h → o″ ≡ set o′ row at → at′ ≡ at + length (row-bytes x row) → f″ ≡ sets f′ at (row-bytes x row)
       → Framing x h start f o f″ o″ at′ (row + 1)
   frame-on u at′ f″ o″ l e a s =
@@ -128,7 +128,7 @@ header-kept f f′ e = ap length e ∙ length-sets f 0 (bytes header-bits)
 -- ── The streams ──
 
 module _ (w h : ℕ) (f : List ℕ) where
-  -- V0's is its rows ..
+  -- V0's stream is its rows.
   pub v0-rows : V0W.stream-for (size w h) f ≡ rows-bytes (coding V0 w h f) h 0
   unfolding V0W.stream-for coding
   v0-rows = refl
@@ -137,7 +137,7 @@ module _ (w h : ℕ) (f : List ℕ) where
   unfolding V0W.offsets-for coding
   v0-offsets = refl
 
-  -- .. and V2's the header and its rows.
+  -- V2's stream is its header and its rows.
   v2-rows : V2W.stream-for (size w h) f ≡ bytes header-bits ++ rows-bytes (coding V2 w h f) h 0
   unfolding V2W.stream-for coding
   v2-rows = refl

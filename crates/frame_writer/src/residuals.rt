@@ -23,7 +23,7 @@ fn evens_start(width: usize, row: usize) -> usize
     (row - 1) * width + 1
 }
 
-// The same of its odd columns.
+// Where a row's odd columns are read, as if all of the row stood there.
 fn odds_start(width: usize, height: usize, row: usize) -> usize
     requires { ⌜ (0 < width) × (width ≤ 16_384) × (row < 16_384) ⌝ }
     ensures { λ r. ⌜ r ≡ odds-start (size width height) row ⌝ }

@@ -9,7 +9,7 @@ use refusals::refused;
 use rules::Answer;
 use rules::Size;
 
-// 1, and then 3 of either buffer; 0 if neither holds.
+// Returns 1 if the size is above the limit, 3 if either buffer has fewer than N samples, else 0.
 fn refuse(size: Size, read: usize, written: usize) -> u32
     ensures { λ r. ⌜ r ≡ refusal size read written ⌝ }
 {
@@ -38,7 +38,7 @@ fn carry(read: &[u16], size: Size, written: &mut [u16], back: bool)
     planes::to_planes(read, size, written);
 }
 
-// The same of the first N samples of two lent buffers. Refusals 1 and 3.
+// A frame's first N samples out of one lent buffer into the first N of another: into planes, or back. Refusals 1 and 3.
 fn carry_lent(read: &[u16], width: usize, height: usize, written: &mut [u16], back: bool) -> Answer
     ensures { λ r. ⌜ r ≡ answer width height (now (read .entry)) (now (written .entry)) ⌝ }
     ensures { λ _. ⌜ now (written .exit) ≡ after (cond back from-planes to-planes) width height (now (read .entry)) (now (written .entry)) ⌝ }

@@ -367,7 +367,7 @@ module _ (p : ℕ) (s : List ℕ) (z : Size) (wide : z .width ≤ 16_384) (high 
   before-first n l r u =
       early-rows p s (header s .hdr) (z .width) wide (z .height) 0 (omega arith) (header s .bits) (position-starts s (z .width)) n n (omega arith) l r u
 
-  -- .. and it fetches one that doesn't, unless it is the height.
+  -- The first row past p fetches a word that doesn't lie wholly below p, unless it is the height.
   pub first-fetches : first-past p s z < z .height → Below p (frame-words s z (first-past p s z)) → ⊥
   unfolding first-past
   first-fetches l =

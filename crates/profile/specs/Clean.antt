@@ -1,4 +1,4 @@
--- A call of the V0 decoder for clean frames: it is the direct decoder's, with the profile's verdict after its refusals 1, 3 and 4 and
+-- A call of the V0 decoder for clean frames: it is the direct decoder's, with the verdict on clean frames after its refusals 1, 3 and 4 and
 -- before anything is written.
 use Prim.Native.Nat.{ℕ}
 use mathlib.Core.Bool.{Bool, cond}

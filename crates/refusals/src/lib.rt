@@ -97,7 +97,8 @@ pub fn refuse(
     0
 }
 
-// The same for a V0 decoder that takes no scratch. Every V0 frame's offsets are lent, and none is too small.
+// The first of refusals 1, 3 and 4 that holds for a V0 decoder that takes no scratch, or 0. Every V0 frame's offsets are lent, and none
+// is too small.
 pub fn refuse_direct(size: Size, samples: usize, offsets: usize, map: Lending) -> u32
     ensures { λ r. ⌜ r ≡ first-of (too-large size) false (ltb samples (cells size) || short (Length offsets) (size .height)) (short map (cells size) || short Nothing (scratch-bytes size)) ⌝ }
 {
@@ -111,7 +112,7 @@ pub fn refuse_direct(size: Size, samples: usize, offsets: usize, map: Lending) -
     )
 }
 
-// For the V2 decoder, which takes neither offsets nor scratch.
+// The first of refusals 1 to 4 that holds for the V2 decoder, which takes neither offsets nor scratch, or 0.
 pub fn refuse_v2(size: Size, samples: usize, map: Lending) -> u32
     ensures { λ r. ⌜ r ≡ first-of (too-large size) (too-small v2 size) (ltb samples (cells size) || short Nothing (size .height)) (short map (cells size) || short Nothing (scratch-bytes size)) ⌝ }
 {
@@ -125,7 +126,8 @@ pub fn refuse_v2(size: Size, samples: usize, map: Lending) -> u32
     )
 }
 
-// For what decodes nothing: it takes neither, and no frame is too small for it.
+// The first of refusals 1, 3 and 4 that holds for a call that decodes nothing, or 0: it takes neither offsets nor scratch, and no frame
+// is too small for it.
 pub fn refuse_lent(size: Size, samples: usize, map: Lending) -> u32
     ensures { λ r. ⌜ r ≡ first-of (too-large size) false (ltb samples (cells size) || short Nothing (size .height)) (short map (cells size) || short Nothing (scratch-bytes size)) ⌝ }
 {
@@ -139,7 +141,7 @@ pub fn refuse_lent(size: Size, samples: usize, map: Lending) -> u32
     )
 }
 
-// And for a V0 decoder that takes scratch, and makes no map.
+// The first of refusals 1, 3 and 4 that holds for a V0 decoder that takes scratch and makes no map, or 0.
 pub fn refuse_two_phase(size: Size, samples: usize, offsets: usize, scratch: usize) -> u32
     ensures { λ r. ⌜ r ≡ first-of (too-large size) false (ltb samples (cells size) || short (Length offsets) (size .height)) (short Nothing (cells size) || short (Length scratch) (scratch-bytes size)) ⌝ }
 {

@@ -55,7 +55,7 @@ lent samples map scratch = record { samples = samples; map = map; scratch = scra
 
 -- ── Refusals 1 to 4 ──
 
--- 1: width or height above 16,384.
+-- 1: width or height above the limit.
 unfoldable pub too-large : Size → Bool
 too-large z = ltb 16_384 (z .width) || ltb 16_384 (z .height)
 

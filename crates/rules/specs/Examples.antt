@@ -15,7 +15,7 @@ use Rattle.rules.specs.V2 as V2
 use Rattle.rules.specs.Map as Map
 use Rattle.rules.specs.Answer as Answer
 
--- What the rules give, and what the document states.
+-- What the rules give, and what is stated.
 pub record Example : Type 0 where
   pub given : List ℕ
   pub stated : List ℕ

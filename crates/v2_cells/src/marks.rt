@@ -102,7 +102,8 @@ fn mark_base(map: &mut [u8], at: Place, motion: u32)
     store_marks(&mut map[..], at.first(), &marks);
 }
 
-// The same, and filler where the reader had fetched some by the block's end.
+// Marks a block in a map of the whole frame, and adds filler where the reader had fetched some by the block's end; an empty map has
+// nothing to mark.
 pub fn mark_block(map: &mut [u8], at: Place, motion: u32, end: Bits)
     requires { ⌜ Markable (length (now map)) at motion ⌝ }
     ensures { λ _. ⌜ ((h : V2Hdr) → now (map .exit) ≡ ended with-filler 0 (has-filler end) (at .row * at .width + at .col) (sets (now (map .entry)) (at .row * at .width + at .col) (tabulate 16 0 (λ i. base-cell v2-marks (now (map .entry)) (base h (at .width) (at .row) (at .col) motion i))))) ⌝ }

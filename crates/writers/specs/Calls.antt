@@ -40,7 +40,7 @@ unfoldable pub any-above : ℕ → List ℕ → Bool
 any-above most [] = false
 any-above most (a ∷ f) = ltb most a || any-above most f
 
--- 9: a sample is above 16,383.
+-- 9: a sample is above the greatest that is written.
 abbrev pub too-bright : List ℕ → Bool
 too-bright f = any-above 16_383 f
 

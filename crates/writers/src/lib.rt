@@ -60,7 +60,7 @@ fn brighter(a: u16, b: u16) -> u16
     if a < b { b } else { a }
 }
 
-// 9: a sample is above 16,383. A loop that never leaves early can take many samples at once.
+// Whether a sample is above the greatest that is written: refusal 9. A loop that never leaves early can take many samples at once.
 pub fn is_too_bright(samples: &[u16]) -> bool
     ensures { λ r. ⌜ r ≡ too-bright (now (samples .entry)) ⌝ }
 {
