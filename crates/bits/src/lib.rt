@@ -11,7 +11,7 @@
 ghost use mathlib.Core.Bool.{true};
 ghost use mathlib.Core.Path.{_≡_};
 ghost use Prim.Native.Nat.{_+_, _*_, _%_, _≤_, _<_, min};
-ghost use Rattle.rules.specs.Reader.{fetched, counted, held, reset-at, read, read-signed, read-residual};
+ghost use Rattle.rules.specs.Reader.{most-filler, fetched, counted, held, reset-at, read, read-signed, read-residual};
 ghost use Rattle.bits.specs.Refilled.{joined-with, Enough, Whole};
 
 pub mod four;
@@ -71,6 +71,17 @@ fn count_missing(filler: u64) -> u64
         return filler + 1;
     }
     filler
+}
+
+// Returns the sum of two counts of missing words, held at the greatest count as a reader's is.
+pub fn held_sum(a: u64, b: u64) -> u64
+    ensures { λ r. ⌜ r ≡ min (a + b) most-filler ⌝ }
+{
+    if b < Bits::MOST_FILLER - a {
+        a + b
+    } else {
+        Bits::MOST_FILLER
+    }
 }
 
 // How many bits a state holds.
