@@ -5,6 +5,7 @@ use mathlib.Core.List.{List, [], _∷_, _++_, append-nil, append-assoc}
 use native.Mathlib.Omega.{arith}
 use lib.ListN.{length, set, length-append}
 use lib.Seq.{sets, length-sets}
+use Rattle.rules.specs.Limits.{most-side}
 use Rattle.writers.specs.Writer.{bits-of, number-of, fields-bits, word-bytes, words-bytes, bytes, Coding, Unit, word, line, row-bytes, rows-bytes, offsets-from}
 use Rattle.writers.specs.Writer as V0W
 use Rattle.writers.specs.V2Writer as V2W
@@ -83,8 +84,8 @@ module _ {x : Coding} {h start : ℕ} {f o f′ o′ : List ℕ} {at row : ℕ} 
       let a : length (rows-bytes x (suc row) 0) ≤ length (rows-bytes x h 0) = rw all at (rows-prefix x (suc row) (h - suc row)) in
       omega (arith, next-length, stream-length)
 
-  -- .. its offset fits 32 bits ..
-  pub offset-fits : Unit (x .unit) → x .width ≤ 16_384 → h ≤ 16_384 → start ≤ 16 → at < 2 ^ 32
+  -- The next row's offset fits 32 bits.
+  pub offset-fits : Unit (x .unit) → x .width ≤ most-side → h ≤ most-side → start ≤ 16 → at < 2 ^ 32
   offset-fits u wide high few = omega (arith, r .at-is, rows-most x u wide row 0, r .most)
 
   -- With room for it, the next row is written.
@@ -183,7 +184,7 @@ module _ {x : Coding} {h bytes row : ℕ} (r : Measuring x h bytes row) where
       }
 
   -- The sum fits 64 bits.
-  pub measure-next : Unit (x .unit) → x .width ≤ 16_384 → h ≤ 16_384 → (n : ℕ) → row < h → n ≡ length (row-bytes x row) → bytes + n < 2 ^ 64
+  pub measure-next : Unit (x .unit) → x .width ≤ most-side → h ≤ most-side → (n : ℕ) → row < h → n ≡ length (row-bytes x row) → bytes + n < 2 ^ 64
   measure-next u wide high n l e =
       let m = measure-on n l e in
       omega (arith, m .measured, m .most, rows-most x u wide (row + 1) 0)

@@ -7,6 +7,7 @@ use native.Mathlib.Omega.{arith}
 use lib.Dec.{lit<}
 use lib.ListN.{length, replicate, length-append, length-replicate}
 use lib.Seq.{sets}
+use Rattle.rules.specs.Limits.{most-side}
 use Rattle.rules.specs.Frame.{tabulate}
 use Rattle.rules.specs.V0.{blocks-in}
 use Rattle.writers.specs.Writer.{bits-of, gap, padded, bytes, words-bytes, run, lengths-for, length-for, block-bits, Coding, Unit, word, line, blocks-bits, row-bytes}
@@ -160,8 +161,8 @@ unfolding blocks-bits
 count-begun x row = record { whole = refl; most = omega arith; counted = refl }
 
 module _ {x : Coding} {row bits col : ℕ} (r : Counting x row bits col) where
-  -- The sum is small ..
-  pub count-most : x .width ≤ 16_384 → bits ≤ 265 * 1_024
+  -- The sum of the blocks' bits is small.
+  pub count-most : x .width ≤ most-side → bits ≤ 265 * 1_024
   count-most l = omega (arith, r .counted, r .most, blocks-length x row (col / 16) 0)
 
   -- A block's bits are added to the sum.

@@ -11,6 +11,7 @@ use lib.ListN.{length, getD, take}
 use lib.Seq.{getD-take}
 use lib.Dec.{ltb, eqb, lit≤}
 use borrow.Author.Tests.{ltb-true, ltb-false, eqb-true, eqb-false, ne-eqb}
+use Rattle.rules.specs.Limits.{most-side}
 use Rattle.rules.specs.declared.answer.Answer.{Answer}
 use Rattle.rules.specs.declared.answer.Size.{Size}
 use Rattle.rules.specs.declared.reader.Bits.{Bits}
@@ -129,7 +130,7 @@ module _ (a : Ask) (l : Lent) (ok : refusal a l ≡ 0) where
   fails = refusal-least a l .none ok
 
   -- The size is within the limits.
-  pub size-most : (a .size .width ≤ 16_384) × (a .size .height ≤ 16_384)
+  pub size-most : (a .size .width ≤ most-side) × (a .size .height ≤ most-side)
   unfolding too-large
   size-most = let q = neither _ _ (fails 1) in (ltb-false _ _ (q .0), ltb-false _ _ (q .1))
 

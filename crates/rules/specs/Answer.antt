@@ -9,6 +9,7 @@ use lib.ListN.{length, drop, take}
 use lib.Dec.{ltb, eqb}
 use Rattle.rules.specs.declared.answer.Answer.{Answer}
 use Rattle.rules.specs.declared.answer.Size.{Size}
+use Rattle.rules.specs.Limits.{most-side}
 use Rattle.rules.specs.Frame.{cells}
 use Rattle.rules.specs.V0 as V0
 use Rattle.rules.specs.Phases as Phases
@@ -57,7 +58,7 @@ lent samples map scratch = record { samples = samples; map = map; scratch = scra
 
 -- 1: width or height above the limit.
 unfoldable pub too-large : Size → Bool
-too-large z = ltb 16_384 (z .width) || ltb 16_384 (z .height)
+too-large z = ltb most-side (z .width) || ltb most-side (z .height)
 
 -- 2: in V2 height below 1 or width below 32.
 unfoldable pub too-small : Decoder → Size → Bool

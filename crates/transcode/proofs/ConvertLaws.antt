@@ -10,6 +10,7 @@ use lib.Dec.{ltb, eqb, lit<}
 use lib.ListN.{length, take, drop}
 use lib.Seq.{sets, sets-eq, length-take-le, length-front}
 use borrow.Author.Tests.{lt-ltb, le-ltb, eqb-true, eqb-false, ne-eqb}
+use Rattle.rules.specs.Limits.{sample-bound}
 use Rattle.rules.specs.declared.answer.Answer.{Answer}
 use Rattle.rules.specs.Frame.{cells}
 use Rattle.rules.specs.V0 as V0
@@ -41,7 +42,7 @@ writable {f = f} fits dim =
       high = fits .high;
       blocks = record { blocks = λ e. fits .blocks };
       whole = fits .whole;
-      dim = λ i. all-get (λ a. a < 16_384) (not-bright f dim) i 0 (lit< tt);
+      dim = λ i. all-get (λ a. a < sample-bound) (not-bright f dim) i 0 (lit< tt);
     }
 
 module _ (w h : ℕ) (f m stream : List ℕ) where

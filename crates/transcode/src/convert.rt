@@ -32,8 +32,8 @@ fn write_decoded(
     stream: &mut [u8],
 ) -> Written
     requires { ⌜ Frame width height (now samples) ⌝ }
-    ensures { λ r. ⌜ r ≡ late-answer width height (now (samples .entry)) (now (map .entry)) (length (now (stream .entry))) ⌝ }
-    ensures { λ _. ⌜ now (stream .exit) ≡ late-stream width height (now (samples .entry)) (now (map .entry)) (now (stream .entry)) ⌝ }
+    ensures answered { λ r. ⌜ r ≡ late-answer width height (now (samples .entry)) (now (map .entry)) (length (now (stream .entry))) ⌝ }
+    ensures stream { λ _. ⌜ now (stream .exit) ≡ late-stream width height (now (samples .entry)) (now (map .entry)) (now (stream .entry)) ⌝ }
 {
     if is_marked(map) {
         return Written::refused(Answer::MARKED);

@@ -5,15 +5,20 @@ use mathlib.Core.Bool.{Bool, false, cond}
 use mathlib.Core.List.{List}
 use lib.Dec.{eqb}
 use lib.ListN.{getD}
+use lib.Seq.{sets}
+use Rattle.rules.specs.Limits.{most-side}
+use Rattle.rules.specs.declared.v2.V2Hdr.{V2Hdr}
+use Rattle.rules.specs.Frame.{tabulate}
 use Rattle.rules.specs.Ranges.{reference-5}
-use Rattle.rules.specs.V2.{motion-averages, base-refusal, Kind}
+use Rattle.rules.specs.V2.{motion-averages, base-refusal, base-cell, base, repeated, Kind}
+use Rattle.rules.specs.Map.{v2-marks}
 use Rattle.v2_cells.specs.declared.Place.{Place}
 use Rattle.v2_cells.specs.declared.base.References.{References}
 
 -- A block's place in a row of a frame within the limits.
 pub record Placed (at : Place) : Type 0 where
-  pub wide : at .width ≤ 16_384
-  pub high : at .row < 16_384
+  pub wide : at .width ≤ most-side
+  pub high : at .row < most-side
   pub column : at .col + 16 ≤ at .width
   pub whole : at .col % 16 ≡ 0
 
@@ -49,3 +54,16 @@ pub record Runs (n : ℕ) (refs : References) : Type 0 where
 abbrev pub cell-from : Kind ℕ → List ℕ → Bool → ℕ → ℕ
 cell-from K f averaging p =
     cond averaging (K .average (getD f p (K .constant 0)) (getD f (p + 2) (K .constant 0))) (getD f p (K .constant 0))
+
+-- ── A block's cells ──
+
+-- The sixteen cells of a block's bases, by its motion, over a frame of cells; and those that motion 7 repeats.
+abbrev pub base-cells : Kind ℕ → V2Hdr → Place → ℕ → List ℕ → List ℕ
+base-cells K h at motion f = tabulate 16 0 (λ i. base-cell K f (base h (at .width) (at .row) (at .col) motion i))
+
+abbrev pub repeated-cells : Kind ℕ → V2Hdr → Place → List ℕ → List ℕ
+repeated-cells K h at f = tabulate 16 0 (λ i. base-cell K f (repeated h (at .width) (at .row) (at .col) i))
+
+-- A map with a block's marks: each is that of the cells that the sample's base is read from.
+abbrev pub with-marks : V2Hdr → Place → ℕ → List ℕ → List ℕ
+with-marks h at motion map = sets map (at .row * at .width + at .col) (base-cells v2-marks h at motion map)

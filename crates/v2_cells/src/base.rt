@@ -6,7 +6,7 @@ ghost use lib.ListN.{length, getD};
 ghost use Rattle.rules.specs.Frame.{tabulate};
 ghost use Rattle.rules.specs.V2.{motion-averages, average, refers-before, base-refusal, base-cell, sample-kind, repeated, base};
 ghost use Rattle.rules.specs.Ranges.{offset-4, reference-5};
-ghost use Rattle.v2_cells.specs.Places.{Placed, Inside, references, along, Runs, cell-from};
+ghost use Rattle.v2_cells.specs.Places.{Placed, Inside, references, along, Runs, cell-from, base-cells, repeated-cells};
 use super::Place;
 use rules::Answer;
 use rules::V2Hdr;
@@ -148,7 +148,7 @@ fn before(out: &[u16], hdr: V2Hdr, at: Place, i: usize) -> u16
 // The bases of motion 7.
 fn repeat(out: &[u16], hdr: V2Hdr, at: Place, values: &mut [u16; 16])
     requires { ⌜ Inside (length (now out)) at ⌝ }
-    ensures { λ _. ⌜ now (values .exit) ≡ tabulate 16 0 (λ i. base-cell (sample-kind 0) (now (out .entry)) (repeated hdr (at .width) (at .row) (at .col) i)) ⌝ }
+    ensures { λ _. ⌜ now (values .exit) ≡ repeated-cells (sample-kind 0) hdr at (now (out .entry)) ⌝ }
 {
     let a = before(out, hdr, at, 0);
     let b = before(out, hdr, at, 1);
@@ -158,7 +158,7 @@ fn repeat(out: &[u16], hdr: V2Hdr, at: Place, values: &mut [u16; 16])
 // The bases of a block that meets no refusal.
 pub fn bases(out: &[u16], hdr: V2Hdr, at: Place, motion: u32, values: &mut [u16; 16])
     requires { ⌜ Inside (length (now out)) at × ((motion ≤ 7) × ((length (now values) ≡ 16) × (base-refusal (at .row) (at .col) motion ≡ 0))) ⌝ }
-    ensures { λ _. ⌜ now (values .exit) ≡ tabulate 16 0 (λ i. base-cell (sample-kind 0) (now (out .entry)) (base hdr (at .width) (at .row) (at .col) motion i)) ⌝ }
+    ensures { λ _. ⌜ now (values .exit) ≡ base-cells (sample-kind 0) hdr at motion (now (out .entry)) ⌝ }
 {
     if motion == V2Row::MOTION {
         repeat(out, hdr, at, values);

@@ -83,8 +83,8 @@ fn stands(src: &[u8], bits: Bits, more: usize) -> bool
 // that ends in what follows may begin in them. Where it doesn't, a caller reads by the record.
 pub fn stands_within(src: &[u8], bits: Bits, more: usize) -> bool
     requires { ⌜ 4 ≤ more ⌝ }
-    ensures { λ r. ⌜ r ≡ standing-in (now (src .entry)) bits more ⌝ }
-    ensures { λ r. ⌜ (r ≡ true → Standing (now (src .entry)) bits more) ⌝ }
+    ensures answered { λ r. ⌜ r ≡ standing-in (now (src .entry)) bits more ⌝ }
+    ensures stands { λ r. ⌜ (r ≡ true → Standing (now (src .entry)) bits more) ⌝ }
 {
     if bits.pos < 12 {
         return false;
