@@ -34,6 +34,26 @@ pub record Markable (n : ℕ) (at : Place) (motion : ℕ) : Type 0 where
   pub inside : (n ≡ 0 → ⊥) → Inside n at
   pub unrefused : base-refusal (at .row) (at .col) motion ≡ 0
 
+-- A block that meets no refusal, with all sixteen samples among the n of the frame; and room for its sixteen values.
+pub record Based (n : ℕ) (at : Place) (motion values : ℕ) : Type 0 where
+  pub inside : Inside n at
+  pub small : motion ≤ 7
+  pub sixteen : values ≡ 16
+  pub unrefused : base-refusal (at .row) (at .col) motion ≡ 0
+
+-- A block of motions 0 to 6 that meets no refusal.
+pub record Referring (at : Place) (motion : ℕ) : Type 0 where
+  pub placed : Placed at
+  pub other : motion < 7
+  pub unrefused : base-refusal (at .row) (at .col) motion ≡ 0
+
+-- Sample 0 or 1 of a block of motions 0 to 6, with two rows above it.
+pub record ReferringAt (at : Place) (motion i : ℕ) : Type 0 where
+  pub placed : Placed at
+  pub other : motion < 7
+  pub rows-above : 2 ≤ at .row
+  pub first : i < 2
+
 -- Where sample i refers to, 5 places on; and the references of motions 0 to 6.
 abbrev pub reference : Place → ℕ → ℕ → ℕ
 reference at motion i = reference-5 (at .width) (at .row) (at .col) motion i

@@ -9,7 +9,7 @@ ghost use Rattle.rules.specs.Frame.{tabulate, ended};
 ghost use Rattle.rules.specs.Reader.{has-filler};
 ghost use Rattle.rules.specs.V2.{base-refusal, base-cell, repeated, base};
 ghost use Rattle.rules.specs.Map.{with-filler, v2-marks};
-ghost use Rattle.v2_cells.specs.Places.{Inside, Markable, along, Runs, cell-from, base-cells, repeated-cells, with-marks};
+ghost use Rattle.v2_cells.specs.Places.{Inside, Markable, Based, along, Runs, cell-from, base-cells, repeated-cells, with-marks};
 use super::Place;
 use super::base::References;
 use super::base::along_from;
@@ -67,7 +67,7 @@ fn repeat_marks(map: &[u8], at: Place, marks: &mut [u8; 16])
 
 // The marks of a block that meets no refusal.
 fn block_marks(map: &[u8], at: Place, motion: u32, marks: &mut [u8; 16])
-    requires { ⌜ Inside (length (now map)) at × ((motion ≤ 7) × ((length (now marks) ≡ 16) × (base-refusal (at .row) (at .col) motion ≡ 0))) ⌝ }
+    requires { ⌜ Based (length (now map)) at motion (length (now marks)) ⌝ }
     ensures { λ _. ⌜ ((h : V2Hdr) → now (marks .exit) ≡ base-cells v2-marks h at motion (now (map .entry))) ⌝ }
 {
     if motion == V2Row::MOTION {
