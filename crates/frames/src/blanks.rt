@@ -67,8 +67,8 @@ pub fn blank_with(
     blank_by(samples, map, width, height, Filling::Stated(fill), runs)
 }
 
-// Sets the samples that a map marks to the nearest unmarked sample to their left, of their row and of their column's parity, or to 0 if
-// there is none; and lists their runs. Refusals 1, 3, 4, 14 and 13, which change nothing.
+// Sets the samples that a map marks to the nearest unmarked sample to their left, of their row and of their column's parity, or to
+// 0 if there is none; and lists their runs. Refusals 1, 3, 4, 14 and 13, which change nothing.
 pub fn blank(
     samples: &mut [u16],
     map: &[u8],

@@ -1,5 +1,5 @@
-// What a map's bytes become, of V0 and V2 alike (docs/RULES.md, "The map"): all old at entry, filler at a block's end, and the parts of
-// two in an average. And the greatest byte, by which maps are tested.
+// What a map's bytes become, of V0 and V2 alike (docs/RULES.md, "The map"): all old at entry, filler at a block's end, and the
+// parts of two in an average. And the greatest byte, by which maps are tested.
 ghost use mathlib.Core.Path.{_≡_};
 ghost use Prim.Native.Nat.{_+_, _^_, _≤_, _<_, max};
 ghost use lib.ListN.{length, replicate};

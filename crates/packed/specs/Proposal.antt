@@ -1,6 +1,6 @@
--- Packed by an outside optimiser (docs/RULES.md): an outside program packs a frame as V0, by whatever means, and proposes what it found. The proposal is taken exactly if
--- it is clean, the frame decoded equals the samples meant, and the stream is no longer than what the writer
--- makes of them. The verdict rests on the proposal and not on how it was found.
+-- A proposal (docs/RULES.md, "Packed by an outside optimiser"): an outside program packs a frame as V0, by whatever means, and
+-- proposes what it found. The proposal is taken exactly if it is clean, the frame decoded equals the samples meant, and the stream
+-- is no longer than what the writer makes of them. The verdict rests on the proposal and not on how it was found.
 use Prim.Native.Nat.{ℕ}
 use mathlib.Core.Bool.{Bool, true, false, cond, _&&_}
 use mathlib.Core.Path.{_≡_}

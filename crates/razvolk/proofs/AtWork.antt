@@ -1,7 +1,7 @@
--- Promise P3, no earlier frame, at work. For every input there is a call of each decoder, of V0 into V2 and of both ways between frame and planes, and after
--- every list of calls on a buffer each call may follow, lent all of the buffer or its first samples: so the claim speaks of lists of
--- every length, on buffers longer than a frame too. Then two calls that are alike and end with done over buffers that differ: the
--- worked example's frame of 2 by 2.
+-- Promise P3, no earlier frame, at work. For every input there is a call of each decoder, of V0 into V2 and of both ways between
+-- frame and planes, and after every list of calls on a buffer each call may follow, lent all of the buffer or its first samples: so
+-- the claim speaks of lists of every length, on buffers longer than a frame too. Then two calls that are alike and end with done
+-- over buffers that differ: the worked example's frame of 2 by 2.
 use Prim.Native.Nat.{ℕ, _+_, _%_}
 use mathlib.Core.Path.{_≡_, refl, sym, ap, _∙_}
 use mathlib.Core.Logic.{inl}

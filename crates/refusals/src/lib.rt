@@ -96,8 +96,8 @@ pub fn refuse(
     0
 }
 
-// The first of refusals 1, 3 and 4 that holds for a V0 decoder that takes no scratch, or 0. Every V0 frame's offsets are lent, and none
-// is too small.
+// The first of refusals 1, 3 and 4 that holds for a V0 decoder that takes no scratch, or 0. Every V0 frame's offsets are lent, and
+// none is too small.
 pub fn refuse_direct(size: Size, samples: usize, offsets: usize, map: Lending) -> u32
     ensures { λ r. ⌜ r ≡ first-refusal size false samples (Length offsets) map Nothing ⌝ }
 {
@@ -125,8 +125,8 @@ pub fn refuse_v2(size: Size, samples: usize, map: Lending) -> u32
     )
 }
 
-// The first of refusals 1, 3 and 4 that holds for a call that decodes nothing, or 0: it takes neither offsets nor scratch, and no frame
-// is too small for it.
+// The first of refusals 1, 3 and 4 that holds for a call that decodes nothing, or 0: it takes neither offsets nor scratch, and no
+// frame is too small for it.
 pub fn refuse_lent(size: Size, samples: usize, map: Lending) -> u32
     ensures { λ r. ⌜ r ≡ first-refusal size false samples Nothing map Nothing ⌝ }
 {

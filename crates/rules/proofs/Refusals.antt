@@ -1,5 +1,5 @@
--- Refusals (docs/RULES.md, "Answers"): the answer among 1 to 4 is the least number whose test holds, and none of them only if none does.
--- What a call that was not refused may count on, what the stream may answer then, and that 1 to 4 change no buffer.
+-- Refusals (docs/RULES.md, "Answers"): the answer among 1 to 4 is the least number whose test holds, and none of them only if none
+-- does. What a call that was not refused may count on, what the stream may answer then, and that 1 to 4 change no buffer.
 use Prim.Native.Nat.{ℕ, zero, suc, _+_, _/_, _<_, _≤_}
 use mathlib.Core.Logic.{_⊎_, inl, inr, _≢_}
 use mathlib.Core.Bool.{Bool, true, false, _||_}

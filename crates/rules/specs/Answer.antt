@@ -1,5 +1,5 @@
--- Answers (docs/RULES.md, "Answers"): what a call answers, and what it leaves in samples, map and scratch. The three decoders' contracts
--- cite these definitions, for every input.
+-- Answers (docs/RULES.md, "Answers"): what a call answers, and what it leaves in samples, map and scratch. The three decoders'
+-- contracts cite these definitions, for every input.
 use Prim.Native.Nat.{ℕ, _-_, _*_}
 use mathlib.Core.Bool.{Bool, false, _||_, cond}
 use mathlib.Core.Path.{_≡_}

@@ -1,5 +1,5 @@
--- The worked examples that are proved (docs/RULES.md, "Proved examples"), as one list. `proofs/Examples.antt` proves the one claim, that
--- in each what the rules give is what is stated.
+-- The worked examples that are proved (docs/RULES.md, "Proved examples"), as one list. `proofs/Examples.antt` proves the one claim,
+-- that in each what the rules give is what is stated.
 use Prim.Native.Nat.{ℕ, suc}
 use mathlib.Core.List.{List, [], _∷_, _++_}
 use mathlib.Core.Option.{some}

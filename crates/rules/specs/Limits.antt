@@ -1,4 +1,5 @@
--- The limits that the rules and the functions' contracts name. Each is the number itself: a law about numbers sees through the name.
+-- The limits that the rules and the functions' contracts name. Each is the number itself: a law about numbers sees through the
+-- name.
 use Prim.Native.Nat.{ℕ}
 
 -- The greatest width and the greatest height (docs/RULES.md, "Answers", refusal 1). The code has it as `Size::MOST`.

@@ -54,8 +54,8 @@ pub fn decode_v0_clean(
     decode_checked(src, offsets, size, &mut out[..n])
 }
 
-// Decodes a clean V0 frame over what `out` holds, and its map, which is all 0. Refusals 1, 3 and 4, then 17 to 19 with their row; each
-// changes nothing.
+// Decodes a clean V0 frame over what `out` holds, and its map, which is all 0. Refusals 1, 3 and 4, then 17 to 19 with their row;
+// each changes nothing.
 pub fn decode_v0_clean_map(
     src: &[u8],
     offsets: &[u32],

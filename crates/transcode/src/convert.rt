@@ -78,7 +78,8 @@ pub fn v0_to_v2(
     if width % V2Row::BLOCK != 0 {
         return Written::refused(Answer::BAD_WIDTH);
     }
-    // The answer isn't needed: no refusal of this decoder is left, so that it is done, and where a word was missing the map tells it (16).
+    // The answer isn't needed: no refusal of this decoder is left, so that it is done, and where a word was missing the map tells
+    // it (16).
     decode_v0_reference_map(src, offsets, width, height, samples, map);
     let n = width * height;
     write_decoded(&samples[..n], &map[..n], width, height, stream)

@@ -6,7 +6,8 @@
 //   col      the block's first column
 //   lengths  the row's four lengths before the block
 //
-// A run goes on while the next block lies within its row, its lengths are short (0 to 16 bits a residual) and the stream has room for it.
+// A run goes on while the next block lies within its row, its lengths are short (0 to 16 bits a residual) and the stream has room
+// for it.
 ghost use mathlib.Core.Bool.{true};
 ghost use mathlib.Core.Path.{_≡_};
 ghost use Prim.Native.Nat.{_+_, _-_, _*_, _/_};

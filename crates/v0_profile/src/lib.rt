@@ -1,6 +1,6 @@
-// The check of clean frames (docs/RULES.md, "Clean frames") over a whole V0 stream, before a sample is written. Blocks are read as the direct decoder reads them, by the same
-// functions, but that an inner block's residuals are passed over where they are there; nothing is written, since the frame that the
-// others would write to has no cells.
+// The check of clean frames (docs/RULES.md, "Clean frames") over a whole V0 stream, before a sample is written. Blocks are read as
+// the direct decoder reads them, by the same functions, but that an inner block's residuals are passed over where they are there;
+// nothing is written, since the frame that the others would write to has no cells.
 ghost use mathlib.Core.Path.{_≡_};
 ghost use mathlib.Core.Bool.{_&&_};
 ghost use lib.Dec.{ltb};

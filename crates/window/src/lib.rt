@@ -7,8 +7,8 @@
 //   stands   a record stands in the stream if its word is the stream's word before `pos`, so that a bit's number says the same as
 //            the record does
 //
-// A caller asks first whether the record stands in the stream (`stands_within`), reads by position, and makes the record again at the
-// bit after what it read (`state_at`).
+// A caller asks first whether the record stands in the stream (`stands_within`), reads by position, and makes the record again at
+// the bit after what it read (`state_at`).
 ghost use mathlib.Core.Bool.{true};
 ghost use mathlib.Core.Path.{_≡_};
 ghost use Prim.Native.Nat.{_+_, _*_, _/_, _≤_, _<_, _^_};
@@ -79,8 +79,8 @@ fn stands(src: &[u8], bits: Bits, more: usize) -> bool
     word_there(src, at - 4) == bits.word as u64
 }
 
-// Whether a state stands in the stream, with `more` bytes there from the word fetched last on and two words before that one: a window
-// that ends in what follows may begin in them. Where it doesn't, a caller reads by the record.
+// Whether a state stands in the stream, with `more` bytes there from the word fetched last on and two words before that one: a
+// window that ends in what follows may begin in them. Where it doesn't, a caller reads by the record.
 pub fn stands_within(src: &[u8], bits: Bits, more: usize) -> bool
     requires { ⌜ 4 ≤ more ⌝ }
     ensures answered { λ r. ⌜ r ≡ standing-in (now (src .entry)) bits more ⌝ }
