@@ -105,7 +105,7 @@ landings:
 	tests/landings.py measure --ci docs/landings.tsv
 	tests/landings.py draw docs/landings.tsv docs/landings.svg
 
-# The long comparison with the Rust, ten to twenty minutes.
+# The long comparison with samsung.rs, ten to twenty minutes.
 compare: $(archive)
 	$(cargo_run) -p compare -- long
 
@@ -123,7 +123,7 @@ compare-long: $(archive)
 	$(cargo_run) -p compare -- late 20_000 $(SEED)
 	$(cargo_run) -p compare -- packed 200_000 $(SEED)
 
-# Razvolk and the Rust timed in turn on the same frames, three to four minutes.
+# Razvolk and samsung.rs timed in turn on the same frames, three to four minutes.
 bench: $(archive)
 	$(cargo_run) -p bench
 

@@ -15,6 +15,7 @@ use Rattle.bands.specs.Bands.{Cut, cut, sized, fits, blocks-per-band, st
 use Rattle.bands.specs.Call.{list-refusal}
 use Rattle.bands.proofs.AnySequence.{fitting}
 use Rattle.bands.proofs.Counters.{some-block}
+use Rattle.rules.specs.Limits.{most-side}
 use Rattle.rules.proofs.Tests.{by-test, both}
 
 -- ── A cut ──
@@ -120,7 +121,7 @@ zeros-taken (suc k) (suc n) l = ap (λ x. 0 ∷ x) (zeros-taken k n (omega arith
 abbrev pub next-by : List ℕ → ℕ → ℕ → Bool
 next-by done band block = eqb (getD done band 0) block && (eqb band 0 || ltb block (getD done (band - 1) 0))
 
-module _ (w h k b : ℕ) (wide : w ≤ 16_384) (fit : fits (cut (sized w h) k b) ≡ true) where
+module _ (w h k b : ℕ) (wide : w ≤ most-side) (fit : fits (cut (sized w h) k b) ≡ true) where
   pub some-column : 0 < b
   some-column = fitting (cut (sized w h) k b) fit .some-column
 
@@ -132,7 +133,7 @@ module _ (w h k b : ℕ) (wide : w ≤ 16_384) (fit : fits (cut (sized w h) k b)
       omega arith
 
   module _ (blocks : ℕ) (is : blocks ≡ blocks-per-band (cut (sized w h) k b)) where
-    pub few-blocks : blocks ≤ 16_384
+    pub few-blocks : blocks ≤ most-side
     few-blocks = omega (arith, blocks-most w h k b some-column)
 
     pub count-most : k * blocks ≤ 1_048_576
@@ -148,7 +149,7 @@ module _ (w h k b : ℕ) (wide : w ≤ 16_384) (fit : fits (cut (sized w h) k b)
         let x : n / blocks < k = div-lt-iff-lt-mul (some-blocks-left n l) .1 l in
         omega (arith, bands-most)
 
-    pub block-most : (n : ℕ) → n < k * blocks → n % blocks < 16_384
+    pub block-most : (n : ℕ) → n < k * blocks → n % blocks < most-side
     block-most n l = omega (arith, mod-lt n (some-blocks-left n l), few-blocks)
 
     module _ (steps : List ℕ) where

@@ -4,6 +4,7 @@ ghost use mathlib.Core.Bool.{true, _&&_, _||_};
 ghost use Prim.Native.Nat.{_-_, _≤_, _<_};
 ghost use lib.Dec.{ltb, eqb};
 ghost use lib.ListN.{getD};
+ghost use Rattle.rules.specs.Limits.{most-side};
 ghost use Rattle.bands.specs.Call.{list-refusal};
 ghost use Rattle.bands.specs.Bands.{sized, cut, fits, blocks-per-band, good};
 use rules::Answer;
@@ -78,7 +79,7 @@ fn is_next(done: [u32; MOST_BANDS], band: usize, block: u32) -> bool
 
 // Whether a list does each block once, each ready when it comes. How many blocks are done in each band is all that is kept.
 pub fn is_good(width: usize, height: usize, bands: usize, block_width: usize, steps: &[u32]) -> bool
-    requires { ⌜ (width ≤ 16_384) × (fits (cut (sized width height) bands «block_width») ≡ true) ⌝ }
+    requires { ⌜ (width ≤ most-side) × (fits (cut (sized width height) bands «block_width») ≡ true) ⌝ }
     ensures { λ r. ⌜ r ≡ good (cut (sized width height) bands «block_width») (now (steps .entry)) ⌝ }
 {
     let blocks = blocks_in_band(width, height, bands, block_width);
@@ -112,7 +113,7 @@ pub fn refuse_steps(
     block_width: usize,
     steps: &[u32],
 ) -> u32
-    requires { ⌜ width ≤ 16_384 ⌝ }
+    requires { ⌜ width ≤ most-side ⌝ }
     ensures { λ r. ⌜ r ≡ list-refusal (cut (sized width height) bands «block_width») (now (steps .entry)) ⌝ }
 {
     if !cut_fits(width, height, bands, block_width) {

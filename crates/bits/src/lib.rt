@@ -1,9 +1,17 @@
 // The reader's core: bits of a stream of words, the state by value. Any state, any stream, any count of bits and any 64-bit
-// position is answered, by document 01's "Reader record".
+// position is answered, by docs/RULES.md, "The reader".
+//
+// The state, `Bits`:
+//   word     the word fetched last; its low `count` bits are unread
+//   count    how many bits are unread, 0 to 31; a greater number counts as 0
+//   pos      the byte position of the next word
+//   filler   how many words were missing so far, held at the greatest count
+//
+// A word is missing where fewer than 4 bytes of the stream remain. It is read as ones, the filler.
 ghost use mathlib.Core.Bool.{true};
 ghost use mathlib.Core.Path.{_≡_};
 ghost use Prim.Native.Nat.{_+_, _*_, _%_, _≤_, _<_, min};
-ghost use Rattle.rules.specs.Reader.{fetched, counted, held, reset-at, read, read-signed, read-residual};
+ghost use Rattle.rules.specs.Reader.{most-filler, fetched, counted, held, reset-at, read, read-signed, read-residual};
 ghost use Rattle.bits.specs.Refilled.{joined-with, Enough, Whole};
 
 pub mod four;
@@ -63,6 +71,17 @@ fn count_missing(filler: u64) -> u64
         return filler + 1;
     }
     filler
+}
+
+// Returns the sum of two counts of missing words, held at the greatest count as a reader's is.
+pub fn held_sum(a: u64, b: u64) -> u64
+    ensures { λ r. ⌜ r ≡ min (a + b) most-filler ⌝ }
+{
+    if b < Bits::MOST_FILLER - a {
+        a + b
+    } else {
+        Bits::MOST_FILLER
+    }
 }
 
 // How many bits a state holds.
@@ -177,7 +196,7 @@ pub fn read_signed(src: &[u8], bits: Bits, n: u32) -> Signed
     }
 }
 
-// Reads the same number modulo 65,536, as a sample adds it.
+// Reads a number of n bits, at most 32, in two's complement, modulo 65,536 as a sample adds it.
 pub fn read_residual(src: &[u8], bits: Bits, n: u32) -> Residual
     ensures { λ r. ⌜ r ≡ read-residual (now (src .entry)) bits n ⌝ }
 {

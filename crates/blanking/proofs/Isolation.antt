@@ -1,10 +1,11 @@
 -- Nothing of an earlier frame is left in a blanked one.
 --
--- Take every two lists of calls on two sample buffers, as demand 3 has them, whose last calls are decoders' calls that are lent a map,
--- are alike (in decoder, stream, offsets, size and the lengths of what they are lent), and end with done or 5 to 8. Let each then be
--- blanked: a call that blanks is lent the frame's samples and its map bytes as its decoder left them, states the same fill as the
--- other, or none as the other, and is done. Then both answer the same, leave the same N samples and list the same runs, whatever
--- came before, whatever the buffers first held, and whatever lies past the frame in what they are lent.
+-- Take every two lists of calls on two sample buffers, as promise P3 has them (Isolation.antt of `samsung`), whose last calls are
+-- decoders' calls that are lent a map, are alike (in decoder, stream, offsets, size and the lengths of what they are lent), and end
+-- with done or 5 to 8. Let each then be blanked: a call that blanks is lent the frame's samples and its map bytes as its decoder
+-- left them, states the same fill as the other, or none as the other, and is done. Then both answer the same, leave the same N
+-- samples and list the same runs, whatever came before, whatever the buffers first held, and whatever lies past the frame in what
+-- they are lent.
 use Prim.Native.Nat.{ℕ, _*_, _<_, _≤_}
 use mathlib.Core.Path.{_≡_, sym, ap, ap₂, _∙_, subst}
 use mathlib.Core.Bool.{false}

@@ -6,6 +6,7 @@ use mathlib.Core.List.{List, [], _∷_}
 use lib.Dec.{ltb}
 use lib.ListN.{length, getD}
 use lib.Seq.{sets}
+use Rattle.rules.specs.Limits.{most-side}
 use Rattle.rules.specs.declared.answer.Size.{Size}
 use Rattle.rules.specs.Frame.{cells}
 use Rattle.blanking.specs.declared.Tally.{Tally}
@@ -39,14 +40,14 @@ by-turns (suc n) a b = a ∷ by-turns n b a
 
 -- A frame's map, of a size within the limits.
 pub record MapLent (z : Size) (map : List ℕ) : Type 0 where
-  pub wide : z .width ≤ 16_384
-  pub high : z .height ≤ 16_384
+  pub wide : z .width ≤ most-side
+  pub high : z .height ≤ most-side
   pub read : length map ≡ cells z
 
 -- A row's number, its samples and map bytes, and room in the list of runs from a place on.
 pub record RowLent (row : ℕ) (samples map : List ℕ) (from : ℕ) (runs : List ℕ) : Type 0 where
-  pub few : row ≤ 16_384
-  pub wide : length map ≤ 16_384
+  pub few : row ≤ most-side
+  pub wide : length map ≤ most-side
   pub written : length samples ≡ length map
   pub room : from + 3 * length (row-runs row map) ≤ length runs
 

@@ -1,4 +1,5 @@
--- Request 04's rule as definitions: blanked samples and runs, what a call answers and leaves, and what the functions ask.
+-- Blanking (docs/RULES.md, "Blanking") as definitions: blanked samples and runs, what a call answers and leaves, and what the
+-- functions ask.
 pub mod Blanking
 pub mod Calls
 pub mod Lent

@@ -6,6 +6,7 @@ ghost use Prim.Native.Nat.{_+_, _*_, _≤_, _<_};
 ghost use lib.Dec.{ltb};
 ghost use lib.ListN.{length, drop};
 ghost use lib.Seq.{sets};
+ghost use Rattle.rules.specs.Limits.{most-side};
 ghost use Rattle.blanking.specs.Blanking.{marked, bad-map, bit, blanked, stretch, row-runs, runs-of, numbers};
 ghost use Rattle.blanking.specs.Calls.{refused, blanked-done};
 ghost use Rattle.blanking.specs.Lent.{tally, meant, left-of, turns, by-turns, MapLent, RowLent, RowBlanked, FrameLent};
@@ -55,7 +56,7 @@ pub struct Tally {
     pub runs: usize,
 }
 
-// 14: a byte is one that no map has.
+// Whether a map has a byte above 3, which no decoder leaves: refusal 14.
 pub fn is_bad_map(map: &[u8]) -> bool
     ensures { λ r. ⌜ r ≡ bad-map (now (map .entry)) ⌝ }
 {
@@ -78,7 +79,7 @@ fn starts(before: u16, mark: u16) -> u16
 
 // The marked samples and the runs of a row; most rows have none. Numbers of 16 bits hold them and can be added many at once.
 fn tally_row(map: &[u8]) -> Tally
-    requires { ⌜ length (now map) ≤ 16_384 ⌝ }
+    requires { ⌜ length (now map) ≤ most-side ⌝ }
     ensures { λ r. ⌜ r ≡ tally (now (map .entry)) (row-runs 0 (now (map .entry))) ⌝ }
 {
     if greatest_of(map) == 0 {
@@ -101,7 +102,7 @@ fn tally_row(map: &[u8]) -> Tally
     }
 }
 
-// Those of a frame.
+// The marked samples and the runs of a frame.
 pub fn tally_frame(map: &[u8], size: Size) -> Tally
     requires { ⌜ MapLent size (now map) ⌝ }
     ensures { λ r. ⌜ r ≡ tally (now (map .entry)) (runs-of size (now (map .entry))) ⌝ }
@@ -193,7 +194,7 @@ fn stretch_at(map: &[u8], first: usize) -> usize
 
 // A run, as three numbers of the list.
 fn put_run(runs: &mut [u32], at: usize, row: usize, first: usize, columns: usize)
-    requires { ⌜ (at + 3 ≤ length (now runs)) × ((row ≤ 16_384) × ((first ≤ 16_384) × (columns ≤ 16_384))) ⌝ }
+    requires { ⌜ (at + 3 ≤ length (now runs)) × ((row ≤ most-side) × ((first ≤ most-side) × (columns ≤ most-side))) ⌝ }
     ensures { λ _. ⌜ now (runs .exit) ≡ sets (now (runs .entry)) at (row ∷ first ∷ columns ∷ []) ⌝ }
 {
     runs[at] = row as u32;
@@ -238,8 +239,8 @@ fn blank_row(
 // Blanks a frame and lists its runs.
 pub fn blank_frame(samples: &mut [u16], map: &[u8], size: Size, fill: Filling, runs: &mut [u32])
     requires { ⌜ FrameLent size (now samples) (now map) (now runs) ⌝ }
-    ensures { λ _. ⌜ now (samples .exit) ≡ blanked (meant fill) size (now (samples .entry)) (now (map .entry)) ⌝ }
-    ensures { λ _. ⌜ now (runs .exit) ≡ sets (now (runs .entry)) 0 (numbers (runs-of size (now (map .entry)))) ⌝ }
+    ensures samples { λ _. ⌜ now (samples .exit) ≡ blanked (meant fill) size (now (samples .entry)) (now (map .entry)) ⌝ }
+    ensures runs { λ _. ⌜ now (runs .exit) ≡ sets (now (runs .entry)) 0 (numbers (runs-of size (now (map .entry)))) ⌝ }
 {
     let mut at: usize = 0;
     let mut row: usize = 0;

@@ -7,6 +7,7 @@ use native.Mathlib.Omega.{arith}
 use native.Mathlib.Decide.{decLt}
 use lib.Dec.{lit<}
 use lib.ListN.{length, getD}
+use Rattle.rules.specs.Limits.{sample-bound}
 use Rattle.rules.specs.V0.{order, sample-kind}
 use Rattle.rules.specs.V2.{position}
 use Rattle.rules.proofs.Cells.{All, nil, more}
@@ -87,14 +88,14 @@ listed-short x row col each = record {
     past (a ∷ l) zero q = absurd (omega arith)
     past (a ∷ l) (suc i) q = past l i (omega arith)
 
-all-of-get : (f : List ℕ) → ((i : ℕ) → getD f i 0 < 16_384) → All (λ a. a < 16_384) f
+all-of-get : (f : List ℕ) → ((i : ℕ) → getD f i 0 < sample-bound) → All (λ a. a < sample-bound) f
 all-of-get [] q = nil
 all-of-get (a ∷ f) q = more (q 0) (all-of-get f (λ i. q (suc i)))
 
-number-short : (format : Format) (w h : ℕ) (f : List ℕ) → All (λ a. a < 16_384) f → (row col : ℕ) → row < h → (k : ℕ) → Short (coding format w h f .number row col k)
+number-short : (format : Format) (w h : ℕ) (f : List ℕ) → All (λ a. a < sample-bound) f → (row col : ℕ) → row < h → (k : ℕ) → Short (coding format w h f .number row col k)
 unfolding coding
 number-short V0 w h f dim row col l k =
-    residual-short w h (exchanged w h f) (exchange-all sample-kind (λ a. a < 16_384) (lit< tt) (size w h) dim) row l col (getD order k 0)
+    residual-short w h (exchanged w h f) (exchange-all sample-kind (λ a. a < sample-bound) (lit< tt) (size w h) dim) row l col (getD order k 0)
 number-short V2 w h f dim row col l k = difference-short w h f dim row l col (position row k)
 
 pub block-short : (format : Format) (w h : ℕ) (f : List ℕ) (row col : ℕ) → Writable format w h f → row < h → (d : List ℕ) → d ≡ block-numbers format w h f row col → Shorts d

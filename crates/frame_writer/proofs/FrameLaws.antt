@@ -5,6 +5,7 @@ use mathlib.Core.List.{List, [], _∷_, _++_, append-nil, append-assoc}
 use native.Mathlib.Omega.{arith}
 use lib.ListN.{length, set, length-append}
 use lib.Seq.{sets, length-sets}
+use Rattle.rules.specs.Limits.{most-side}
 use Rattle.writers.specs.Writer.{bits-of, number-of, fields-bits, word-bytes, words-bytes, bytes, Coding, Unit, word, line, row-bytes, rows-bytes, offsets-from}
 use Rattle.writers.specs.Writer as V0W
 use Rattle.writers.specs.V2Writer as V2W
@@ -76,18 +77,18 @@ module _ {x : Coding} {h start : ℕ} {f o f′ o′ : List ℕ} {at row : ℕ} 
       ap (λ l. start + length l) (rows-snoc x row 0 ∙ ap (λ i. rows-bytes x row 0 ++ row-bytes x i) z)
       ∙ omega (arith, length-append (rows-bytes x row 0) (row-bytes x row), r .at-is)
 
-  -- There is room for the next row ..
+  -- There is room for the next row.
   pub row-room : row < h → start + length (rows-bytes x h 0) ≤ length f → at + length (row-bytes x row) ≤ length f′
   row-room l room =
       let all : suc row + (h - suc row) ≡ h = omega arith in
       let a : length (rows-bytes x (suc row) 0) ≤ length (rows-bytes x h 0) = rw all at (rows-prefix x (suc row) (h - suc row)) in
       omega (arith, next-length, stream-length)
 
-  -- .. its offset fits 32 bits ..
-  pub offset-fits : Unit (x .unit) → x .width ≤ 16_384 → h ≤ 16_384 → start ≤ 16 → at < 2 ^ 32
+  -- The next row's offset fits 32 bits.
+  pub offset-fits : Unit (x .unit) → x .width ≤ most-side → h ≤ most-side → start ≤ 16 → at < 2 ^ 32
   offset-fits u wide high few = omega (arith, r .at-is, rows-most x u wide row 0, r .most)
 
-  -- .. and then it is written.
+  -- With room for it, the next row is written.
   pub frame-on : Unit (x .unit) → (at′ : ℕ) (f″ o″ : List ℕ) → row < h → o″ ≡ set o′ row at → at′ ≡ at + length (row-bytes x row) → f″ ≡ sets f′ at (row-bytes x row)
       → Framing x h start f o f″ o″ at′ (row + 1)
   frame-on u at′ f″ o″ l e a s =
@@ -128,7 +129,7 @@ header-kept f f′ e = ap length e ∙ length-sets f 0 (bytes header-bits)
 -- ── The streams ──
 
 module _ (w h : ℕ) (f : List ℕ) where
-  -- V0's is its rows ..
+  -- V0's stream is its rows.
   pub v0-rows : V0W.stream-for (size w h) f ≡ rows-bytes (coding V0 w h f) h 0
   unfolding V0W.stream-for coding
   v0-rows = refl
@@ -137,7 +138,7 @@ module _ (w h : ℕ) (f : List ℕ) where
   unfolding V0W.offsets-for coding
   v0-offsets = refl
 
-  -- .. and V2's the header and its rows.
+  -- V2's stream is its header and its rows.
   v2-rows : V2W.stream-for (size w h) f ≡ bytes header-bits ++ rows-bytes (coding V2 w h f) h 0
   unfolding V2W.stream-for coding
   v2-rows = refl
@@ -183,7 +184,7 @@ module _ {x : Coding} {h bytes row : ℕ} (r : Measuring x h bytes row) where
       }
 
   -- The sum fits 64 bits.
-  pub measure-next : Unit (x .unit) → x .width ≤ 16_384 → h ≤ 16_384 → (n : ℕ) → row < h → n ≡ length (row-bytes x row) → bytes + n < 2 ^ 64
+  pub measure-next : Unit (x .unit) → x .width ≤ most-side → h ≤ most-side → (n : ℕ) → row < h → n ≡ length (row-bytes x row) → bytes + n < 2 ^ 64
   measure-next u wide high n l e =
       let m = measure-on n l e in
       omega (arith, m .measured, m .most, rows-most x u wide (row + 1) 0)

@@ -46,14 +46,14 @@ odds-last w h row l = rw (le-ltb (row + 1) h l) (by-test (eqb (row % 2) 0) (λ e
 -- ── Places ──
 
 module _ (w h row col : ℕ) where
-  -- An odd column, ..
+  -- Where an odd column is read.
   pub odds-place : col % 2 ≡ 1 → col < w → odds-start (size w h) row + col ≡ place-of (size w h) row col
   unfolding odds-start place-of
   odds-place a l = rw (eq-eqb (col % 2) 1 a, ne-eqb (col % 2) 0 (λ e. omega arith)) (by-test (eqb (row % 2) 0)
       (λ e₁. rw e₁ (by-test (ltb (row + 1) h) (λ f. rw f (omega arith)) (λ g. rw g (by-test (eqb (row % 2) 1) (λ f. rw f) (λ f. rw f)))))
       (λ g. rw g (by-test (eqb (row % 2) 1) (λ f. rw f) (λ f. rw f))))
 
-  -- .. an even column that has one to its right, ..
+  -- Where an even column is read that has one to its right.
   pub evens-place : col % 2 ≡ 0 → col + 1 < w → evens-start w row + col ≡ place-of (size w h) row col
   unfolding evens-start place-of
   evens-place a l =
@@ -63,7 +63,7 @@ module _ (w h row col : ℕ) where
       (λ q. rw q (omega arith))
       (λ q. rw q (absurd (eqb-false (row % 2) 0 p (let n = eqb-false (row % 2) 1 q in omega arith)))))))
 
-  -- .. and a last even column.
+  -- Where an even column is read that is the last.
   pub last-place : col % 2 ≢ 1 → w ≤ col + 1 → row * w + col ≡ place-of (size w h) row col
   unfolding place-of
   last-place a l = rw (ne-eqb (col % 2) 1 a, le-ltb (col + 1) w l) (by-test (eqb (row % 2) 0)

@@ -7,6 +7,7 @@ use native.Mathlib.Omega.{arith}
 use lib.Dec.{lit<}
 use lib.ListN.{length, replicate, length-append, length-replicate}
 use lib.Seq.{sets}
+use Rattle.rules.specs.Limits.{most-side}
 use Rattle.rules.specs.Frame.{tabulate}
 use Rattle.rules.specs.V0.{blocks-in}
 use Rattle.writers.specs.Writer.{bits-of, gap, padded, bytes, words-bytes, run, lengths-for, length-for, block-bits, Coding, Unit, word, line, blocks-bits, row-bytes}
@@ -80,7 +81,7 @@ module _ {x : Coding} (u : Unit (x .unit)) {row at : ℕ} {f f′ : List ℕ} {p
   here : 16 * (col / 16) ≡ col
   here = let q = r .whole in omega arith
 
-  -- There is room for the next block ..
+  -- There is room for the next block.
   pub block-room : (d : List ℕ) → d ≡ block-of x row col → col < x .width → at + length (row-bytes x row) ≤ length f
       → 8 * p .pos + p .count + length (block-bits (numbers d)) ≤ 8 * length f′
   block-room d e l room =
@@ -93,7 +94,7 @@ module _ {x : Coding} (u : Unit (x .unit)) {row at : ℕ} {f f′ : List ℕ} {p
       ∙ ap (λ c. length (blocks-bits x row n 0) + length (block-bits (x .number row c))) col-is in
       rw (block-of-list x row col d e) (omega (arith, r .wrote .grown, r .wrote .length-is, row-is x u row, gap-whole (length (row-bits x row)) u))
 
-  -- .. and then it is written.
+  -- With room for it, the next block is written.
   pub row-on : (d f″ : List ℕ) (q : Pending) → d ≡ block-of x row col → col < x .width → Wrote f′ p (block-bits (numbers d)) f″ q → Rowing x row at f f″ q (col + 16)
   row-on d f″ q e l wrote =
       let next : (col + 16) / 16 ≡ suc (col / 16) = omega arith in
@@ -104,7 +105,7 @@ module _ {x : Coding} (u : Unit (x .unit)) {row at : ℕ} {f f′ : List ℕ} {p
         wrote = rw (next, blocks-snoc x row (col / 16) 0, col-is) (wrote-both (r .wrote) (rw (block-of-list x row col d e) at wrote));
       }
 
-  -- At the row's end the padding ..
+  -- At the row's end the padding is known.
   module _ (v : ℕ) (same : v ≡ x .unit) (whole : at % v ≡ 0) (l : x .width ≤ col) where
     count-is : col / 16 ≡ blocks-in (x .width)
     count-is = let a = r .whole in let b = r .most in omega arith
@@ -125,11 +126,11 @@ module _ {x : Coding} (u : Unit (x .unit)) {row at : ℕ} {f f′ : List ℕ} {p
         words-first word e = e
         words-first line e = omega arith
 
-    -- .. fits ..
+    -- The padding fits the buffer.
     pub end-is : 8 * p .pos + p .count + gap (8 * v) (8 * p .pos + p .count) ≡ 8 * (at + length (row-bytes x row))
     end-is = let w = gap-whole (length (row-bits x row)) u in rw gap-is (omega (arith, before, row-is x u row, w))
 
-    -- .. and then the buffer has the row.
+    -- With the padding written, the buffer has the row.
     pub row-gone : (f″ : List ℕ) (q : Pending) → Wrote f′ p (replicate (gap (8 * v) (8 * p .pos + p .count)) false) f″ q
         → (q .pos ≡ at + length (row-bytes x row)) × (f″ ≡ sets f at (row-bytes x row))
     unfolding row-bytes padded
@@ -153,11 +154,11 @@ unfolding blocks-bits
 count-begun x row = record { whole = refl; most = omega arith; counted = refl }
 
 module _ {x : Coding} {row bits col : ℕ} (r : Counting x row bits col) where
-  -- The sum is small ..
-  pub count-most : x .width ≤ 16_384 → bits ≤ 265 * 1_024
+  -- The sum of the blocks' bits is small.
+  pub count-most : x .width ≤ most-side → bits ≤ 265 * 1_024
   count-most l = omega (arith, r .counted, r .most, blocks-length x row (col / 16) 0)
 
-  -- .. a block is added ..
+  -- A block's bits are added to the sum.
   pub count-on : (d : List ℕ) (n : ℕ) → d ≡ block-of x row col → col < x .width → n ≡ length (block-bits (numbers d)) → Counting x row (bits + n) (col + 16)
   count-on d n e l is =
       let next : (col + 16) / 16 ≡ suc (col / 16) = omega arith in
@@ -170,7 +171,7 @@ module _ {x : Coding} {row bits col : ℕ} (r : Counting x row bits col) where
             ∙ rw (next, blocks-snoc x row (col / 16) 0, here) (sym (length-append (blocks-bits x row (col / 16) 0) (block-bits (x .number row col))));
       }
 
-  -- .. and at the row's end the whole units are the row's bytes.
+  -- At the row's end the whole units are the row's bytes.
   pub count-gone : Unit (x .unit) → x .width ≤ col → (n : ℕ) → n ≡ (bits + gap (8 * x .unit) bits) / 8 → n ≡ length (row-bytes x row)
   count-gone u l n e =
       let last : col / 16 ≡ blocks-in (x .width) = let a = r .whole in let b = r .most in omega arith in

@@ -5,6 +5,7 @@ use mathlib.Core.Path.{_≡_}
 use mathlib.Core.List.{List}
 use lib.Dec.{ltb}
 use lib.ListN.{length, getD}
+use Rattle.rules.specs.Limits.{most-side, sample-bound}
 use Rattle.rules.specs.declared.answer.Size.{Size}
 use Rattle.rules.specs.Frame.{tabulate}
 use Rattle.rules.specs.V0.{sample-kind, exchange}
@@ -18,8 +19,8 @@ size width height = record { width = width; height = height }
 
 -- A row and a column that the frame has, within the limits.
 pub record InFrame (width height row col : ℕ) : Type 0 where
-  pub wide : width ≤ 16_384
-  pub high : height ≤ 16_384
+  pub wide : width ≤ most-side
+  pub high : height ≤ most-side
   pub row-in : row < height
   pub col-in : col < width
 
@@ -35,11 +36,11 @@ pub record Whole (format : Format) (width : ℕ) : Type 0 where
 
 -- A frame that can be written: it is within the limits, all of it is lent, and no sample is above 16,383.
 pub record Writable (format : Format) (width height : ℕ) (f : List ℕ) : Type 0 where
-  pub wide : width ≤ 16_384
-  pub high : height ≤ 16_384
+  pub wide : width ≤ most-side
+  pub high : height ≤ most-side
   pub blocks : Whole format width
   pub whole : length f ≡ width * height
-  pub dim : (i : ℕ) → getD f i 0 < 16_384
+  pub dim : (i : ℕ) → getD f i 0 < sample-bound
 
 -- What V0 writes: the samples after the exchange of places.
 abbrev pub exchanged : ℕ → ℕ → List ℕ → List ℕ

@@ -27,14 +27,14 @@ pub fn prediction(samples: &[u16], constant: u16, col: usize, first: usize) -> u
     samples[first - 2]
 }
 
-// Where the half of sample k begins, ..
+// Where the half of sample k begins.
 fn half_start(k: usize, first: usize, second: usize) -> usize
     ensures { λ r. ⌜ r ≡ cond (ltb k 8) first second ⌝ }
 {
     if k < 8 { first } else { second }
 }
 
-// .. and what it is predicted from.
+// What the half of sample k is predicted from.
 fn half_prediction(k: usize, first: u16, second: u16) -> u16
     ensures { λ r. ⌜ r ≡ cond (ltb k 8) first second ⌝ }
 {

@@ -2,6 +2,7 @@
 ghost use mathlib.Core.Path.{_≡_};
 ghost use Prim.Native.Nat.{_+_, _*_, _≤_, _<_};
 ghost use lib.ListN.{length, getD};
+ghost use Rattle.rules.specs.Limits.{most-side};
 ghost use Rattle.writers.specs.Writer.{residual};
 ghost use Rattle.writers.specs.Exchanged.{evens-start, odds-start, place-of};
 ghost use Rattle.frame_writer.specs.Frames.{InFrame, BlockLent, size, exchanged, block-residuals};
@@ -14,7 +15,7 @@ use rules::V0Row;
 
 // Where a row's even columns are read, as if all of the row stood there.
 fn evens_start(width: usize, row: usize) -> usize
-    requires { ⌜ (width ≤ 16_384) × (row < 16_384) ⌝ }
+    requires { ⌜ (width ≤ most-side) × (row < most-side) ⌝ }
     ensures { λ r. ⌜ r ≡ evens-start width row ⌝ }
 {
     if row % 2 == 0 {
@@ -23,9 +24,9 @@ fn evens_start(width: usize, row: usize) -> usize
     (row - 1) * width + 1
 }
 
-// The same of its odd columns.
+// Where a row's odd columns are read, as if all of the row stood there.
 fn odds_start(width: usize, height: usize, row: usize) -> usize
-    requires { ⌜ (0 < width) × (width ≤ 16_384) × (row < 16_384) ⌝ }
+    requires { ⌜ (0 < width) × (width ≤ most-side) × (row < most-side) ⌝ }
     ensures { λ r. ⌜ r ≡ odds-start (size width height) row ⌝ }
 {
     if row % 2 == 1 {

@@ -65,8 +65,8 @@ fn write_rows(
     height: usize,
 )
     requires { ⌜ Writable format width height (now samples) × (start % unit format ≡ 0) × (start ≤ 16) × (start + length (rows-of format width height (now samples)) ≤ length (now out)) ⌝ }
-    ensures { λ _. ⌜ now (out .exit) ≡ sets (now (out .entry)) start (rows-of format width height (now (samples .entry))) ⌝ }
-    ensures { λ _. ⌜ now (offsets .exit) ≡ sets (now (offsets .entry)) 0 (offsets-from (coding format width height (now (samples .entry))) height 0 start) ⌝ }
+    ensures stream { λ _. ⌜ now (out .exit) ≡ sets (now (out .entry)) start (rows-of format width height (now (samples .entry))) ⌝ }
+    ensures offsets { λ _. ⌜ now (offsets .exit) ≡ sets (now (offsets .entry)) 0 (offsets-from (coding format width height (now (samples .entry))) height 0 start) ⌝ }
 {
     let mut at = start;
     let mut row: usize = 0;
@@ -82,8 +82,8 @@ fn write_rows(
 // Writes a V0 frame: the stream from byte 0 on, and its offsets.
 pub fn write_v0(out: &mut [u8], offsets: &mut [u32], samples: &[u16], width: usize, height: usize)
     requires { ⌜ Writable Variants.V0 width height (now samples) × (length (V0.stream-for (size width height) (now samples)) ≤ length (now out)) ⌝ }
-    ensures { λ _. ⌜ now (out .exit) ≡ sets (now (out .entry)) 0 (V0.stream-for (size width height) (now (samples .entry))) ⌝ }
-    ensures { λ _. ⌜ now (offsets .exit) ≡ sets (now (offsets .entry)) 0 (V0.offsets-for (size width height) (now (samples .entry))) ⌝ }
+    ensures stream { λ _. ⌜ now (out .exit) ≡ sets (now (out .entry)) 0 (V0.stream-for (size width height) (now (samples .entry))) ⌝ }
+    ensures offsets { λ _. ⌜ now (offsets .exit) ≡ sets (now (offsets .entry)) 0 (V0.offsets-for (size width height) (now (samples .entry))) ⌝ }
 {
     write_rows(out, 0, offsets, samples, Format::V0, width, height);
 }

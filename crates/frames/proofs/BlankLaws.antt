@@ -20,17 +20,17 @@ use Rattle.blanking.specs.Lent.{tally, MapLent, FrameLent}
 use Rattle.blanking.proofs.RunLaws.{numbers-length, rows-most}
 use Rattle.frames.proofs.EarlyLaws.{early, early-then}
 
--- What is known once tests are passed: 1, 3 and 4 ..
+-- What is known once tests 1, 3 and 4 are passed.
 pub record Lent (c : Call) : Type 0 where
   pub room : Room (c .size) (length (c .samples)) Nothing (Length (length (c .map))) Nothing
   pub left : refusal c ≡ cond (bad-map (marks-of c)) 14 (cond (short-runs c) 13 0)
 
--- .. then 14 ..
+-- What is known once test 14 is passed, too.
 pub record Good (c : Call) : Type 0 where
   pub lent : Lent c
   pub good : bad-map (marks-of c) ≡ false
 
--- .. and 13.
+-- What is known once test 13 is passed, too.
 pub record Fits (c : Call) : Type 0 where
   pub good : Good c
   pub list-room : 3 * length (found c) ≤ length (c .runs)

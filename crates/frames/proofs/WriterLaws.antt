@@ -9,6 +9,7 @@ use lib.Dec.{ltb, eqb, lit<}
 use lib.ListN.{length, take, drop}
 use lib.Seq.{sets, sets-eq, length-take-le}
 use borrow.Author.Tests.{ne-eqb, ltb-false}
+use Rattle.rules.specs.Limits.{sample-bound}
 use Rattle.rules.specs.declared.answer.Size.{Size}
 use Rattle.rules.specs.Frame.{cells}
 use Rattle.rules.specs.Answer.{too-large}
@@ -64,7 +65,7 @@ lent z samples e zero =
         high = m .1;
         blocks = whole-v0 (z .width);
         whole = length-take-le (cells z) samples n;
-        dim = λ i. all-get (λ a. a < 16_384) (not-bright (take (cells z) samples) (f .1 .1)) i 0 (lit< tt);
+        dim = λ i. all-get (λ a. a < sample-bound) (not-bright (take (cells z) samples) (f .1 .1)) i 0 (lit< tt);
       };
     }
 

@@ -52,7 +52,7 @@ fn blank_by(
     Blanked::done(found.marked as u64, found.runs as u64)
 }
 
-// The same with a stated fill.
+// Sets the samples that a map marks to a stated fill, and lists their runs. Refusals 1, 3, 4, 14 and 13, which change nothing.
 pub fn blank_with(
     samples: &mut [u16],
     map: &[u8],
@@ -67,7 +67,8 @@ pub fn blank_with(
     blank_by(samples, map, width, height, Filling::Stated(fill), runs)
 }
 
-// The same with none: the nearest unmarked sample to the left, of the row and of the column's parity.
+// Sets the samples that a map marks to the nearest unmarked sample to their left, of their row and of their column's parity, or to
+// 0 if there is none; and lists their runs. Refusals 1, 3, 4, 14 and 13, which change nothing.
 pub fn blank(
     samples: &mut [u16],
     map: &[u8],

@@ -9,7 +9,7 @@ use refusals::refused;
 use rules::Answer;
 use rules::Size;
 
-// 1, and then 3 of either buffer; 0 if neither holds.
+// Returns 1 if the size is above the limit, 3 if either buffer has fewer than N samples, else 0.
 fn refuse(size: Size, read: usize, written: usize) -> u32
     ensures { λ r. ⌜ r ≡ refusal size read written ⌝ }
 {
@@ -38,10 +38,10 @@ fn carry(read: &[u16], size: Size, written: &mut [u16], back: bool)
     planes::to_planes(read, size, written);
 }
 
-// The same of the first N samples of two lent buffers. Refusals 1 and 3.
+// A frame's first N samples out of one lent buffer into the first N of another: into planes, or back. Refusals 1 and 3.
 fn carry_lent(read: &[u16], width: usize, height: usize, written: &mut [u16], back: bool) -> Answer
-    ensures { λ r. ⌜ r ≡ answer width height (now (read .entry)) (now (written .entry)) ⌝ }
-    ensures { λ _. ⌜ now (written .exit) ≡ after (cond back from-planes to-planes) width height (now (read .entry)) (now (written .entry)) ⌝ }
+    ensures answered { λ r. ⌜ r ≡ answer width height (now (read .entry)) (now (written .entry)) ⌝ }
+    ensures written { λ _. ⌜ now (written .exit) ≡ after (cond back from-planes to-planes) width height (now (read .entry)) (now (written .entry)) ⌝ }
 {
     let size = Size { width, height };
     let refusal = refuse(size, read.len(), written.len());
@@ -55,16 +55,16 @@ fn carry_lent(read: &[u16], width: usize, height: usize, written: &mut [u16], ba
 
 // A frame's samples into its planes. Refusals 1 and 3.
 pub fn to_planes(samples: &[u16], width: usize, height: usize, planes: &mut [u16]) -> Answer
-    ensures { λ r. ⌜ r ≡ answer width height (now (samples .entry)) (now (planes .entry)) ⌝ }
-    ensures { λ _. ⌜ now (planes .exit) ≡ after to-planes width height (now (samples .entry)) (now (planes .entry)) ⌝ }
+    ensures answered { λ r. ⌜ r ≡ answer width height (now (samples .entry)) (now (planes .entry)) ⌝ }
+    ensures planes { λ _. ⌜ now (planes .exit) ≡ after to-planes width height (now (samples .entry)) (now (planes .entry)) ⌝ }
 {
     carry_lent(samples, width, height, planes, false)
 }
 
 // The planes of a frame back into its samples. Refusals 1 and 3.
 pub fn from_planes(planes: &[u16], width: usize, height: usize, samples: &mut [u16]) -> Answer
-    ensures { λ r. ⌜ r ≡ answer width height (now (planes .entry)) (now (samples .entry)) ⌝ }
-    ensures { λ _. ⌜ now (samples .exit) ≡ after from-planes width height (now (planes .entry)) (now (samples .entry)) ⌝ }
+    ensures answered { λ r. ⌜ r ≡ answer width height (now (planes .entry)) (now (samples .entry)) ⌝ }
+    ensures samples { λ _. ⌜ now (samples .exit) ≡ after from-planes width height (now (planes .entry)) (now (samples .entry)) ⌝ }
 {
     carry_lent(planes, width, height, samples, true)
 }

@@ -1,4 +1,4 @@
--- What a job's text is after each of document 01's tests, and after the decoder's answer.
+-- What a job's text is after each of the job's tests, and after the decoder's answer.
 use Prim.Native.Nat.{ℕ, _+_, _*_, _≤_, _<_}
 use mathlib.Core.Path.{_≡_, refl, sym, ap, _∙_}
 use mathlib.Core.Bool.{true, false}

@@ -11,7 +11,8 @@ use Rattle.rules.specs.Job.{most-input, most-samples, half-word-at}
 unfoldable pub offsets-of : List ℕ → ℕ → List ℕ
 offsets-of s n = tabulate n 0 (λ row. word-at s (9 + 4 * row))
 
--- An input without fault, of a width and a height: what is left to hold once document 01's tests are passed.
+-- An input without fault, of a width and a height: what is left to hold once the job's tests are passed (docs/RULES.md, "The job
+-- program").
 pub record Sound (s : List ℕ) (width height : ℕ) : Type 0 where
   pub short : length s ≤ most-input
   pub width-is : width ≡ half-word-at s 5

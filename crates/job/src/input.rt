@@ -10,8 +10,8 @@ ghost use Rattle.job.specs.Fields.{offsets-of};
 // The number of the two bytes from `at` on, lowest first.
 pub(crate) fn half_word(input: &[u8], at: usize) -> usize
     requires { ⌜ at + 2 ≤ length (now input) ⌝ }
-    ensures { λ r. ⌜ r ≡ half-word-at (now (input .entry)) at ⌝ }
-    ensures { λ r. ⌜ r < 65_536 ⌝ }
+    ensures answered { λ r. ⌜ r ≡ half-word-at (now (input .entry)) at ⌝ }
+    ensures small { λ r. ⌜ r < 65_536 ⌝ }
 {
     wide(input[at]) + wide(input[at + 1]) * 256
 }

@@ -1,4 +1,4 @@
-// The job of `samrows` as a function on slices, by document 01's "Job program". Its text is written into a lent array that has
+// The job of `samrows` as a function on slices, by docs/RULES.md, "The job program". Its text is written into a lent array that has
 // room for every text.
 mod input;
 mod lines;
@@ -94,8 +94,8 @@ pub fn run(input: &[u8], text: &mut [u8; TEXT]) -> usize
 
 // The job of an input longer than 32,768 bytes, which need not be lent: every such input has the same text.
 pub fn run_longer(text: &mut [u8; TEXT]) -> usize
-    ensures { λ r. ⌜ Holds (now (text .entry)) (fault 3) (now (text .exit)) r ⌝ }
-    ensures { λ r. ⌜ ((s : List ℕ) → most-input < length s → job-text s ≡ fault 3) ⌝ }
+    ensures text { λ r. ⌜ Holds (now (text .entry)) (fault 3) (now (text .exit)) r ⌝ }
+    ensures every_input { λ r. ⌜ ((s : List ℕ) → most-input < length s → job-text s ≡ fault 3) ⌝ }
 {
     put_fault(text, LONGER)
 }

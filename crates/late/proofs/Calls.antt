@@ -6,6 +6,7 @@ use mathlib.Core.List.{List}
 use mathlib.Core.Option.{some}
 use lib.ListN.{length, getD, take}
 use lib.Seq.{getD-take}
+use Rattle.rules.specs.Limits.{most-side}
 use Rattle.rules.specs.declared.answer.Answer.{Answer}
 use Rattle.rules.specs.declared.answer.Size.{Size}
 use Rattle.rules.specs.Frame.{cells}
@@ -185,7 +186,7 @@ calls-late-stream p c d q =
     ok : refusal (c .ask) (lengths (c .found)) ≡ 0
     ok = ran-passed c (q .ran)
 
-    most : (z .width ≤ 16_384) × (z .height ≤ 16_384)
+    most : (z .width ≤ most-side) × (z .height ≤ most-side)
     most = size-most (c .ask) (lengths (c .found)) ok
 
     samples : (i : ℕ) → i < n * z .width

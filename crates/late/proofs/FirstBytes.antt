@@ -10,6 +10,7 @@ use lib.Dec.{leb}
 use lib.ListN.{length, take, length-take}
 use lib.Seq.{take-length}
 use borrow.Author.Tests.{leb-true, ne-eqb}
+use Rattle.rules.specs.Limits.{most-side}
 use Rattle.rules.specs.declared.answer.Answer.{Answer}
 use Rattle.rules.specs.declared.answer.Size.{Size}
 use Rattle.rules.specs.declared.reader.Bits.{Bits}
@@ -68,8 +69,8 @@ none-past s (p ∷ ps) e =
     (λ t. absurd (let z : 1 + missing-of s ps ≡ 0 = rw t at e in omega arith))
 
 -- Of a stream t: a row that starts with none missing ends with one missing exactly if it fetches a word past the stream's end.
-module _ (t : List ℕ) (h : V2Hdr) (w : ℕ) (wide : w ≤ 16_384) where
-  module _ (row : ℕ) (high : row ≤ 16_384) (b : Bits) (at : PositionAt w row b) (clear : b .filler ≡ 0) where
+module _ (t : List ℕ) (h : V2Hdr) (w : ℕ) (wide : w ≤ most-side) where
+  module _ (row : ℕ) (high : row ≤ most-side) (b : Bits) (at : PositionAt w row b) (clear : b .filler ≡ 0) where
     abbrev past : Bool
     past = fetched-past (length t) (aligned b) (read-row t h w row b .bits)
 
@@ -93,12 +94,12 @@ module _ (t : List ℕ) (h : V2Hdr) (w : ℕ) (wide : w ≤ 16_384) where
     missing : a .filler ≢ 0 → first-past-from (length t) t h w k row b ≡ a .row
     complete : a .filler ≡ 0 → first-past-from (length t) t h w k row b ≡ row + k
 
-  rows-told : (k row : ℕ) → row + k ≤ 16_384 → (b : Bits) → PositionAt w row b → b .filler ≡ 0 → Told k row b (rows t h w k row b .answer)
+  rows-told : (k row : ℕ) → row + k ≤ most-side → (b : Bits) → PositionAt w row b → b .filler ≡ 0 → Told k row b (rows t h w k row b .answer)
   unfolding rows first-past-from
   rows-told zero row high b at clear = record { missing = λ n. absurd (n clear); complete = λ e. omega arith }
   rows-told (suc k) row high b at clear =
       let q = read-row t h w row b in
-      let l : row ≤ 16_384 = omega arith in
+      let l : row ≤ most-side = omega arith in
       let rest : q .bits .filler ≡ 0 → Told k (suc row) (q .bits) (rows t h w k (suc row) (q .bits) .answer) =
       λ m. rows-told k (suc row) (omega arith) (q .bits) (position-next t h w row b at) m in
       let more-rows : suc row + k ≡ row + suc k = omega arith in
@@ -112,7 +113,7 @@ module _ (t : List ℕ) (h : V2Hdr) (w : ℕ) (wide : w ≤ 16_384) where
 
 -- ── The frame ──
 
-module _ (t : List ℕ) (z : Size) (wide : z .width ≤ 16_384) (high : z .height ≤ 16_384) (below : header-bytes ≤ length t) where
+module _ (t : List ℕ) (z : Size) (wide : z .width ≤ most-side) (high : z .height ≤ most-side) (below : header-bytes ≤ length t) where
   header-clear : header t .bits .filler ≡ 0
   header-clear =
       let v = header-trail 0 t t (record { long = omega arith; long′ = omega arith; same = refl }) in
@@ -156,7 +157,7 @@ first-bytes c d q =
     z : Size
     z = c .ask .size
 
-    most : (z .width ≤ 16_384) × (z .height ≤ 16_384)
+    most : (z .width ≤ most-side) × (z .height ≤ most-side)
     most = size-most (c .ask) (lengths (c .found)) (ran-passed c (q .ran))
 
     answered : c .answered ≡ read-frame t z .answer

@@ -15,8 +15,8 @@
 -- Not promised. Row r − 1 if r is odd: the exchange brings samples of row r into it, and it can differ (Examples.antt). Rows from the
 -- bound on. V0's count of missing words. Anything if the header reaches past p, or if a call ends with 1 to 4, 11, 12 or 17 to 19.
 --
--- A call that has returned is what was handed in, what came out, and what the function's own contract says of them, as in the claim of
--- demand 3; that the code meets those contracts stands beside this claim in `razvolk/proofs/Promises.antt`.
+-- A call that has returned is what was handed in, what came out, and what the function's own contract says of them, as in the
+-- claim of promise P3; that the code meets those contracts stands beside this claim in `razvolk/proofs/Promises.antt`.
 use Prim.Native.Nat.{ℕ}
 use mathlib.Core.Path.{_≡_}
 use mathlib.Core.List.{List}

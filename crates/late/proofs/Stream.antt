@@ -10,6 +10,7 @@ use lib.Dec.{eqb, leb, lit<, lit≤}
 use lib.ListN.{length, getD, set}
 use lib.Seq.{sets, getD-set-other}
 use borrow.Author.Tests.{leb-true, leb-false}
+use Rattle.rules.specs.Limits.{most-side}
 use Rattle.rules.specs.declared.answer.Size.{Size}
 use Rattle.rules.specs.declared.reader.Bits.{Bits}
 use Rattle.rules.specs.declared.v2.V2Hdr.{V2Hdr}
@@ -32,7 +33,7 @@ agree-back a = record { long = a .long′; long′ = a .long; same = sym (a .sam
 -- ── A row ──
 
 -- Within the limits nothing wraps.
-module _ (w row : ℕ) (wide : w ≤ 16_384) (high : row ≤ 16_384) (b : Bits) (at : PositionAt w row b) where
+module _ (w row : ℕ) (wide : w ≤ most-side) (high : row ≤ most-side) (b : Bits) (at : PositionAt w row b) where
   row-room : (n : ℕ) → n ≤ w / 16 * 29 → aligned b .pos + 4 * n < 2 ^ 64
   row-room n l =
       let q = position-below w row b at wide high in
@@ -49,7 +50,7 @@ module _ (w row : ℕ) (wide : w ≤ 16_384) (high : row ≤ 16_384) (b : Bits) 
     row-same e = row-trail p s t agree h w row b .same (row-tells .below e)
 
 -- So both or neither fetch one.
-past-same : (w row : ℕ) → w ≤ 16_384 → row ≤ 16_384 → (b : Bits) → PositionAt w row b → (p : ℕ) (s t : List ℕ) → AgreeIn p s t → (h : V2Hdr)
+past-same : (w row : ℕ) → w ≤ most-side → row ≤ most-side → (b : Bits) → PositionAt w row b → (p : ℕ) (s t : List ℕ) → AgreeIn p s t → (h : V2Hdr)
     → fetched-past p (aligned b) (read-row t h w row b .bits) ≡ fetched-past p (aligned b) (read-row s h w row b .bits)
 past-same w row wide high b at p s t agree h =
     by-test (past s)
@@ -74,8 +75,8 @@ row-words s h w row b =
     let v = row-trail 0 s s (record { long = omega arith; long′ = omega arith; same = refl }) h w row b in
     record { words = v .words; run = v .run; few = v .few }
 
-module _ (p : ℕ) (s : List ℕ) (h : V2Hdr) (w : ℕ) (wide : w ≤ 16_384) where
-  pub words-tell : (row : ℕ) → row ≤ 16_384 → (b : Bits) → PositionAt w row b → Tells p (aligned b) (read-row s h w row b .bits) (row-words s h w row b .words)
+module _ (p : ℕ) (s : List ℕ) (h : V2Hdr) (w : ℕ) (wide : w ≤ most-side) where
+  pub words-tell : (row : ℕ) → row ≤ most-side → (b : Bits) → PositionAt w row b → Tells p (aligned b) (read-row s h w row b .bits) (row-words s h w row b .words)
   words-tell row high b at = let v = row-words s h w row b in tells s p (v .run) (row-room w row wide high b at (length (v .words)) (v .few))
 
   first-least : (k row : ℕ) (b : Bits) → row ≤ first-past-from p s h w k row b
@@ -85,8 +86,8 @@ module _ (p : ℕ) (s : List ℕ) (h : V2Hdr) (w : ℕ) (wide : w ≤ 16_384) wh
       (λ e. rw e (omega arith))
       (λ f. rw f (by-test (eqb (q .number) 0) (λ e. rw e (omega (arith, first-least k (suc row) (q .bits)))) (λ e. rw e (omega arith))))
 
-  -- Rows before it that are read fetch no word past p ..
-  early-rows : (k row : ℕ) → row + k ≤ 16_384 → (b : Bits) → PositionAt w row b → (m n : ℕ) → m ≡ row + n → m < first-past-from p s h w k row b → n < k
+  -- Rows before the first row past p that are read fetch no word past p.
+  early-rows : (k row : ℕ) → row + k ≤ most-side → (b : Bits) → PositionAt w row b → (m n : ℕ) → m ≡ row + n → m < first-past-from p s h w k row b → n < k
       → none-refused s h w row n b ≡ true → Below p (row-words s h w m (state-after s h w row n b) .words)
   unfolding first-past-from none-refused state-after
   early-rows zero row high b at m n e l r u = absurd (omega arith)
@@ -101,8 +102,8 @@ module _ (p : ℕ) (s : List ℕ) (h : V2Hdr) (w : ℕ) (wide : w ≤ 16_384) wh
       (λ f. absurd (let o : m < row = rw f at l in omega arith))
       (λ f. early-rows k (suc row) (omega arith) (q .bits) (position-next s h w row b at) m n (omega arith) (rw (f, v .0) at l) (omega arith) (v .1))
 
-  -- .. and the row itself does fetch one.
-  first-row : (k row : ℕ) → row + k ≤ 16_384 → (b : Bits) → PositionAt w row b → (m n : ℕ) → m ≡ row + n → m ≡ first-past-from p s h w k row b → n < k
+  -- The first row past p fetches a word past p.
+  first-row : (k row : ℕ) → row + k ≤ most-side → (b : Bits) → PositionAt w row b → (m n : ℕ) → m ≡ row + n → m ≡ first-past-from p s h w k row b → n < k
       → Below p (row-words s h w m (state-after s h w row n b) .words) → ⊥
   unfolding first-past-from state-after
   first-row zero row high b at m n e l r a = omega arith
@@ -196,8 +197,8 @@ alike-from s t h w k row b =
       refusal = λ n l. absurd (let m = refused-row s h w k row b n in omega arith);
     }
 
-module _ (p : ℕ) (s t : List ℕ) (agree : AgreeIn p s t) (h : V2Hdr) (w : ℕ) (wide : w ≤ 16_384) where
-  rows-alike : (k row : ℕ) → row + k ≤ 16_384 → (b : Bits) → PositionAt w row b
+module _ (p : ℕ) (s t : List ℕ) (agree : AgreeIn p s t) (h : V2Hdr) (w : ℕ) (wide : w ≤ most-side) where
+  rows-alike : (k row : ℕ) → row + k ≤ most-side → (b : Bits) → PositionAt w row b
       → Alike w (first-past-from p s h w k row b) (rows s h w k row b) (rows t h w k row b)
   unfolding rows first-past-from
   rows-alike zero row high b at = alike-equal w row _ _ refl
@@ -225,7 +226,7 @@ module _ (p : ℕ) (s t : List ℕ) (agree : AgreeIn p s t) (h : V2Hdr) (w : ℕ
           (alike-equal w _ _ _ (then-refused row q (rest s q) (rest t q) e′))
 
   -- The first such row is the same by both streams.
-  rows-first : (k row : ℕ) → row + k ≤ 16_384 → (b : Bits) → PositionAt w row b → first-past-from p t h w k row b ≡ first-past-from p s h w k row b
+  rows-first : (k row : ℕ) → row + k ≤ most-side → (b : Bits) → PositionAt w row b → first-past-from p t h w k row b ≡ first-past-from p s h w k row b
   unfolding first-past-from
   rows-first zero row high b at = refl
   rows-first (suc k) row high b at =
@@ -318,7 +319,7 @@ header-reads s = fields-end s field-widths short (fresh 0) (lit< tt) (lit< tt)
         more (lit≤ tt) (more (lit≤ tt) (more (lit≤ tt) (more (lit≤ tt) (more (lit≤ tt) (more (lit≤ tt) (more (lit≤ tt)
         (more (lit≤ tt) (more (lit≤ tt) (more (lit≤ tt) (more (lit≤ tt) (more (lit≤ tt) (more (lit≤ tt) nil))))))))))))
 
-module _ (p : ℕ) (s t : List ℕ) (agree : AgreeIn p s t) (below : header-bytes ≤ p) (z : Size) (wide : z .width ≤ 16_384) (high : z .height ≤ 16_384) where
+module _ (p : ℕ) (s t : List ℕ) (agree : AgreeIn p s t) (below : header-bytes ≤ p) (z : Size) (wide : z .width ≤ most-side) (high : z .height ≤ most-side) where
   header-same : header s ≡ header t
   header-same =
       let v = header-trail p s t agree in
@@ -359,15 +360,15 @@ module _ (p : ℕ) (s t : List ℕ) (agree : AgreeIn p s t) (below : header-byte
 abbrev pub frame-words : List ℕ → Size → ℕ → List ℕ
 frame-words s z n = let x = header s in row-words s (x .hdr) (z .width) n (state-after s (x .hdr) (z .width) 0 n (x .bits)) .words
 
-module _ (p : ℕ) (s : List ℕ) (z : Size) (wide : z .width ≤ 16_384) (high : z .height ≤ 16_384) where
-  -- A row before it, if it is read, fetches only words that lie wholly below p ..
+module _ (p : ℕ) (s : List ℕ) (z : Size) (wide : z .width ≤ most-side) (high : z .height ≤ most-side) where
+  -- A row before the first row past p, if it is read, fetches only words that lie wholly below p.
   pub before-first : (n : ℕ) → n < first-past p s z → n < z .height
       → none-refused s (header s .hdr) (z .width) 0 n (header s .bits) ≡ true → Below p (frame-words s z n)
   unfolding first-past
   before-first n l r u =
       early-rows p s (header s .hdr) (z .width) wide (z .height) 0 (omega arith) (header s .bits) (position-starts s (z .width)) n n (omega arith) l r u
 
-  -- .. and it fetches one that doesn't, unless it is the height.
+  -- The first row past p fetches a word that doesn't lie wholly below p, unless it is the height.
   pub first-fetches : first-past p s z < z .height → Below p (frame-words s z (first-past p s z)) → ⊥
   unfolding first-past
   first-fetches l =

@@ -29,7 +29,7 @@ header = 0x00 ∷ 0x0D ∷ 0x00 ∷ 0x00 ∷ 0x00 ∷ 0x00 ∷ 0x00 ∷ 0x00 ∷
 abbrev one-word : List ℕ
 one-word = 0x00 ∷ 0x00 ∷ 0x80 ∷ 0x7F ∷ []
 
--- A row of three words: motion 7, the four remembered lengths of 4, and the differences 1, 0, ..
+-- A row of three words: motion 7, the four remembered lengths of 4, and the differences 1, then 0.
 abbrev three-words : List ℕ
 three-words = 0x00 ∷ 0x00 ∷ 0x08 ∷ 0x00 ∷ replicate 8 0x00
 

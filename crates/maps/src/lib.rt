@@ -1,5 +1,5 @@
-// What a map's bytes become, of V0 and V2 alike: all old at entry, filler at a block's end, and the parts of two in an average. And
-// the greatest of them, by which maps are tested.
+// What a map's bytes become, of V0 and V2 alike (docs/RULES.md, "The map"): all old at entry, filler at a block's end, and the
+// parts of two in an average. And the greatest byte, by which maps are tested.
 ghost use mathlib.Core.Path.{_≡_};
 ghost use Prim.Native.Nat.{_+_, _^_, _≤_, _<_, max};
 ghost use lib.ListN.{length, replicate};
@@ -10,7 +10,7 @@ ghost use Rattle.maps.specs.Greatest.{greatest};
 // The bytes of a block.
 const BLOCK: usize = 16;
 
-// Every byte becomes the same.
+// Sets every byte of a map to `byte`.
 pub fn mark_all(map: &mut [u8], byte: u8)
     ensures { λ _. ⌜ now (map .exit) ≡ replicate (length (now (map .entry))) byte ⌝ }
 {
@@ -64,7 +64,7 @@ fn fill_edge(map: &mut [u8], place: usize)
     }
 }
 
-// One of them.
+// A byte of a block at the map's end gains 2, if it is there.
 fn fill_byte(map: &mut [u8], place: usize)
     ensures { λ _. ⌜ now (map .exit) ≡ change-cells with-filler 0 1 place (now (map .entry)) ⌝ }
 {
@@ -73,7 +73,7 @@ fn fill_byte(map: &mut [u8], place: usize)
     }
 }
 
-// Each part of an average is one that either of its two has.
+// Returns the mark of an average of two samples: it has each part that one of their marks has.
 pub fn either_part(a: u8, b: u8) -> u8
     ensures { λ r. ⌜ r ≡ either-part a b ⌝ }
 {

@@ -38,7 +38,7 @@ join-fits a x n h l =
     let m : 2 ^ 32 * 2 ^ n ≤ 2 ^ 32 * 2 ^ 32 = mul-le-mul-left (2 ^ 32) (pow-mono l) in
     omega arith
 
--- Two numbers of n bits fit 32 bits, ..
+-- Two numbers of n bits fit 32 bits.
 pub pair-fits : (a b n : ℕ) → a < 2 ^ 16 → n < 16 → a * 2 ^ n + b % 2 ^ n < 2 ^ 32
 pair-fits a b n h l =
     let d : a * 2 ^ n + b % 2 ^ n < 2 ^ 16 * 2 ^ n = digits-lt h (mod-lt b (pow-pos n)) in
@@ -46,7 +46,7 @@ pair-fits a b n h l =
     let m : 2 ^ 16 * 2 ^ n ≤ 2 ^ 16 * 2 ^ 16 = mul-le-mul-left (2 ^ 16) (pow-mono le) in
     omega arith
 
--- .. and written as one are the bits of both.
+-- Two numbers of n bits, written as one, are the bits of both.
 pub pair-bits : (a b n : ℕ) → bits-of (2 * n) (a * 2 ^ n + b % 2 ^ n) ≡ bits-of n a ++ bits-of n b
 pair-bits a b n =
     let e : 2 * n ≡ n + n = omega arith in
@@ -209,7 +209,7 @@ next-run ls d k e =
     ∙ ap (λ j. run (number-bits ls d) (tabulate k 0 (λ k. k)) ++ (number-bits ls d k ++ bits-of (getD ls j 0) (getD d (k + 1) 0))) same
 
 module _ (ls d f f′ : List ℕ) (p q : Pending) (k : ℕ) (g : Going ls d f p f′ q k) where
-  -- There is room for them ..
+  -- There is room for the next numbers.
   pub room : k < 16 → 8 * p .pos + p .count + length (numbers-bits ls d) ≤ 8 * length f → 8 * q .pos + q .count + 2 * getD ls (k / 4) 0 ≤ 8 * length f′
   room l h =
       let n = getD ls (k / 4) 0 in
@@ -220,7 +220,7 @@ module _ (ls d f f′ : List ℕ) (p q : Pending) (k : ℕ) (g : Going ls d f p 
       let t : length (next-bits ls d k) ≡ length (bits-of n (getD d k 0)) + length (bits-of n (getD d (k + 1) 0)) = length-append (bits-of n (getD d k 0)) (bits-of n (getD d (k + 1) 0)) in
       omega (arith, g .wrote .grown, g .wrote .length-is, bits-length n (getD d k 0), bits-length n (getD d (k + 1) 0))
 
-  -- .. and then they are written.
+  -- With room for them, the next numbers are written.
   pub going-on : (f″ : List ℕ) (r : Pending) → k < 16 → Wrote f′ q (next-bits ls d k) f″ r → Going ls d f p f″ r (k + 2)
   going-on f″ r l w =
       record {

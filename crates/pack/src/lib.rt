@@ -14,7 +14,7 @@ pub use writers::Pending;
 
 // ── Words ──
 
-// 2^k.
+// Returns 2 to the power k.
 fn power(k: u32) -> u64
     requires { ⌜ k ≤ 32 ⌝ }
     ensures { λ r. ⌜ r ≡ 2 ^ k ⌝ }

@@ -10,6 +10,7 @@ use lib.Dec.{ltb, eqb}
 use lib.ListN.{length, take, drop}
 use lib.Seq.{length-take-le, take-at}
 use borrow.Author.Tests.{ltb-false, le-ltb, eqb-true, eqb-false, eq-eqb}
+use Rattle.rules.specs.Limits.{most-side, sample-bound}
 use Rattle.rules.specs.declared.answer.Answer.{Answer}
 use Rattle.rules.specs.Frame.{cells}
 use Rattle.rules.specs.V0.{decoded}
@@ -29,10 +30,10 @@ use Rattle.packed.specs.Proposal.{Proposal, frame-of, asked, early, long
 
 -- Decoding begins, with n scratch samples.
 pub record Begun (p : Proposal) (n : ℕ) : Type 0 where
-  pub wide : p .size .width ≤ 16_384
-  pub high : p .size .height ≤ 16_384
+  pub wide : p .size .width ≤ most-side
+  pub high : p .size .height ≤ most-side
   pub meant-enough : cells (p .size) ≤ length (p .meant)
-  pub dim : All (λ a. a < 16_384) (frame-of p)
+  pub dim : All (λ a. a < sample-bound) (frame-of p)
   pub scratch-enough : cells (p .size) ≤ n
   pub offsets-enough : p .size .height ≤ length (p .offsets)
   pub clean : Clean (p .stream) (p .offsets) (p .size)
@@ -71,7 +72,7 @@ answer-zero first t e =
     (λ p. by-test t (λ r. (eqb-true (first .number) 0 p, r)) (λ r. let x : 20 ≡ 0 = rw (p, r) at e in absurd (omega arith)))
     (λ p. absurd (eqb-false (first .number) 0 p (rw p at e)))
 
-dim-not-bright : {f : List ℕ} → All (λ a. a < 16_384) f → too-bright f ≡ false
+dim-not-bright : {f : List ℕ} → All (λ a. a < sample-bound) f → too-bright f ≡ false
 unfolding any-above
 dim-not-bright nil = refl
 dim-not-bright (more {a = a} l ls) = rw (le-ltb 16_383 a (omega arith), dim-not-bright ls)
@@ -98,7 +99,7 @@ module _ (p : Proposal) (n : ℕ) where
       let z = p .size in
       let b = before-zero (early p n) (verdict (p .stream) (p .offsets) z) (longer p) e in
       let t = early-zero (too-large z) (ltb (length (p .meant)) (cells z)) (too-bright (frame-of p)) (short-samples (asked p) (lent n none 0)) (b .0) in
-      let size = neither (ltb 16_384 (z .width)) (ltb 16_384 (z .height)) (t .0) in
+      let size = neither (ltb most-side (z .width)) (ltb most-side (z .height)) (t .0) in
       let lends = neither (ltb n (cells z)) (ltb (length (p .offsets)) (z .height)) (t .1 .1 .1) in
       record {
         wide = ltb-false _ _ (size .0);

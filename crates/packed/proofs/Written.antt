@@ -7,6 +7,7 @@ use native.Mathlib.Omega.{arith}
 use lib.IntN.{ℤ, pos, negsuc}
 use lib.ListN.{length, take, length-append}
 use lib.Seq.{length-take-le}
+use Rattle.rules.specs.Limits.{most-side, sample-bound}
 use Rattle.rules.specs.declared.answer.Size.{Size}
 use Rattle.rules.specs.declared.reader.Bits.{Bits}
 use Rattle.rules.specs.declared.v0.V0Head.{V0Head}
@@ -44,8 +45,8 @@ holds-clean s offsets z f h =
 
 -- ── The writer's own ──
 
-module _ (z : Size) (wide : z .width ≤ 16_384) (high : z .height ≤ 16_384) (meant : List ℕ) (enough : cells z ≤ length meant)
-    (dim : All (λ a. a < 16_384) (take (cells z) meant)) (others : List ℕ) where
+module _ (z : Size) (wide : z .width ≤ most-side) (high : z .height ≤ most-side) (meant : List ℕ) (enough : cells z ≤ length meant)
+    (dim : All (λ a. a < sample-bound) (take (cells z) meant)) (others : List ℕ) where
   abbrev f : List ℕ
   f = take (cells z) meant
 

@@ -1,6 +1,6 @@
--- Request 13: an outside program packs a frame as V0, by whatever means, and proposes what it found. The proposal is taken exactly if
--- the clean-frame profile takes it, the frame decoded equals the samples meant, and the stream is no longer than what the writer
--- makes of them. The verdict rests on the proposal and not on how it was found.
+-- A proposal (docs/RULES.md, "Packed by an outside optimiser"): an outside program packs a frame as V0, by whatever means, and
+-- proposes what it found. The proposal is taken exactly if it is clean, the frame decoded equals the samples meant, and the stream
+-- is no longer than what the writer makes of them. The verdict rests on the proposal and not on how it was found.
 use Prim.Native.Nat.{ℕ}
 use mathlib.Core.Bool.{Bool, true, false, cond, _&&_}
 use mathlib.Core.Path.{_≡_}
@@ -54,7 +54,7 @@ early p n =
 unfoldable pub longer : Proposal → Bool
 longer p = ltb (length (stream-for (p .size) (frame-of p))) (length (p .stream))
 
--- After them the profile's 17, 18 and 19 with their rows, then 21. Done means that decoding begins.
+-- After them the clean-frame check's 17, 18 and 19 with their rows, then 21. Done means that decoding begins.
 unfoldable pub before : Proposal → ℕ → Answer
 before p n =
     let v = verdict (p .stream) (p .offsets) (p .size) in

@@ -1,1 +1,2 @@
-// What an outside optimiser packed: the verdict on a proposal as definitions, and what follows from them. `frames` holds the code.
+// What an outside optimiser packed: the verdict on a proposal as definitions, and what follows from them. `transcode` holds the
+// code.

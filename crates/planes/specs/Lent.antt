@@ -4,13 +4,14 @@ use mathlib.Core.Path.{_≡_}
 use mathlib.Core.List.{List, _++_}
 use lib.ListN.{length, take, drop}
 use Rattle.rules.specs.declared.answer.Size.{Size}
+use Rattle.rules.specs.Limits.{most-side}
 use Rattle.rules.specs.Frame.{cells}
 use Rattle.planes.specs.Planes.{evens, odds, even-count, odd-count, weave}
 
 -- A size within the limits.
 pub record Within (z : Size) : Type 0 where
-  pub wide : z .width ≤ 16_384
-  pub high : z .height ≤ 16_384
+  pub wide : z .width ≤ most-side
+  pub high : z .height ≤ most-side
 
 -- A frame, and room for its planes; or its planes, and room for the frame.
 pub record Lends (z : Size) (from to : List ℕ) : Type 0 where
@@ -22,8 +23,8 @@ pub record Lends (z : Size) (from to : List ℕ) : Type 0 where
 
 -- Row k of so many rows of w samples, and a half that holds them all.
 pub record RowOfHalf (w rows k half : ℕ) : Type 0 where
-  pub wide : w ≤ 16_384
-  pub few : rows ≤ 16_384
+  pub wide : w ≤ most-side
+  pub few : rows ≤ most-side
   pub below : k < rows
   pub room : rows * w ≤ half
 

@@ -1,4 +1,4 @@
--- Request 07's rule as definitions, and what the functions ask of what they are lent.
+-- Colour planes (docs/RULES.md, "Colour planes") as definitions, and what the functions ask of what they are lent.
 pub mod Planes
 pub mod Lent
 pub mod Examples

@@ -59,12 +59,12 @@ module _ (a : Plain.Ask) (l : Plain.Lent) where
     unfolding map-after
     map-plain buffer = rw (eq-eqb (answer a l .number) 0 done)
 
-    -- The direct decoder's answer is done, with no word missing ..
+    -- The direct decoder's answer is done, with no word missing.
     pub answer-plain : a .decoder ≡ Plain.direct → answer a l ≡ Plain.answer a l
     unfolding Plain.answer Plain.stream-answer
     answer-plain e = let t = done-taken done in taken-done t ∙ rw (t .passed, e, t .clean .no-filler)
 
-    -- .. and the map that it leaves is all 0.
+    -- The map that the direct decoder leaves is all 0.
     pub map-all-0 : a .decoder ≡ Plain.direct → (buffer : List ℕ) → map-after a l buffer ≡ replicate (cells (a .size)) 0 ++ drop (cells (a .size)) buffer
     unfolding Plain.map-after Plain.unless-refused Plain.frame-marks
     map-all-0 e buffer =
@@ -111,7 +111,7 @@ pub lent-kept : (f : List ℕ → List ℕ) → ((m : List ℕ) → f m ≡ m) �
 lent-kept f h none = refl
 lent-kept f h (some m) = ap some (sym (h m))
 
--- An answer that isn't done leaves all as it was: a refusal of the plain call's ..
+-- A refusal of the plain call leaves all as it was.
 kept-yields : (a : Plain.Ask) (found : Plain.Buffers) (r : Answer) → r ≡ answer a (Plain.lengths found) → r .number ≢ 0 → Yields a found r found
 kept-yields a found r e ne =
     let l = Plain.lengths found in
@@ -127,7 +127,7 @@ pub refused-yields : (a : Plain.Ask) (found : Plain.Buffers) (k : ℕ) → Plain
 refused-yields a found k e ne r q =
     kept-yields a found r (q ∙ sym (answer-refused a (Plain.lengths found) k e ne)) (λ z. ne (sym (ap (λ v. v .number) q) ∙ z))
 
--- .. or a fault. Else the frame's samples are the first of their buffer, and the first bytes of a map are 0.
+-- A fault leaves all as it was. Else the frame's samples are the first of their buffer, and the first bytes of a map are 0.
 module _ (a : Plain.Ask) (direct : a .decoder ≡ Plain.direct) (l : Plain.Lent) (ok : Plain.refusal a l ≡ 0) (r : Answer) (e : r ≡ verdict (a .stream) (a .offsets) (a .size)) where
   pub checked-answer : r ≡ answer a l
   checked-answer = e ∙ sym (answer-verdict a l ok)

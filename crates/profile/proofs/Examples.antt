@@ -125,12 +125,12 @@ missing = refl
 
 -- ── 17 and the map ──
 
--- In row 1 it means nothing at width 2, where samples that spilled over from row 0 fill what is skipped ..
+-- 17 in row 1 means no mark at width 2, where samples that spilled over from row 0 fill what is skipped.
 pub filled-before : v0-map (down ++ up) (0 ∷ 4 ∷ []) (size 2 2) ≡ replicate 4 0
 unfolding v0-map frame exchange exchange-rows exchange-columns swap rows row-blocks blocks write-all write apply put change-cells fresh-row operated operate head bounded predictor length-of length-bits residual-bits sample samples fetched counted held read fields four signed modulo read-residual
 filled-before = refl
 
--- .. nor in the second block at width 17, whose one sample within the row isn't skipped.
+-- 17 in row 1 means no mark in the second block at width 17, whose one sample within the row isn't skipped.
 pub none-skipped : (told (verdict (down-down ++ down-up) (0 ∷ 8 ∷ []) (size 17 2)) ≡ 17 ∷ 1 ∷ 0 ∷ [])
     × (v0-map (down-down ++ down-up) (0 ∷ 8 ∷ []) (size 17 2) ≡ replicate 34 0)
 unfolding v0-map verdict rows-verdict row-fault blocks-fault block-fault first-fault fits all-fit frame exchange exchange-rows exchange-columns swap rows row-blocks blocks write-all write apply put change-cells fresh-row operated operate head bounded predictor length-of length-bits residual-bits sample samples fetched counted held read fields four signed modulo read-residual

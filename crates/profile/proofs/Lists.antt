@@ -63,10 +63,10 @@ module _ (c : Checked) (done : c .answered .number ≡ 0) where
   passed : answer (c .ask) lent .number ≡ 0
   passed = sym (ap (λ v. v .number) (c .yields .answered)) ∙ done
 
-  -- No word was missing ..
+  -- No word was missing.
   pub done-answer : c .answered ≡ Plain.done
   done-answer = c .yields .answered ∙ taken-done (c .ask) lent (done-taken (c .ask) lent passed)
 
-  -- .. and the first N bytes of a map that was lent are 0.
+  -- The first N bytes of a map that was lent are 0.
   pub done-map : (m : List ℕ) → c .map ≡ some m → c .left-map ≡ some (replicate (cells (c .ask .size)) 0 ++ drop (cells (c .ask .size)) m)
   done-map m e = c .yields .map ∙ ap (Option·map (map-after (c .ask) lent)) e ∙ ap some (map-all-0 (c .ask) lent passed (c .direct) m)

@@ -36,7 +36,7 @@ use Rattle.profile.specs.Profile.{fits, all-fit, first-fault, block-faul
 
 -- ── A clean frame ──
 
--- The three conditions of request 11, in its own words.
+-- The three conditions on a clean frame (docs/RULES.md, "Clean frames"), one by one and without an order.
 pub record Clean (s offsets : List ℕ) (z : Size) : Type 0 where
   pub downward : (row : ℕ) → row < 2 → row < z .height → NoUpward s offsets z row
   pub lengths : (row : ℕ) → row < z .height → EachInRow (λ h b. All (Between 0 16) (h .row .lengths)) s offsets z row
@@ -201,7 +201,7 @@ module _ (s offsets : List ℕ) (z : Size) where
 -- ── Missing words ──
 
 module _ (s : List ℕ) (first : ℕ) (predict : ℕ → Bool → ℕ → Predictor) where
-  -- No word was missing by the end of each block if none was by the end of the last ..
+  -- No word was missing by the end of each block if none was by the end of the last.
   blocks-there : (n col : ℕ) (st : V0Row) → V0.blocks s first predict n col st .bits .filler ≡ 0
       → (st .bits .filler ≡ 0) × EachBlock s first predict (λ h b. b .filler ≡ 0) n col st
   unfolding V0.blocks EachBlock
@@ -210,7 +210,7 @@ module _ (s : List ℕ) (first : ℕ) (predict : ℕ → Bool → ℕ → Predic
       let q = blocks-there n (col + 16) (after s first predict col st) e in
       (leads-kept (block-traced s first predict col st .leads) (q .0), (q .0, q .1))
 
-  -- .. and the other way round.
+  -- No word was missing by the end of the last block if none was by the end of each.
   there-blocks : (n col : ℕ) (st : V0Row) → st .bits .filler ≡ 0 → EachBlock s first predict (λ h b. b .filler ≡ 0) n col st
       → V0.blocks s first predict n col st .bits .filler ≡ 0
   unfolding V0.blocks EachBlock

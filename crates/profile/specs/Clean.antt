@@ -1,5 +1,5 @@
--- A call of the V0 decoder for clean frames: it is the direct decoder's, with the profile's verdict after its refusals 1, 3 and 4 and
--- before anything is written.
+-- A call of the V0 decoder for clean frames: it is the direct decoder's, with the verdict on clean frames after its refusals 1, 3
+-- and 4 and before anything is written.
 use Prim.Native.Nat.{ℕ}
 use mathlib.Core.Bool.{Bool, cond}
 use mathlib.Core.Path.{_≡_}

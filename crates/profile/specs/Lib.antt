@@ -1,4 +1,4 @@
--- The clean-frame profile: what is wrong with a V0 frame, and a call that takes only frames with which nothing is wrong.
+-- Clean frames: what is wrong with a V0 frame, and a call that takes only frames with which nothing is wrong.
 pub mod Profile
 pub mod Clean
 pub mod Examples

@@ -1,7 +1,7 @@
--- Request 11: the clean-frame profile takes a V0 frame if no block in rows 0 and 1 has direction 1, all four lengths of every block
--- lie in 0 to 16 after its operations, and no filler word is fetched by the direct decoder. Else it says what is wrong: the first
--- fault in row order, then in block order, then in the sequence 17, 18, 19. It is read off the direct decoder's own parse: the head
--- of each block, and the reader's state at the block's end.
+-- Clean frames (docs/RULES.md, "Clean frames"): the check takes a V0 frame if no block in rows 0 and 1 has direction 1, all four
+-- lengths of every block lie in 0 to 16 after its operations, and no filler word is fetched by the direct decoder. Else it says
+-- what is wrong: the first fault in row order, then in block order, then in the sequence 17, 18, 19. It is read off the direct
+-- decoder's own parse: the head of each block, and the reader's state at the block's end.
 use Prim.Native.Nat.{ℕ, zero, suc, _+_, _*_}
 use mathlib.Core.Bool.{Bool, true, false, cond, not, _&&_}
 use mathlib.Core.List.{List, [], _∷_}

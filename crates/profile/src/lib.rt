@@ -1,1 +1,1 @@
-// The clean-frame profile of V0: its definitions and what follows from them. `v0_profile` holds the code.
+// Clean V0 frames (docs/RULES.md, "Clean frames"): the definitions, and what follows from them. `v0_profile` holds the code.

@@ -1,7 +1,7 @@
--- Demand 3 at work. For every input there is a call of each decoder, of V0 into V2 and of both ways between frame and planes, and after
--- every list of calls on a buffer each call may follow, lent all of the buffer or its first samples: so the claim speaks of lists of
--- every length, on buffers longer than a frame too. Then two calls that are alike and end with done over buffers that differ: document
--- 01's frame of 2 by 2.
+-- Promise P3, no earlier frame, at work. For every input there is a call of each decoder, of V0 into V2 and of both ways between
+-- frame and planes, and after every list of calls on a buffer each call may follow, lent all of the buffer or its first samples: so
+-- the claim speaks of lists of every length, on buffers longer than a frame too. Then two calls that are alike and end with done
+-- over buffers that differ: the worked example's frame of 2 by 2.
 use Prim.Native.Nat.{ℕ, _+_, _%_}
 use mathlib.Core.Path.{_≡_, refl, sym, ap, _∙_}
 use mathlib.Core.Logic.{inl}
@@ -271,7 +271,7 @@ from-planes-call planes w h samples =
 pub one-more : {C : Type 0} {step : C → Step} {b x : List ℕ} → Calls step b x → (k : ℕ) (c : C) → step c .found ≡ take k x → Calls step b (step c .left ++ drop k x)
 one-more {x = x} cs k c e = call cs c (drop k x) (sym (rw e (take-append-drop k x)))
 
--- ── Document 01's frame of 2 by 2 ──
+-- ── The worked example's frame of 2 by 2 ──
 
 abbrev frame-stream : List ℕ
 frame-stream = 0x00 ∷ 0x00 ∷ 0x00 ∷ 0x80 ∷ 0x18 ∷ 0x20 ∷ 0xA0 ∷ 0x7F ∷ 0x00 ∷ 0x00 ∷ 0x70 ∷ 0x00 ∷ []

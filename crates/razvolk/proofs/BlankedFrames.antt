@@ -115,7 +115,7 @@ steps (moving-to-planes c low) = to-step (to c) low
 steps (moving-back c low) = from-step (from c) low
 steps (checking c) = packed-step (checks c)
 
--- Demand 3 holds for such lists.
+-- Promise P3, no earlier frame, for such lists.
 abbrev pub Isolation : Type 0
 Isolation = Rules.Isolation steps ended
 

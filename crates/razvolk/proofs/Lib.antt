@@ -1,4 +1,4 @@
--- All that is promised (`Promises`), the claims of the exports that it holds, and demand 3's at work.
+-- All that is promised (`Promises`), the claims of the exports that it holds, and P3's at work.
 pub mod Promises
 pub mod Isolation
 pub mod BlankedFrames

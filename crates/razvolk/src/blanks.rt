@@ -22,7 +22,8 @@ pub extern "C" fn razvolk_blank_with(
     frames::blank_with(samples, map, width, height, fill, runs)
 }
 
-// The same with none: the nearest unmarked sample to the left, of the row and of the column's parity.
+// Sets the samples that a map marks to the nearest unmarked sample to their left, of their row and of their column's parity, or to
+// 0 if there is none; and lists their runs. Refusals 1, 3, 4, 14 and 13, which change nothing.
 #[no_mangle]
 pub extern "C" fn razvolk_blank(
     samples: &mut [u16],

@@ -20,7 +20,7 @@ pub extern "C" fn razvolk_decode_v0_clean(
     samsung::decode_v0_clean(src, offsets, width, height, samples)
 }
 
-// The same, with the map, which is all 0. Refusals 1, 3, 4 and 17 to 19.
+// Decodes a clean V0 frame over what `samples` holds, and its map, which is all 0. Refusals 1, 3, 4 and 17 to 19.
 #[no_mangle]
 pub extern "C" fn razvolk_decode_v0_clean_map(
     src: &[u8],

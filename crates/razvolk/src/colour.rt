@@ -11,8 +11,8 @@ pub extern "C" fn razvolk_to_planes(
     height: usize,
     planes: &mut [u16],
 ) -> Answer
-    ensures { λ r. ⌜ r ≡ answer width height (now (samples .entry)) (now (planes .entry)) ⌝ }
-    ensures { λ _. ⌜ now (planes .exit) ≡ after to-planes width height (now (samples .entry)) (now (planes .entry)) ⌝ }
+    ensures answered { λ r. ⌜ r ≡ answer width height (now (samples .entry)) (now (planes .entry)) ⌝ }
+    ensures planes { λ _. ⌜ now (planes .exit) ≡ after to-planes width height (now (samples .entry)) (now (planes .entry)) ⌝ }
 {
     frames::to_planes(samples, width, height, planes)
 }
@@ -24,8 +24,8 @@ pub extern "C" fn razvolk_from_planes(
     height: usize,
     samples: &mut [u16],
 ) -> Answer
-    ensures { λ r. ⌜ r ≡ answer width height (now (planes .entry)) (now (samples .entry)) ⌝ }
-    ensures { λ _. ⌜ now (samples .exit) ≡ after from-planes width height (now (planes .entry)) (now (samples .entry)) ⌝ }
+    ensures answered { λ r. ⌜ r ≡ answer width height (now (planes .entry)) (now (samples .entry)) ⌝ }
+    ensures samples { λ _. ⌜ now (samples .exit) ≡ after from-planes width height (now (planes .entry)) (now (samples .entry)) ⌝ }
 {
     frames::from_planes(planes, width, height, samples)
 }

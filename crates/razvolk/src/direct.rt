@@ -19,7 +19,8 @@ pub extern "C" fn razvolk_decode_v0_reference(
     samsung::decode_v0_reference(src, offsets, width, height, samples)
 }
 
-// The same, and what each sample rests on: old values, filler, both or neither. Refusals 1, 3 and 4.
+// Decodes a V0 frame over what `samples` holds, and tells in `map` what each sample rests on: old values, filler, both or neither.
+// Refusals 1, 3 and 4.
 #[no_mangle]
 pub extern "C" fn razvolk_decode_v0_reference_map(
     src: &[u8],

@@ -19,7 +19,8 @@ pub extern "C" fn razvolk_decode_v2(
     samsung::decode_v2(src, width, height, samples)
 }
 
-// The same, and what each sample rests on: old values, filler, both or neither. Refusals 1 to 8.
+// Decodes a V2 frame over what `samples` holds, and tells in `map` what each sample rests on: old values, filler, both or neither.
+// Refusals 1 to 8.
 #[no_mangle]
 pub extern "C" fn razvolk_decode_v2_map(
     src: &[u8],

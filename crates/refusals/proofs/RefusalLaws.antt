@@ -6,6 +6,7 @@ use native.Mathlib.Omega.{arith}
 use native.Mathlib.Nat.{mul-le-mul, mul-zero}
 use lib.Dec.{ltb}
 use borrow.Author.Tests.{ltb-false}
+use Rattle.rules.specs.Limits.{most-side}
 use Rattle.rules.specs.declared.answer.Size.{Size}
 use Rattle.rules.specs.Frame.{cells}
 use Rattle.rules.specs.V0.{blocks-in}
@@ -16,18 +17,18 @@ use Rattle.refusals.specs.Lending.{short}
 use Rattle.rules.proofs.Tests.{neither}
 
 -- A frame within the limits has few enough samples.
-pub cells-most : (w h : ℕ) → w ≤ 16_384 → h ≤ 16_384 → w * h ≤ 268_435_456
+pub cells-most : (w h : ℕ) → w ≤ most-side → h ≤ most-side → w * h ≤ 268_435_456
 cells-most w h p q = mul-le-mul p q
 
 -- A size that is not too large is within the limits.
-pub size-most : (z : Size) → too-large z ≡ false → (z .width ≤ 16_384) × (z .height ≤ 16_384)
+pub size-most : (z : Size) → too-large z ≡ false → (z .width ≤ most-side) × (z .height ≤ most-side)
 unfolding too-large
 size-most z e = let q = neither _ _ e in (ltb-false _ _ (q .0), ltb-false _ _ (q .1))
 
 -- What a call that is not refused may count on.
 pub record Room (z : Size) (samples : ℕ) (offsets map scratch : Lending) : Type 0 where
-  pub wide : z .width ≤ 16_384
-  pub high : z .height ≤ 16_384
+  pub wide : z .width ≤ most-side
+  pub high : z .height ≤ most-side
   pub few : z .width * z .height ≤ 268_435_456
   pub samples-enough : cells z ≤ samples
   pub offsets-enough : short offsets (z .height) ≡ false
@@ -69,8 +70,8 @@ long-enough m n e = ltb-false m n e
 pub no-late-rows : (n h : ℕ) → h < 2 → 0 ≡ n * (h - 2)
 no-late-rows n h l = let e : h - 2 ≡ 0 = omega arith in rw (e, mul-zero)
 
-pub scratch-fits : (w h : ℕ) → w ≤ 16_384 → h ≤ 16_384 → blocks-in w * (h - 2) ≤ 16_777_216
+pub scratch-fits : (w h : ℕ) → w ≤ most-side → h ≤ most-side → blocks-in w * (h - 2) ≤ 16_777_216
 scratch-fits w h p q =
     let a : blocks-in w ≤ 1_024 = omega arith in
-    let b : h - 2 ≤ 16_384 = omega arith in
+    let b : h - 2 ≤ most-side = omega arith in
     mul-le-mul a b

@@ -1,11 +1,10 @@
 // Refusals 1 to 4, tested before anything is written.
 ghost use mathlib.Core.Path.{_≡_};
-ghost use mathlib.Core.Bool.{false, _||_};
+ghost use mathlib.Core.Bool.{false};
 ghost use Prim.Native.Nat.{_≤_};
-ghost use lib.Dec.{ltb};
-ghost use Rattle.rules.specs.Answer.{refused, v2, too-large, too-small, scratch-bytes, first-of};
-ghost use Rattle.rules.specs.Frame.{cells};
-ghost use Rattle.refusals.specs.Lending.{short};
+ghost use Rattle.rules.specs.Limits.{most-side};
+ghost use Rattle.rules.specs.Answer.{refused, v2, too-large, too-small, scratch-bytes};
+ghost use Rattle.refusals.specs.Lending.{short, first-refusal};
 ghost use Rattle.refusals.specs.declared.Lending.the-variants.{Nothing, Length};
 use rules::Answer;
 use rules::Size;
@@ -55,7 +54,7 @@ fn is_short(lent: Lending, needed: usize) -> bool
 
 // The two-phase scratch: a byte for each block of rows 2 on.
 fn bytes_of_scratch(size: Size) -> usize
-    requires { ⌜ (size .width ≤ 16_384) × (size .height ≤ 16_384) ⌝ }
+    requires { ⌜ (size .width ≤ most-side) × (size .height ≤ most-side) ⌝ }
     ensures { λ r. ⌜ r ≡ scratch-bytes size ⌝ }
 {
     if size.height < 2 {
@@ -73,7 +72,7 @@ pub fn refuse(
     map: Lending,
     scratch: Lending,
 ) -> u32
-    ensures { λ r. ⌜ r ≡ first-of (too-large size) small (ltb samples (cells size) || short offsets (size .height)) (short map (cells size) || short scratch (scratch-bytes size)) ⌝ }
+    ensures { λ r. ⌜ r ≡ first-refusal size small samples offsets map scratch ⌝ }
 {
     if is_too_large(size) {
         return Answer::TOO_LARGE;
@@ -97,9 +96,10 @@ pub fn refuse(
     0
 }
 
-// The same for a V0 decoder that takes no scratch. Every V0 frame's offsets are lent, and none is too small.
+// The first of refusals 1, 3 and 4 that holds for a V0 decoder that takes no scratch, or 0. Every V0 frame's offsets are lent, and
+// none is too small.
 pub fn refuse_direct(size: Size, samples: usize, offsets: usize, map: Lending) -> u32
-    ensures { λ r. ⌜ r ≡ first-of (too-large size) false (ltb samples (cells size) || short (Length offsets) (size .height)) (short map (cells size) || short Nothing (scratch-bytes size)) ⌝ }
+    ensures { λ r. ⌜ r ≡ first-refusal size false samples (Length offsets) map Nothing ⌝ }
 {
     refuse(
         size,
@@ -111,9 +111,9 @@ pub fn refuse_direct(size: Size, samples: usize, offsets: usize, map: Lending) -
     )
 }
 
-// For the V2 decoder, which takes neither offsets nor scratch.
+// The first of refusals 1 to 4 that holds for the V2 decoder, which takes neither offsets nor scratch, or 0.
 pub fn refuse_v2(size: Size, samples: usize, map: Lending) -> u32
-    ensures { λ r. ⌜ r ≡ first-of (too-large size) (too-small v2 size) (ltb samples (cells size) || short Nothing (size .height)) (short map (cells size) || short Nothing (scratch-bytes size)) ⌝ }
+    ensures { λ r. ⌜ r ≡ first-refusal size (too-small v2 size) samples Nothing map Nothing ⌝ }
 {
     refuse(
         size,
@@ -125,9 +125,10 @@ pub fn refuse_v2(size: Size, samples: usize, map: Lending) -> u32
     )
 }
 
-// For what decodes nothing: it takes neither, and no frame is too small for it.
+// The first of refusals 1, 3 and 4 that holds for a call that decodes nothing, or 0: it takes neither offsets nor scratch, and no
+// frame is too small for it.
 pub fn refuse_lent(size: Size, samples: usize, map: Lending) -> u32
-    ensures { λ r. ⌜ r ≡ first-of (too-large size) false (ltb samples (cells size) || short Nothing (size .height)) (short map (cells size) || short Nothing (scratch-bytes size)) ⌝ }
+    ensures { λ r. ⌜ r ≡ first-refusal size false samples Nothing map Nothing ⌝ }
 {
     refuse(
         size,
@@ -139,9 +140,9 @@ pub fn refuse_lent(size: Size, samples: usize, map: Lending) -> u32
     )
 }
 
-// And for a V0 decoder that takes scratch, and makes no map.
+// The first of refusals 1, 3 and 4 that holds for a V0 decoder that takes scratch and makes no map, or 0.
 pub fn refuse_two_phase(size: Size, samples: usize, offsets: usize, scratch: usize) -> u32
-    ensures { λ r. ⌜ r ≡ first-of (too-large size) false (ltb samples (cells size) || short (Length offsets) (size .height)) (short Nothing (cells size) || short (Length scratch) (scratch-bytes size)) ⌝ }
+    ensures { λ r. ⌜ r ≡ first-refusal size false samples (Length offsets) Nothing (Length scratch) ⌝ }
 {
     refuse(
         size,

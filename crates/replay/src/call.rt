@@ -95,7 +95,7 @@ fn read_offsets(call: &[u8], offsets: &mut [u32]) {
     }
 }
 
-// V2 has one decoder, whatever `phases`.
+// Decodes a call by the decoder that it names: V0's two-phase one if `phases`, V2's whatever `phases`.
 fn decode(call: &[u8], src: &[u8], offsets: &[u32], out: &mut [u16], phases: bool) -> Answer {
     let width = word(call, 4);
     let height = word(call, 8);

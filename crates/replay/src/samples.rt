@@ -49,7 +49,7 @@ pub(crate) fn sum(samples: &[u16]) -> usize {
     sum
 }
 
-// The sum goes on over bytes, ..
+// Goes on with a sum over bytes.
 pub(crate) fn sum_bytes(first: usize, bytes: &[u8]) -> usize {
     let mut sum = first;
     let mut i: usize = 0;
@@ -60,7 +60,7 @@ pub(crate) fn sum_bytes(first: usize, bytes: &[u8]) -> usize {
     sum
 }
 
-// .. and over offsets.
+// Goes on with a sum over offsets.
 pub(crate) fn sum_offsets(first: usize, offsets: &[u32]) -> usize {
     let mut sum = first;
     let mut i: usize = 0;

@@ -1,4 +1,4 @@
--- Document 01's examples hold of the rules, by computing.
+-- The worked examples (docs/RULES.md, "Proved examples") hold of the rules, by computing.
 use Prim.Native.Nat.{ℕ}
 use mathlib.Core.Path.{_≡_, refl}
 use mathlib.Core.List.{map}

@@ -66,11 +66,11 @@ run-counts s {b = b} (reads {ps = ps} n r) l =
     omega (arith, one, rest, missing-append s (fetches b n) ps)
 run-counts s (resets p r) l = run-counts s r l
 
--- So it never falls ..
+-- The count of missing words never falls.
 pub never-falls : (s : List ℕ) {b c : Bits} {ps : List ℕ} → Run s b ps c → b .filler ≤ most-filler → b .filler ≤ c .filler
 never-falls s r l = omega (arith, run-counts s r l)
 
--- .. and from 0 on it is 0 exactly if every word was there.
+-- The count of missing words, from 0 on, is 0 exactly if every word was there.
 pub none-missing : (s : List ℕ) {b c : Bits} {ps : List ℕ} → Run s b ps c → b .filler ≡ 0
     → (c .filler ≡ 0 → missing-of s ps ≡ 0) × (missing-of s ps ≡ 0 → c .filler ≡ 0)
 none-missing s r z = let e = run-counts s r (omega arith) in (λ q. omega arith, λ q. omega arith)

@@ -102,16 +102,16 @@ unfolding V0.exchange-rows
 exchange-low w zero row h = h
 exchange-low w (suc n) row h = exchange-low w n (row + 2) (columns-low w row (w / 2) 0 h)
 
--- V0 whose count of missing words is 0 has no byte with 2 ..
+-- A V0 frame whose count of missing words is 0 has no map byte with 2.
 pub v0-no-filler : (s offsets : List ℕ) (z : Size) → V0.frame-filler s offsets z ≡ 0 → All Low (v0-map s offsets z)
 unfolding V0.frame-filler v0-map V0.frame V0.exchange
 v0-no-filler s offsets z e = exchange-low (z .width) (z .height / 2) 0 (write-low (rows-clear s offsets z (z .height) 0 0 e .1) (all-replicate Low (cells z) (lit< tt)))
 
--- .. so that its map is that of first parts alone, as a map was that knew no filler ..
+-- Such a V0 frame's map is that of first parts alone.
 pub v0-as-before : (s offsets : List ℕ) (z : Size) → V0.frame-filler s offsets z ≡ 0 → v0-map s offsets z ≡ V0.frame V0Old.old-kind s offsets z (all-old z)
 v0-as-before s offsets z e = first-parts-are (v0-no-filler s offsets z e) (V0Old.v0-first-parts s offsets z)
 
--- .. and, without an upward block in rows 0 and 1, only bytes 0.
+-- Such a V0 frame without an upward block in rows 0 and 1 has only map bytes 0.
 pub v0-all-0 : (s offsets : List ℕ) (z : Size) → V0.frame-filler s offsets z ≡ 0 → ((row : ℕ) → row < 2 → row < z .height → NoUpward s offsets z row)
     → All (λ x. x ≡ 0) (v0-map s offsets z)
 v0-all-0 s offsets z e early = both-parts (v0-no-filler s offsets z e) (no-marks s offsets z early)
@@ -167,18 +167,18 @@ v2-apply-low nil h = h
 v2-apply-low (more {a = b} e es) {f} h =
     v2-apply-low es (rw e (sets-low 16 0 (b .place) (λ i. V2.base-cell v2-marks f (b .base i)) (λ i. base-low h (b .base i)) h))
 
--- Accepted V2 has no byte with 2 ..
+-- An accepted V2 frame has no map byte with 2.
 pub v2-no-filler : (s : List ℕ) (z : Size) → V2.read-frame s z .answer .number ≡ 0 → All Low (v2-map s z)
 unfolding v2-map V2.frame V2.read-frame
 v2-no-filler s z e =
     let x = V2.header s in
     v2-apply-low (v2-rows-clear s (x .hdr) (z .width) (z .height) 0 (x .bits) e) (all-replicate Low (cells z) (lit< tt))
 
--- .. its map is that of first parts alone ..
+-- An accepted V2 frame's map is that of first parts alone.
 pub v2-as-before : (s : List ℕ) (z : Size) → V2.read-frame s z .answer .number ≡ 0 → v2-map s z ≡ V2.frame V2Old.old-kind s z (all-old z)
 v2-as-before s z e = first-parts-are (v2-no-filler s z e) (V2Old.v2-first-parts s z)
 
--- .. and, at a width divisible by 16, only bytes 0.
+-- An accepted V2 frame of a width divisible by 16 has only map bytes 0.
 pub v2-all-0 : (s : List ℕ) (z : Size) → 20 ≤ z .width → z .width % 16 ≡ 0 → V2.read-frame s z .answer .number ≡ 0
     → (i : ℕ) → i < cells z → getD (v2-map s z) i 0 ≡ 0
 v2-all-0 s z wide whole e i l =

@@ -10,12 +10,12 @@ pub either-first : (a b : ℕ) → old-part (either-part a b) ≡ max (old-part 
 unfolding either-part
 either-first a b = omega (arith, or-step a b)
 
--- An average that rests on bytes of the stream only is of two that do ..
+-- An average that rests on bytes of the stream only is of two that do.
 pub either-none : (a b : ℕ) → either-part a b ≡ 0 → (a ≡ 0) × (b ≡ 0)
 unfolding either-part
 either-none a b e = (omega (arith, or-add-and a b, and-le-r a b), omega (arith, or-add-and a b, and-le-l a b))
 
--- .. and one of two that do does.
+-- An average of two that rest on bytes of the stream only rests on those only.
 pub none-either : (a b : ℕ) → a ≡ 0 → b ≡ 0 → either-part a b ≡ 0
 unfolding either-part
 none-either a b p q = rw (p, q)

@@ -1,4 +1,4 @@
--- Pinned examples. Beside document 01's own (Examples.antt), one list with one claim pins every definition of specs/: each
+-- Pinned examples. Beside the worked examples (Examples.antt), one list with one claim pins every definition of specs/: each
 -- constant, entry of a table, field's width, order of tests, case and tail has an example here that fails if it changes. What
 -- no decoder's run shows is pinned on the definition that says it. Each file has the examples of one file of specs/, in its
 -- order and by the definitions' names; `make mutate` tries that they hold every definition.

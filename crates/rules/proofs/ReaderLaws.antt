@@ -370,13 +370,13 @@ pub four-fields : (s : List ℕ) (n : ℕ) (b : Bits) → four s n b ≡ record 
 unfolding four
 four-fields s n b = refl
 
--- They are four reads ..
+-- Four fields are four reads.
 pub four-reads : (s : List ℕ) (n : ℕ) (bits : Bits) (a b c d : Got) → a ≡ read s bits n → b ≡ read s (a .bits) n → c ≡ read s (b .bits) n → d ≡ read s (c .bits) n
     → record { values = a .value ∷ b .value ∷ c .value ∷ d .value ∷ []; bits = d .bits } ≡ four s n bits
 unfolding four fields
 four-reads s n bits a b c d ea eb ec ed = rw (← ea, ← eb, ← ec, ← ed)
 
--- .. or two pairs.
+-- Four fields are two pairs of reads.
 pub four-pairs : (s : List ℕ) (n : ℕ) (b : Bits) → four s n b
     ≡ (let f = fields s (n ∷ n ∷ []) b in let e = fields s (n ∷ n ∷ []) (f .bits) in record { values = f .values ++ e .values; bits = e .bits })
 unfolding four fields

@@ -1,5 +1,5 @@
--- Document 01, "Answer record": the answer among 1 to 4 is the least number whose test holds, and none of them only if none does.
--- What a call that was not refused may count on, what the stream may answer then, and that 1 to 4 change no buffer.
+-- Refusals (docs/RULES.md, "Answers"): the answer among 1 to 4 is the least number whose test holds, and none of them only if none
+-- does. What a call that was not refused may count on, what the stream may answer then, and that 1 to 4 change no buffer.
 use Prim.Native.Nat.{ℕ, zero, suc, _+_, _/_, _<_, _≤_}
 use mathlib.Core.Logic.{_⊎_, inl, inr, _≢_}
 use mathlib.Core.Bool.{Bool, true, false, _||_}
@@ -11,6 +11,7 @@ use lib.ListN.{length, getD, take}
 use lib.Seq.{getD-take}
 use lib.Dec.{ltb, eqb, lit≤}
 use borrow.Author.Tests.{ltb-true, ltb-false, eqb-true, eqb-false, ne-eqb}
+use Rattle.rules.specs.Limits.{most-side}
 use Rattle.rules.specs.declared.answer.Answer.{Answer}
 use Rattle.rules.specs.declared.answer.Size.{Size}
 use Rattle.rules.specs.declared.reader.Bits.{Bits}
@@ -129,7 +130,7 @@ module _ (a : Ask) (l : Lent) (ok : refusal a l ≡ 0) where
   fails = refusal-least a l .none ok
 
   -- The size is within the limits.
-  pub size-most : (a .size .width ≤ 16_384) × (a .size .height ≤ 16_384)
+  pub size-most : (a .size .width ≤ most-side) × (a .size .height ≤ most-side)
   unfolding too-large
   size-most = let q = neither _ _ (fails 1) in (ltb-false _ _ (q .0), ltb-false _ _ (q .1))
 

@@ -32,7 +32,7 @@ module _ (s : List ℕ) where
       (traced-map (λ x. record { lengths = operated s op l b .length ∷ x .lengths; bits = x .bits })
       (operate-traced ops ls (operated s op l b .bits))))
 
-  -- A block's head takes at most nine fields ..
+  -- A block's head takes at most nine fields.
   pub head-traced : (st : V0Row) → Traced s 9 (λ h. h .row .bits) (st .bits) (λ u. head u st)
   unfolding head
   head-traced st =
@@ -51,7 +51,7 @@ module _ (s : List ℕ) where
       traced-map (λ g. record { op = record { place = base + c; predictor = predict c; residual = g .value }; bits = g .bits })
       (read-residual-traced s b (residual-bits (predict c) (length-of ls c)))
 
-  -- .. and its residuals one each.
+  -- A block's residuals take one field each.
   pub samples-traced : (base : ℕ) (ls : List ℤ) (predict : ℕ → Predictor) (cs : List ℕ) (b : Bits)
       → Traced s (length cs) (λ x. x .bits) b (λ u. samples u base ls predict cs b)
   unfolding samples

@@ -11,6 +11,7 @@ use lib.ListN.{getD, replicate}
 use lib.Pow.{pow-mono, pow-pos}
 use lib.Signed.{mag, natAbs-le}
 use borrow.Author.Tests.{ltb-false, eqb-true}
+use Rattle.rules.specs.Limits.{most-side}
 use Rattle.rules.specs.declared.answer.Size.{Size}
 use Rattle.rules.specs.declared.reader.Bits.{Bits}
 use Rattle.rules.specs.declared.reader.Got.{Got}
@@ -94,7 +95,7 @@ scale-read s h {col} b p = record {
 }
 
 -- Within the limits a scale lies in −512..4,605.
-pub scale-within : {col : ℕ} {scale : ℤ} → ScaleAt col scale → col ≤ 16_384 → Between 512 4_605 scale
+pub scale-within : {col : ℕ} {scale : ℤ} → ScaleAt col scale → col ≤ most-side → Between 512 4_605 scale
 scale-within p l = between-wider (omega arith) (omega arith) (p .range)
 
 -- ── 2. motion ──
@@ -241,7 +242,7 @@ pub record Sound (x : Block) : Type 0 where
   pub base : (i : ℕ) → Given (x .base i)
   pub differences : All Small (x .differences)
 
-module _ (s : List ℕ) (h : V2Hdr) (w : ℕ) (deep : h .depth ≤ 16) (small : h .initial < 65_536) (limit : w ≤ 16_384) where
+module _ (s : List ℕ) (h : V2Hdr) (w : ℕ) (deep : h .depth ≤ 16) (small : h .initial < 65_536) (limit : w ≤ most-side) where
   block-sound : (row col : ℕ) (b : Bits) (st : V2Row) (mode : List (List ℕ)) (b′ : Bits) (st′ : V2Row)
       → read-block s h w row col b st mode .outcome ≡ Next b′ st′ → ScaleAt col (st .scale) → col + 16 ≤ w → Sound (read-block s h w row col b st mode .block)
   unfolding read-block
@@ -273,7 +274,7 @@ module _ (s : List ℕ) (h : V2Hdr) (w : ℕ) (deep : h .depth ≤ 16) (small : 
       (λ e m. all-append Sound this (rows-sound k (suc row) (q .bits)))
 
 -- Each block of a frame of width at most 16,384 has its scale in −512..4,605 and its differences in −65,536..65,535.
-pub frame-sound : (s : List ℕ) (z : Size) → z .width ≤ 16_384 → All Sound (read-frame s z .blocks)
+pub frame-sound : (s : List ℕ) (z : Size) → z .width ≤ most-side → All Sound (read-frame s z .blocks)
 unfolding read-frame
 frame-sound s z limit =
     let x = header s in
@@ -330,7 +331,7 @@ base-below t f ps (averaged p q) l =
     omega (arith, at p 0 (lit< tt), at q 0 (lit< tt))
 
 -- Within the limits nothing before the hold leaves 32 signed bits, whatever 16-bit samples a block is decoded over.
-pub frame-fits : (s : List ℕ) (z : Size) → z .width ≤ 16_384 → (t : ℕ) (f : List ℕ) → All (λ v. v < 65_536) f
+pub frame-fits : (s : List ℕ) (z : Size) → z .width ≤ most-side → (t : ℕ) (f : List ℕ) → All (λ v. v < 65_536) f
     → All (λ x. (i : ℕ) → Fits (base-cell (sample-kind t) f (x .base i)) (getD (x .differences) i (pos 0)) (x .scale)) (read-frame s z .blocks)
 frame-fits s z limit t f ps =
     all-map Sound _

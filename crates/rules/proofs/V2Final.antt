@@ -61,7 +61,7 @@ module _ {A : Type 0} (k : Kind A) where
       sets-other c (suc j) (suc p) g (set f p (g j)) i d (λ l. let q = h (omega arith) in omega arith)
       ∙ getD-set-other f p i (g j) d (λ e. let q = h (omega arith) in omega arith)
 
-  -- A block changes no cell outside it ..
+  -- A block changes no cell outside it.
   write-other : (b : Block) (f : List A) (i : ℕ) → (b .place ≤ i → b .place + 16 ≤ i) → getD (write k b f) i (k .constant 0) ≡ getD f i (k .constant 0)
   unfolding write block-cells
   write-other b f i h = by-test (b .filler) (λ e. rw e (change-other (k .filled) (k .constant 0) 16 (b .place) g i h ∙ others)) (λ e. rw e others)
@@ -72,7 +72,7 @@ module _ {A : Type 0} (k : Kind A) where
       others : getD g i (k .constant 0) ≡ getD f i (k .constant 0)
       others = sets-other 16 0 (b .place) _ f i (k .constant 0) h
 
-  -- .. and blocks from n on none before n.
+  -- Blocks from n on change no cell before n.
   apply-before : (n : ℕ) {bs : List Block} → All (λ b. n ≤ b .place) bs → (f : List A) (i : ℕ) → i < n
       → getD (apply k bs f) i (k .constant 0) ≡ getD f i (k .constant 0)
   unfolding apply

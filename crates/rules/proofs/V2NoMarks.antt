@@ -1,5 +1,6 @@
--- Document 01, "The map": an accepted V2 frame of a width divisible by 16 has no 1, by the first part of the map's bytes. Its blocks follow one another without a gap
--- from the first sample to the last, and each reads only before itself.
+-- Old values in the V2 map (docs/RULES.md, "The map"): an accepted V2 frame of a width divisible by 16 has no 1, by the first part
+-- of the map's bytes. Its blocks follow one another without a gap from the first sample to the last, and each reads only before
+-- itself.
 use Prim.Native.Nat.{ℕ, zero, suc, _+_, _*_, _/_, _%_, _<_, _≤_, max}
 use mathlib.Core.Bool.{false}
 use mathlib.Core.Path.{_≡_, refl, ap₂, _∙_, subst₂}

@@ -1,5 +1,5 @@
--- Document 01, "Answer record": what a call answers, and what it leaves in samples, map and scratch. The three decoders' contracts
--- cite these definitions, for every input.
+-- Answers (docs/RULES.md, "Answers"): what a call answers, and what it leaves in samples, map and scratch. The three decoders'
+-- contracts cite these definitions, for every input.
 use Prim.Native.Nat.{ℕ, _-_, _*_}
 use mathlib.Core.Bool.{Bool, false, _||_, cond}
 use mathlib.Core.Path.{_≡_}
@@ -9,6 +9,7 @@ use lib.ListN.{length, drop, take}
 use lib.Dec.{ltb, eqb}
 use Rattle.rules.specs.declared.answer.Answer.{Answer}
 use Rattle.rules.specs.declared.answer.Size.{Size}
+use Rattle.rules.specs.Limits.{most-side}
 use Rattle.rules.specs.Frame.{cells}
 use Rattle.rules.specs.V0 as V0
 use Rattle.rules.specs.Phases as Phases
@@ -55,9 +56,9 @@ lent samples map scratch = record { samples = samples; map = map; scratch = scra
 
 -- ── Refusals 1 to 4 ──
 
--- 1: width or height above 16,384.
+-- 1: width or height above the limit.
 unfoldable pub too-large : Size → Bool
-too-large z = ltb 16_384 (z .width) || ltb 16_384 (z .height)
+too-large z = ltb most-side (z .width) || ltb most-side (z .height)
 
 -- 2: in V2 height below 1 or width below 32.
 unfoldable pub too-small : Decoder → Size → Bool

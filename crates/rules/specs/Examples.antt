@@ -1,5 +1,5 @@
--- Document 01, "Promises and proved examples": the lines marked P, as one list. `proofs/Examples.antt` proves the one claim, that
--- in each what the rules give is what the document states.
+-- The worked examples that are proved (docs/RULES.md, "Proved examples"), as one list. `proofs/Examples.antt` proves the one claim,
+-- that in each what the rules give is what is stated.
 use Prim.Native.Nat.{ℕ, suc}
 use mathlib.Core.List.{List, [], _∷_, _++_}
 use mathlib.Core.Option.{some}
@@ -15,7 +15,7 @@ use Rattle.rules.specs.V2 as V2
 use Rattle.rules.specs.Map as Map
 use Rattle.rules.specs.Answer as Answer
 
--- What the rules give, and what the document states.
+-- What the rules give, and what is stated.
 pub record Example : Type 0 where
   pub given : List ℕ
   pub stated : List ℕ

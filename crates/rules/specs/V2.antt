@@ -1,4 +1,4 @@
--- Document 01, "V2 header and row state": what the stream says of each block of a frame, with no sample's value, and what that
+-- V2 (docs/RULES.md, "V2"): what the stream says of each block of a frame, with no sample's value, and what that
 -- does to the frame's cells. A frame is read block by block up to the first refusal; the blocks before it are what is written.
 use Prim.Native.Nat.{ℕ, zero, suc, _+_, _-_, _*_, _/_, _%_, _^_, min}
 use mathlib.Core.Bool.{Bool, true, false, not, _&&_, cond}

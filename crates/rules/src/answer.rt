@@ -1,4 +1,4 @@
-// The answer record of document 01, and the frame's size with its limits.
+// What a call answers (docs/RULES.md, "Answers"), and the frame's size with its limits.
 ghost use mathlib.Core.Path.{_≡_};
 ghost use Rattle.rules.specs.Answer.{done-with, done};
 

@@ -1,4 +1,4 @@
-// `samrows`: reads a job from standard input, and writes its text to standard output (document 01, "Job program").
+// `samrows`: reads a job from standard input, and writes its text to standard output (docs/RULES.md, "The job program").
 use libc::STDIN_FILENO;
 use libc::STDOUT_FILENO;
 

@@ -1,5 +1,6 @@
--- Demand 1: a call of an entry point that decodes by the plain rules is answered by done or by one of 1 to 8, and 1 to 4 leave every
--- buffer as it was. What 5 to 8 leave is what the rules say, as for every answer: the blocks before the one at fault, under 8 its row.
+-- Promise P1, for the decoders: a call of an entry point that decodes by the plain rules is answered by done or by one of 1 to 8,
+-- and 1 to 4 leave every buffer as it was. What 5 to 8 leave is what the rules say, as for every answer: the blocks before the one
+-- at fault, under 8 its row.
 use Prim.Native.Nat.{ℕ, _≤_}
 use mathlib.Core.Path.{_≡_, refl, sym, ap, _∙_}
 use native.Mathlib.Omega.{arith}

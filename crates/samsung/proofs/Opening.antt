@@ -9,6 +9,7 @@ use native.Mathlib.Omega.{arith}
 use lib.Dec.{ltb}
 use lib.ListN.{length, take}
 use lib.Seq.{length-take-le}
+use Rattle.rules.specs.Limits.{most-side}
 use Rattle.rules.specs.declared.answer.Size.{Size}
 use Rattle.rules.specs.Frame.{cells}
 use Rattle.rules.specs.Answer.{direct, two-phase, v2, Ask, ask, Buffers, buffers, lengths, too-large, too-small, short-samples, short-offsets, short-map, short-scratch, scratch-bytes, first-of, refusal}
@@ -60,8 +61,8 @@ module _ {s : List ℕ} {w h : ℕ} {samples : List ℕ} {k : ℕ} where
 -- What a call that passed the test may count on.
 pub record Opened (a : Ask) (found : Buffers) : Type 0 where
   pub passed : refusal a (lengths found) ≡ 0
-  pub wide : a .size .width ≤ 16_384
-  pub high : a .size .height ≤ 16_384
+  pub wide : a .size .width ≤ most-side
+  pub high : a .size .height ≤ most-side
   pub few : a .size .width * a .size .height ≤ 268_435_456
   pub samples-enough : cells (a .size) ≤ length (found .samples)
   pub samples-lent : length (take (cells (a .size)) (found .samples)) ≡ cells (a .size)

@@ -18,11 +18,11 @@ use rules::Size;
 use v0_direct::frame::decode_frame;
 use v0_profile::check_frame;
 
-// A frame's samples, if the profile takes it.
+// Decodes a frame if it is clean; else returns its first fault, and changes nothing.
 fn decode_checked(src: &[u8], offsets: &[u32], size: Size, out: &mut [u16]) -> Answer
     requires { ⌜ Lends size (now offsets) (now out) [] ⌝ }
-    ensures { λ r. ⌜ r ≡ verdict (now (src .entry)) (now (offsets .entry)) size ⌝ }
-    ensures { λ r. ⌜ now (out .exit) ≡ cond (eqb (r .number) 0) (decoded (now (src .entry)) (now (offsets .entry)) size (now (out .entry))) (now (out .entry)) ⌝ }
+    ensures answered { λ r. ⌜ r ≡ verdict (now (src .entry)) (now (offsets .entry)) size ⌝ }
+    ensures samples { λ r. ⌜ now (out .exit) ≡ cond (eqb (r .number) 0) (decoded (now (src .entry)) (now (offsets .entry)) size (now (out .entry))) (now (out .entry)) ⌝ }
 {
     let told = check_frame(src, offsets, size);
     if told.number != 0 {
@@ -54,7 +54,8 @@ pub fn decode_v0_clean(
     decode_checked(src, offsets, size, &mut out[..n])
 }
 
-// The same, with the map, which is all 0. Refusals 1, 3 and 4, then 17 to 19.
+// Decodes a clean V0 frame over what `out` holds, and its map, which is all 0. Refusals 1, 3 and 4, then 17 to 19 with their row;
+// each changes nothing.
 pub fn decode_v0_clean_map(
     src: &[u8],
     offsets: &[u32],

@@ -32,7 +32,8 @@ pub fn decode_v0_reference(
     Answer::done_with(filler)
 }
 
-// The same, and what each sample rests on: old values, filler, both or neither. Refusals 1, 3 and 4.
+// Decodes a V0 frame over what `out` holds, and tells in `map` what each sample rests on: old values, filler, both or neither.
+// Refusals 1, 3 and 4.
 pub fn decode_v0_reference_map(
     src: &[u8],
     offsets: &[u32],

@@ -26,7 +26,8 @@ pub fn decode_v2(src: &[u8], width: usize, height: usize, out: &mut [u16]) -> An
     decode_frame(src, size, &mut out[..n], &mut no_map)
 }
 
-// The same, and what each sample rests on: old values, filler, both or neither. Refusals 1 to 8.
+// Decodes a V2 frame over what `out` holds, and tells in `map` what each sample rests on: old values, filler, both or neither.
+// Refusals 1 to 8.
 pub fn decode_v2_map(
     src: &[u8],
     width: usize,

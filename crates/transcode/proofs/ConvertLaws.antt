@@ -10,6 +10,7 @@ use lib.Dec.{ltb, eqb, lit<}
 use lib.ListN.{length, take, drop}
 use lib.Seq.{sets, sets-eq, length-take-le, length-front}
 use borrow.Author.Tests.{lt-ltb, le-ltb, eqb-true, eqb-false, ne-eqb}
+use Rattle.rules.specs.Limits.{sample-bound}
 use Rattle.rules.specs.declared.answer.Answer.{Answer}
 use Rattle.rules.specs.Frame.{cells}
 use Rattle.rules.specs.V0 as V0
@@ -41,7 +42,7 @@ writable {f = f} fits dim =
       high = fits .high;
       blocks = record { blocks = λ e. fits .blocks };
       whole = fits .whole;
-      dim = λ i. all-get (λ a. a < 16_384) (not-bright f dim) i 0 (lit< tt);
+      dim = λ i. all-get (λ a. a < sample-bound) (not-bright f dim) i 0 (lit< tt);
     }
 
 module _ (w h : ℕ) (f m stream : List ℕ) where
@@ -82,14 +83,14 @@ module _ (w h : ℕ) (f m stream : List ℕ) where
 
 -- ── The call ──
 
--- What is known once 1 to 4 are passed: the decoder's own tests are, and 15 is left ..
+-- What is known once 1 to 4 are passed: the decoder's own tests are passed, and 15 is left.
 pub record Lent (c : Call) : Type 0 where
   pub v0 : c .asked .decoder ≡ direct
   pub room : Room (c .asked .size) (length (c .samples)) (Length (length (c .asked .offsets))) (Length (length (c .map))) Nothing
   pub decodes : refusal (c .asked) (lengths (found c)) ≡ 0
   pub left : early c ≡ cond (eqb (c .asked .size .width % 16) 0) 0 15
 
--- .. and once the frame is decoded.
+-- What is known once the frame is decoded.
 pub record Decoded (c : Call) (samples map : List ℕ) : Type 0 where
   pub lent : Lent c
   pub samples-are : samples ≡ decoded-samples c
@@ -163,7 +164,7 @@ module _ {c : Call} where
     pub width-yields : {r : Written} → (c .asked .size .width % 16 ≡ 0 → ⊥) → r ≡ refused 15 → Yields c r (c .samples) (c .map) (c .stream)
     width-yields n q = refused-yields 15 (l .left ∙ rw (ne-eqb (c .asked .size .width % 16) 0 n)) (λ p. let x : 15 ≡ 0 = p in omega arith) q
 
-    -- The decoder leaves buffers as long as they were ..
+    -- The decoder leaves buffers as long as they were.
     samples-length : length (decoded-samples c) ≡ length (c .samples)
     unfolding samples-after unless-refused frame-samples
     samples-length =
@@ -182,7 +183,7 @@ module _ {c : Call} where
         rw (l .decodes, l .v0)
         (length-front (c .map) (v0-map (a .stream) (a .offsets) (a .size)) (cells (a .size)) (v0-map-length (a .stream) (a .offsets) (a .size) ∙ sym (length-take-le _ (c .map) map-enough)))
 
-    -- .. with the frame in them ..
+    -- The decoder leaves the frame in its buffers.
     pub frame-whole : length (frame-of c) ≡ cells (c .asked .size)
     frame-whole = length-take-le _ (decoded-samples c) (omega (arith, samples-length, l .room .samples-enough))
 
@@ -197,11 +198,11 @@ module _ {c : Call} where
     map-room = omega (arith, ap length (d .map-are), map-length (d .lent), map-enough (d .lent))
 
     module _ (blocks : c .asked .size .width % 16 ≡ 0) where
-      -- .. which can be written, unless it is refused by 16, 9 or 10 ..
+      -- The decoded frame can be written, unless it is refused by 16, 9 or 10.
       pub frame-fits : Frame (c .asked .size .width) (c .asked .size .height) (take (cells (c .asked .size)) samples)
       frame-fits = record { wide = d .lent .room .wide; high = d .lent .room .high; blocks = blocks; whole = length-take-le _ samples samples-room }
 
-      -- .. and then is.
+      -- The decoded frame, unless refused, is written.
       pub converted : {r : Written} {stream : List ℕ}
           → Wrote (c .asked .size .width) (c .asked .size .height) (take (cells (c .asked .size)) samples) (take (cells (c .asked .size)) map) (c .stream) r stream
           → Yields c r samples map stream

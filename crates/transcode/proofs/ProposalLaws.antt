@@ -47,18 +47,18 @@ same-gone f g i t e l = rw (drop-of-length-le f {i = i} l, drop-of-length-le g {
 abbrev later : Proposal → ℕ → ℕ
 later p n = cond (short-samples (Proposals.asked p) (Rules.lent n none 0)) 3 0
 
--- What is known once tests are passed: 1, 3 and 9 of the samples meant ..
+-- What is known once 1, 3 and 9 of the samples meant are passed.
 pub record MeantLent (p : Proposal) (n : ℕ) : Type 0 where
   pub meant : Writer.Lent (p .size) (p .meant)
   pub left : Proposals.early p n ≡ later p n
 
--- .. then 3 of the scratch and of the offsets ..
+-- What is known once 3 of the scratch and of the offsets is passed, too.
 pub record AllLent (p : Proposal) (n : ℕ) : Type 0 where
   pub meant : Writer.Lent (p .size) (p .meant)
   pub room : Room (p .size) n (Length (length (p .offsets))) Nothing Nothing
   pub early-none : Proposals.early p n ≡ 0
 
--- .. and 17 to 19.
+-- What is known once 17 to 19 are passed, too.
 pub record Clean (p : Proposal) (n : ℕ) : Type 0 where
   pub lent : AllLent p n
   pub clean : verdict (p .stream) (p .offsets) (p .size) .number ≡ 0

@@ -6,6 +6,7 @@ use mathlib.Core.List.{List, _++_}
 use mathlib.Core.Option.{some, none}
 use lib.Dec.{ltb, eqb}
 use lib.ListN.{length, take, drop}
+use Rattle.rules.specs.Limits.{most-side}
 use Rattle.rules.specs.declared.answer.Size.{Size}
 use Rattle.rules.specs.Frame.{cells}
 use Rattle.rules.specs.Answer.{direct, v2, Ask, ask, Buffers, buffers, lengths, too-large, too-small, short-samples, short-map, first-of, samples-after, map-after}
@@ -66,8 +67,8 @@ late z f m n = cond (any-marked m) 16 (cond (too-bright f) 9 (cond (ltb n (lengt
 
 -- A frame that has passed 1 and 15.
 pub record Frame (w h : ℕ) (f : List ℕ) : Type 0 where
-  pub wide : w ≤ 16_384
-  pub high : h ≤ 16_384
+  pub wide : w ≤ most-side
+  pub high : h ≤ most-side
   pub blocks : w % 16 ≡ 0
   pub whole : length f ≡ w * h
 

@@ -32,8 +32,8 @@ fn write_decoded(
     stream: &mut [u8],
 ) -> Written
     requires { ⌜ Frame width height (now samples) ⌝ }
-    ensures { λ r. ⌜ r ≡ late-answer width height (now (samples .entry)) (now (map .entry)) (length (now (stream .entry))) ⌝ }
-    ensures { λ _. ⌜ now (stream .exit) ≡ late-stream width height (now (samples .entry)) (now (map .entry)) (now (stream .entry)) ⌝ }
+    ensures answered { λ r. ⌜ r ≡ late-answer width height (now (samples .entry)) (now (map .entry)) (length (now (stream .entry))) ⌝ }
+    ensures stream { λ _. ⌜ now (stream .exit) ≡ late-stream width height (now (samples .entry)) (now (map .entry)) (now (stream .entry)) ⌝ }
 {
     if is_marked(map) {
         return Written::refused(Answer::MARKED);
@@ -78,6 +78,8 @@ pub fn v0_to_v2(
     if width % V2Row::BLOCK != 0 {
         return Written::refused(Answer::BAD_WIDTH);
     }
+    // The answer isn't needed: no refusal of this decoder is left, so that it is done, and where a word was missing the map tells
+    // it (16).
     decode_v0_reference_map(src, offsets, width, height, samples, map);
     let n = width * height;
     write_decoded(&samples[..n], &map[..n], width, height, stream)

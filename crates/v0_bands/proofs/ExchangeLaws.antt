@@ -8,6 +8,7 @@ use native.Mathlib.Numerals.{add-one}
 use native.Mathlib.Nat.{mul-le-mul-right, mul-le-mul, div-lt-iff-lt-mul, mod-lt, div-le-self}
 use lib.ListN.{length}
 use borrow.Author.Tests.{eq-eqb, ne-eqb}
+use Rattle.rules.specs.Limits.{most-side}
 use Rattle.rules.specs.V0.{exchange-columns, sample-kind}
 use Rattle.v0_cells.specs.Places.{InColumns}
 use Rattle.bands.specs.Bands.{Cut, cut, sized, blocks-per-band}
@@ -69,7 +70,7 @@ module _ {h bands band : ℕ} (p : RowLent h bands band) where
   pub rows-fit : (late : ℕ) → late ≡ h - 2 → band * late ≤ 1_048_576
   rows-fit late e =
       let a : band ≤ 64 = omega (arith, p .within, p .most-bands) in
-      let b : late ≤ 16_384 = omega (arith, p .height) in
+      let b : late ≤ most-side = omega (arith, p .height) in
       let m : band * late ≤ 64 * 16_384 = mul-le-mul a b in
       omega arith
 

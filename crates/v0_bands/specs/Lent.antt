@@ -4,6 +4,7 @@ use mathlib.Core.Path.{_≡_}
 use mathlib.Core.Bool.{true}
 use mathlib.Core.List.{List}
 use lib.ListN.{length}
+use Rattle.rules.specs.Limits.{most-side}
 use Rattle.rules.specs.declared.answer.Size.{Size}
 use Rattle.rules.specs.Frame.{cells}
 use Rattle.rules.specs.Answer.{scratch-bytes}
@@ -12,19 +13,19 @@ use Rattle.bands.specs.Bands.{Cut, sized, cut, fits, blocks-per-band, step-coun
 
 -- n late rows from a row on, of w cells, with their direction bytes; and a block of b columns that begins within a row.
 pub record BandLent (w b block row n : ℕ) (f dirs : List ℕ) : Type 0 where
-  pub width : w ≤ 16_384
+  pub width : w ≤ most-side
   pub multiple : b % 16 ≡ 0
   pub begins : block * b < w
   pub rows-above : 2 ≤ row
-  pub rows-below : row + n ≤ 16_384
+  pub rows-below : row + n ≤ most-side
   pub rows-lent : (row + n) * w ≤ length f
   pub directions-lent : (row + n - 2) * blocks-in w ≤ length dirs
 
 -- Pairs of rows from one up to another, with columns from one up to another.
 pub record PartLent (w row end from to : ℕ) (f : List ℕ) : Type 0 where
-  pub width : w ≤ 16_384
+  pub width : w ≤ most-side
   pub rows : row ≤ end
-  pub rows-in : end ≤ 16_384
+  pub rows-in : end ≤ most-side
   pub pairs : (row % 2 ≡ 0) × (end % 2 ≡ 0)
   pub columns : from ≤ to
   pub columns-in : to ≤ w
@@ -32,14 +33,14 @@ pub record PartLent (w row end from to : ℕ) (f : List ℕ) : Type 0 where
 
 -- A band, or the end of the last one.
 pub record RowLent (h bands band : ℕ) : Type 0 where
-  pub height : h ≤ 16_384
+  pub height : h ≤ most-side
   pub some-band : 0 < bands
   pub most-bands : bands ≤ 64
   pub within : band ≤ bands
 
 -- A block of a cut that fits, or the end of the last one.
 pub record ColumnLent (c : Cut) (blocks block : ℕ) : Type 0 where
-  pub width : c .size .width ≤ 16_384
+  pub width : c .size .width ≤ most-side
   pub cut-fits : fits c ≡ true
   pub blocks-are : blocks ≡ blocks-per-band c
   pub some-block : 0 < blocks
@@ -47,8 +48,8 @@ pub record ColumnLent (c : Cut) (blocks block : ℕ) : Type 0 where
 
 -- A step of a cut that fits.
 pub record StepLent (c : Cut) (blocks n : ℕ) (f : List ℕ) : Type 0 where
-  pub width : c .size .width ≤ 16_384
-  pub height : c .size .height ≤ 16_384
+  pub width : c .size .width ≤ most-side
+  pub height : c .size .height ≤ most-side
   pub cut-fits : fits c ≡ true
   pub blocks-are : blocks ≡ blocks-per-band c
   pub low : n < step-count c
@@ -56,8 +57,8 @@ pub record StepLent (c : Cut) (blocks n : ℕ) (f : List ℕ) : Type 0 where
 
 -- A frame of late rows cut into bands, and a good list.
 pub record StepsLent (w h bands block-width : ℕ) (steps f dirs : List ℕ) : Type 0 where
-  pub width : w ≤ 16_384
-  pub height : h ≤ 16_384
+  pub width : w ≤ most-side
+  pub height : h ≤ most-side
   pub cut-fits : fits (cut (sized w h) bands block-width) ≡ true
   pub list-good : good (cut (sized w h) bands block-width) steps ≡ true
   pub lent : h * w ≤ length f
@@ -65,8 +66,8 @@ pub record StepsLent (w h bands block-width : ℕ) (steps f dirs : List ℕ) : T
 
 -- A whole frame, with its offsets, scratch and list, once refusals 1, 3, 4, 11 and 12 are passed.
 pub record FrameLent (z : Size) (bands block-width : ℕ) (offsets out scratch steps : List ℕ) : Type 0 where
-  pub width : z .width ≤ 16_384
-  pub height : z .height ≤ 16_384
+  pub width : z .width ≤ most-side
+  pub height : z .height ≤ most-side
   pub offsets-enough : z .height ≤ length offsets
   pub samples-lent : length out ≡ cells z
   pub scratch-lent : scratch-bytes z ≤ length scratch

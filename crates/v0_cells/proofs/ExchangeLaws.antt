@@ -7,6 +7,7 @@ use native.Mathlib.Omega.{arith}
 use native.Mathlib.Nat.{mul-le-mul-right, mul-comm, mod-lt, mod-eq-of-lt, div-eq-of-lt, add-mul-mod-self-right, add-mul-div-right}
 use lib.ListN.{length, getD, set, length-set}
 use lib.Seq.{getD-set-other, set-getD}
+use Rattle.rules.specs.Limits.{most-side}
 use Rattle.rules.specs.V0.{Kind, swap, exchange-columns, exchange-rows, exchange}
 use Rattle.rules.specs.Frame.{cells}
 use Rattle.rules.specs.declared.answer.Size.{Size}
@@ -15,7 +16,7 @@ use Rattle.v0_cells.proofs.CellLaws.{product}
 
 -- ── Places ──
 
-pub pair-fits : (w row : ℕ) → w ≤ 16_384 → row < 16_384 → (row + 1) * w ≤ 268_550_144
+pub pair-fits : (w row : ℕ) → w ≤ most-side → row < most-side → (row + 1) * w ≤ 268_550_144
 pair-fits w row lw lr = product (row + 1) w (omega arith) (omega arith)
 
 -- ── Two cells as one number ──

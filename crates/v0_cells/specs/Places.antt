@@ -4,6 +4,7 @@ use mathlib.Core.Path.{_≡_}
 use mathlib.Core.Logic.{_⊎_}
 use mathlib.Core.List.{List}
 use lib.ListN.{length}
+use Rattle.rules.specs.Limits.{most-side}
 use Rattle.rules.specs.Answer.{scratch-bytes}
 use Rattle.rules.specs.Frame.{cells}
 use Rattle.rules.specs.declared.answer.Size.{Size}
@@ -14,8 +15,8 @@ Whole z map = (length map ≡ cells z) ⊎ (length map ≡ 0)
 
 -- The block at a column of a row that the frame has.
 pub record InFrame (z : Size) (row col : ℕ) : Type 0 where
-  pub width : z .width ≤ 16_384
-  pub height : z .height ≤ 16_384
+  pub width : z .width ≤ most-side
+  pub height : z .height ≤ most-side
   pub row-in : row < z .height
   pub col-in : col < z .width
   pub block : col % 16 ≡ 0
@@ -39,16 +40,16 @@ Low base = base < 1_000_000_000
 
 -- A pair of rows, with columns from one up to another.
 pub record InColumns (w row from to : ℕ) (f : List ℕ) : Type 0 where
-  pub width : w ≤ 16_384
-  pub row-in : row < 16_384
+  pub width : w ≤ most-side
+  pub row-in : row < most-side
   pub columns : from ≤ to
   pub columns-in : to ≤ w
   pub inside : (row + 2) * w ≤ length f
 
 -- Two rows that lie in a frame of row length w.
 pub record InPair (w row : ℕ) (f : List ℕ) : Type 0 where
-  pub width : w ≤ 16_384
-  pub row-in : row < 16_384
+  pub width : w ≤ most-side
+  pub row-in : row < most-side
   pub inside : (row + 2) * w ≤ length f
 
 -- The same of a map, which may not be lent.
@@ -57,8 +58,8 @@ MapInPair w row map = InPair w row map ⊎ (length map ≡ 0)
 
 -- The pairs of rows from one number up to another, of a frame that is lent with its map or without.
 pub record PairsLent (z : Size) (from to : ℕ) (out map : List ℕ) : Type 0 where
-  pub width : z .width ≤ 16_384
-  pub height : z .height ≤ 16_384
+  pub width : z .width ≤ most-side
+  pub height : z .height ≤ most-side
   pub pairs : from ≤ to
   pub pairs-in : to ≤ z .height / 2
   pub samples-lent : length out ≡ cells z
@@ -66,8 +67,8 @@ pub record PairsLent (z : Size) (from to : ℕ) (out map : List ℕ) : Type 0 wh
 
 -- A whole frame.
 pub record Framed (z : Size) (f : List ℕ) : Type 0 where
-  pub width : z .width ≤ 16_384
-  pub height : z .height ≤ 16_384
+  pub width : z .width ≤ most-side
+  pub height : z .height ≤ most-side
   pub lent : length f ≡ cells z
 
 -- What a phase of the two-phase decoder is lent: a frame's cells, and a direction byte for each block from row 2 on.

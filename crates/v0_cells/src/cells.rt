@@ -2,6 +2,7 @@
 ghost use mathlib.Core.Path.{_≡_};
 ghost use Prim.Native.Nat.{_≤_, _<_};
 ghost use lib.ListN.{getD};
+ghost use Rattle.rules.specs.Limits.{most-side};
 ghost use Rattle.rules.specs.V0 as V0;
 ghost use Rattle.rules.specs.Map.{v0-marks};
 ghost use Rattle.v0_cells.specs.Places.{InFrame};
@@ -11,7 +12,7 @@ use rules::V0Row;
 
 // A sample that predicts from the place p is skipped if it or p lies at or beyond the bound.
 fn bounded(size: Size, place: usize, p: usize) -> Predictor
-    requires { ⌜ (size .width ≤ 16_384) × (size .height ≤ 16_384) ⌝ }
+    requires { ⌜ (size .width ≤ most-side) × (size .height ≤ most-side) ⌝ }
     ensures { λ r. ⌜ r ≡ V0.bounded size place p ⌝ }
 {
     let limit = size.width * (size.height + 7);

@@ -9,9 +9,9 @@ ghost use Rattle.rules.specs.Phases.{first-rows};
 ghost use Rattle.v0_direct.specs.Freed.{freed-pairs, rows-freed};
 ghost use Rattle.v0_direct.specs.Lent.{Lends};
 use super::row::decode_row;
+use bits::held_sum;
 use rules::Size;
 use v0_cells::exchange::exchange_pairs;
-use v0_stream::block::held_sum;
 
 // How many pairs of rows no row from this one on reads.
 pub fn freed_pairs(row: usize) -> usize

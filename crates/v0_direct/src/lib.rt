@@ -1,4 +1,4 @@
-// The direct V0 decoder from block to frame, by document 01's "V0 row state" and "The map".
+// The direct V0 decoder from block to frame, by docs/RULES.md, "V0" and "The map".
 pub mod frame;
 pub mod row;
 pub mod run;

@@ -125,7 +125,7 @@ fn decode_inner(src: &[u8], at: Place, state: V0Row, out: &mut [u16], map: &mut 
     decode_by_record(src, at, state, out, map)
 }
 
-// One block.
+// One block: an inner one in one go, any other sample by sample. Its end is `end_block`.
 fn decode_block(src: &[u8], at: Place, state: V0Row, out: &mut [u16], map: &mut [u8]) -> V0Row
     requires { ⌜ InFrame (at .size) (at .row) (at .col) × BlockLent (at .size) (state .lengths) (now out) (now map) ⌝ }
     ensures { λ r. ⌜ Decoded (now (src .entry)) (at .size) (at .row) (at .col) state (now (out .entry)) (now (map .entry)) r (now (out .exit)) (now (map .exit)) ⌝ }

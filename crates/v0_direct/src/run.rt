@@ -1,5 +1,13 @@
 // A run: inner blocks of short lengths one after another, by position. The reader's record is made after the last of them, and every
 // other way leaves the loop, so that the compiler keeps what a block needs in registers.
+//
+//   base     the byte position that bits are counted from
+//   q        the bit that a block begins at
+//   col      the block's first column
+//   lengths  the row's four lengths before the block
+//
+// A run goes on while the next block lies within its row, its lengths are short (0 to 16 bits a residual) and the stream has room
+// for it.
 ghost use mathlib.Core.Bool.{true};
 ghost use mathlib.Core.Path.{_≡_};
 ghost use Prim.Native.Nat.{_+_, _-_, _*_, _/_};

@@ -90,12 +90,12 @@ module _ (row : ℕ) (h : V0Head) (end : Bits) where
 -- ── A block read to its end ──
 
 module _ (s : List ℕ) (z : Size) (row col : ℕ) (st : V0Row) where
-  -- In one go ..
+  -- A block read in one go.
   pub seen-whole : Inner z row col → (x : ReadBlock) → x ≡ whole-block s st → record { up = x .up; row = x .row } ≡ seen s z row col st
   unfolding seen whole-block with-residuals
   seen-whole i x e = ap₂ (λ u r. record { up = u; row = r }) (ap (λ b. b .up) e) (inner-state s st i x e)
 
-  -- .. or sample by sample.
+  -- A block read sample by sample.
   pub seen-samples : (h : V0Head) (b : Bits) → h ≡ head s st → b ≡ samples-of s z row col h order (h .row .bits) .bits
       → record { up = h .up; row = record { lengths = h .row .lengths; bits = b } } ≡ seen s z row col st
   unfolding seen

@@ -52,11 +52,11 @@ module _ (s : List ℕ) (z : Size) (row offset : ℕ) where
           ap (λ n. blocks-fault s z row n col st) more
           ∙ sym (ap₂ or-next (ek ∙ ap (λ x. block-fault row x (x .row .bits)) eh) (ap (λ x. rest-of s z row (col + 16) (x .row)) eh))
 
-      -- It has a fault, which is then the row's ..
+      -- The block has a fault, which is then the row's.
       pub check-found : k ≢ 0 → Checking s z row offset st col → k ≡ row-fault s z row offset
       check-found ne c = sym (rest-here ∙ rw (ne-eqb k 0 ne)) ∙ c .left
 
-      -- .. or none, and the rest decides.
+      -- The block has no fault, and the rest of the row decides.
       pub checking-on : k ≡ 0 → Checking s z row offset st col → Checking s z row offset (h .row) (col + 16)
       unfolding seen after-block
       checking-on none c =

@@ -1,6 +1,6 @@
-// The profile's check of a whole V0 stream, before a sample is written. Blocks are read as the direct decoder reads them, by the same
-// functions, but that an inner block's residuals are passed over where they are there; nothing is written, since the frame that the
-// others would write to has no cells.
+// The check of clean frames (docs/RULES.md, "Clean frames") over a whole V0 stream, before a sample is written. Blocks are read as
+// the direct decoder reads them, by the same functions, but that an inner block's residuals are passed over where they are there;
+// nothing is written, since the frame that the others would write to has no cells.
 ghost use mathlib.Core.Path.{_≡_};
 ghost use mathlib.Core.Bool.{_&&_};
 ghost use lib.Dec.{ltb};
@@ -88,7 +88,7 @@ fn length_fits(length: i32) -> bool
     0 <= length && length <= MOST_LENGTH
 }
 
-// Whether all four do.
+// Whether all four lengths of a block lie in 0 to 16.
 fn lengths_fit(lengths: [i32; 4]) -> bool
     ensures { λ r. ⌜ r ≡ all-fit lengths ⌝ }
 {
@@ -150,7 +150,7 @@ fn check_row(src: &[u8], size: Size, row: usize, offset: u32) -> u32
     0
 }
 
-// The profile's verdict on a frame.
+// The verdict on a frame: done if it is clean, else its first fault, with the row.
 pub fn check_frame(src: &[u8], offsets: &[u32], size: Size) -> Answer
     requires { ⌜ Lends size (now offsets) ⌝ }
     ensures { λ r. ⌜ r ≡ verdict (now (src .entry)) (now (offsets .entry)) size ⌝ }

@@ -75,7 +75,7 @@ unfolding row-records fresh-row
 late-records s w row offset h = rw (le-ltb row 2 h)
 
 module _ (s : List ℕ) (w r offset : ℕ) where
-  -- Its residuals come to lie in the frame where the row lies ..
+  -- A row's residuals come to lie in the frame where the row lies.
   pub row-stored : (f ys : List ℕ) → ys ≡ store-blocks 0 w 0 (row-records s w 2 offset) (midOf ((r + 2) * w) (length f - (r + 2) * w) f)
       → putMid ((r + 2) * w) (length f - (r + 2) * w) f ys ≡ store-blocks ((r + 2) * w) w 0 (row-records s w (r + 2) offset) f
   row-stored f ys q =
@@ -83,7 +83,7 @@ module _ (s : List ℕ) (w r offset : ℕ) where
       let q′ : ys ≡ store-blocks 0 w 0 (row-records s w (r + 2) offset) (drop ((r + 2) * w) f) = rw (tail-lent ((r + 2) * w) f, late) at q in
       rw (tail-back ((r + 2) * w) f ys, q′, row-in-frame ((r + 2) * w) w (row-records s w (r + 2) offset) f)
 
-  -- .. and its directions in the scratch between what stood before them and what stood after them.
+  -- A row's directions come to lie in the scratch between what stood before them and what stood after them.
   pub row-directed : (n : ℕ) (ds zs : List ℕ) → zs ≡ map direction (row-records s w 2 offset) ++ drop n (midOf (r * n) (length ds - r * n) ds)
       → putMid (r * n) (length ds - r * n) ds zs ≡ (take (r * n) ds ++ map direction (row-records s w (r + 2) offset)) ++ drop (r * n + n) ds
   row-directed n ds zs q =

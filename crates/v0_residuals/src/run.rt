@@ -1,6 +1,11 @@
 // Runs of short blocks: as long as a block lies within its row, its lengths are short and the stream has room for a block, blocks
 // follow one another by position, and the record is made again only after them. No way of reading long residuals stands in the loop,
 // so that the compiler keeps what it goes on with in registers.
+//
+//   base     the byte position that bits are counted from
+//   q        the bit that a block begins at
+//   k        the block's number in its row
+//   lengths  the row's four lengths before the block
 ghost use mathlib.Core.Bool.{true, _&&_};
 ghost use mathlib.Core.Path.{_≡_};
 ghost use Prim.Native.Nat.{ℕ, _+_, _-_, _*_, _/_, _≤_};

@@ -2,14 +2,14 @@
 // by it.
 ghost use mathlib.Core.Bool.{true, cond};
 ghost use mathlib.Core.Path.{_≡_};
-ghost use Prim.Native.Nat.{_+_, _<_, _^_, min};
-ghost use Rattle.rules.specs.Reader.{most-filler};
+ghost use Prim.Native.Nat.{_+_, _<_, _^_};
 ghost use Rattle.rules.specs.V0.{length-bits, residual-bits, head};
 ghost use Rattle.v0_stream.specs.Lengths.{Within, furthest};
 ghost use Rattle.v0_stream.specs.Block.{with-residuals, whole-block, head-block};
 ghost use Rattle.v0_stream.specs.PastEnd.{PastEnd, block-of-ones};
 use super::head::read_head;
 use bits::four::read_four;
+use bits::held_sum;
 use fields::residual_of;
 use rules::Bits;
 use rules::Predictor;
@@ -90,17 +90,6 @@ fn is_past(src: &[u8], bits: Bits) -> bool
         return false;
     }
     bits.pos < 1_000_000_000_000_000_000
-}
-
-// Two counts of missing words together, held as a reader's is.
-pub fn held_sum(a: u64, b: u64) -> u64
-    ensures { λ r. ⌜ r ≡ min (a + b) most-filler ⌝ }
-{
-    if b < Bits::MOST_FILLER - a {
-        a + b
-    } else {
-        Bits::MOST_FILLER
-    }
 }
 
 // The block that every state past the end reads: 265 ones.

@@ -32,7 +32,7 @@ past-set b j v l = record {
 -- ── Phase one of the rows after a place ──
 
 -- Where a row's first place is b or after it, storing residuals in the row is such a change: a residual that may be dropped, a
--- block's and a row's ..
+-- block's residuals, and a row's.
 module _ (b first w : ℕ) (after : b ≤ first) where
   past-store : (t : Bool) (j v : ℕ) → b ≤ j → Past b (λ f. cond t (set f j v) f)
   past-store true j v l = past-set b j v l
@@ -49,7 +49,7 @@ module _ (b first w : ℕ) (after : b ≤ first) where
   past-blocks col [] = apart-none sample-kind _
   past-blocks col (r ∷ rs) = apart-then sample-kind _ _ _ (past-samples col order (r .residuals)) (past-blocks (col + 16) rs)
 
--- .. and those of all rows from there on.
+-- Storing the residuals of all rows from a row on is a change past that row's first place.
 past-rows : (s offsets : List ℕ) (w b n row : ℕ) → b ≤ row * w → Past b (λ f. phase-one s offsets w n row f)
 unfolding phase-one
 past-rows s offsets w b zero row l = apart-none sample-kind _
@@ -58,11 +58,11 @@ past-rows s offsets w b (suc n) row l =
 
 -- ── A row, before or after a change that keeps off it ──
 
--- If it neither reads nor changes a cell of the row, or one that a sample of it is predicted from ..
+-- A change F that neither reads nor changes a cell of the row, or one that a sample of it is predicted from.
 module _ (w row : ℕ) (S : ℕ → Type 0) (F : List ℕ → List ℕ) (p : Apart sample-kind S F)
     (own : (i : ℕ) → row * w ≤ i → i < row * w + w → S i)
     (reads : (col : ℕ) (up : Bool) (c : ℕ) → col + c < w → Reads S (late-predictor w row col up c)) where
-  -- .. then it may come before or after storing the residuals of a block's samples and of a row's blocks ..
+  -- F may come before or after storing the residuals of a block's samples and of a row's blocks.
   residuals-wait : (col : ℕ) (cs vs f : List ℕ) → F (store-samples (row * w) w col cs vs f) ≡ store-samples (row * w) w col cs vs (F f)
   unfolding store-samples
   residuals-wait col [] vs f = refl
@@ -79,7 +79,7 @@ module _ (w row : ℕ) (S : ℕ → Type 0) (F : List ℕ → List ℕ) (p : Apa
   stores-wait col [] f = refl
   stores-wait col (r ∷ rs) f = stores-wait (col + 16) rs _ ∙ ap (store-blocks (row * w) w (col + 16) rs) (residuals-wait col order (r .residuals) f)
 
-  -- .. and adding their predictions.
+  -- F may come before or after adding the predictions of a block's samples and of a row's blocks.
   samples-wait : (col : ℕ) (up : Bool) (cs f : List ℕ) → F (predict-samples sample-stage w row col up cs f) ≡ predict-samples sample-stage w row col up cs (F f)
   unfolding predict-samples
   samples-wait col up [] f = refl

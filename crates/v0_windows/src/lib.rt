@@ -122,7 +122,7 @@ pub fn plan_of(head: WindowHead) -> Plan
     }
 }
 
-// The same limit as a length.
+// The most bits of a short residual, as a length.
 const SHORT: i32 = SHORT_BITS as i32;
 
 // Whether a length is the number of its residuals' bits, and four of them lie in one window; where it isn't, another way reads them.
@@ -170,7 +170,7 @@ pub fn four_at(src: &[u8], base: usize, q: usize, n: u32) -> [u16; 4]
     [low(a, n), low(b, n), low(c, n), low(d, n)]
 }
 
-// Four longer ones, two out of each of two windows.
+// Four residuals of n bits, more than 16, from bit q on: two out of each of two windows.
 pub fn four_long_at(src: &[u8], base: usize, q: usize, n: u32) -> [u16; 4]
     requires { ⌜ (16 < n) × ((n ≤ 32) × ((q < 2 ^ 31) × (base + (q + 2 * n) / 32 * 4 + 12 ≤ length (now src)))) ⌝ }
     ensures { λ r. ⌜ Group (now (src .entry)) base q n r ⌝ }

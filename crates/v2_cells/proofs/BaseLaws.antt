@@ -13,6 +13,7 @@ use mir.Syntax.{w64}
 use mir.Val.{toZ, ofZ}
 use mir.ValLaws.{toZ-ofZ}
 use borrow.Author.Tests.{lt-ltb, le-ltb, ltb-false, eqb-true, eqb-false, ne-eqb}
+use Rattle.rules.specs.Limits.{most-side}
 use Rattle.rules.specs.declared.v2.V2Hdr.{V2Hdr}
 use Rattle.rules.specs.Frame.{tabulate}
 use Rattle.rules.specs.V2.{motion-offsets, motion-averages, refers-before, base-refusal, repeated, referred, base, Kind, base-cell}
@@ -29,7 +30,7 @@ use Rattle.v2_cells.proofs.Fill.{tabulate-same}
 -- ── References ──
 
 -- A row within the limits, and the rows above it, have their places below 2^28.
-pub rows-room : (row w : ℕ) → row < 16_384 → w ≤ 16_384
+pub rows-room : (row w : ℕ) → row < most-side → w ≤ most-side
     → ((row - 2) * w ≤ 268_435_456) × (((row - 1) * w ≤ 268_435_456) × (row * w ≤ 268_435_456))
 rows-room row w h k = (
   mul-le-mul {n₂ = 16_384} {m₂ = 16_384} (omega arith) k,

@@ -5,15 +5,20 @@ use mathlib.Core.Bool.{Bool, false, cond}
 use mathlib.Core.List.{List}
 use lib.Dec.{eqb}
 use lib.ListN.{getD}
+use lib.Seq.{sets}
+use Rattle.rules.specs.Limits.{most-side}
+use Rattle.rules.specs.declared.v2.V2Hdr.{V2Hdr}
+use Rattle.rules.specs.Frame.{tabulate}
 use Rattle.rules.specs.Ranges.{reference-5}
-use Rattle.rules.specs.V2.{motion-averages, base-refusal, Kind}
+use Rattle.rules.specs.V2.{motion-averages, base-refusal, base-cell, base, repeated, Kind}
+use Rattle.rules.specs.Map.{v2-marks}
 use Rattle.v2_cells.specs.declared.Place.{Place}
 use Rattle.v2_cells.specs.declared.base.References.{References}
 
 -- A block's place in a row of a frame within the limits.
 pub record Placed (at : Place) : Type 0 where
-  pub wide : at .width ≤ 16_384
-  pub high : at .row < 16_384
+  pub wide : at .width ≤ most-side
+  pub high : at .row < most-side
   pub column : at .col + 16 ≤ at .width
   pub whole : at .col % 16 ≡ 0
 
@@ -28,6 +33,26 @@ pub record Markable (n : ℕ) (at : Place) (motion : ℕ) : Type 0 where
   pub small : motion ≤ 7
   pub inside : (n ≡ 0 → ⊥) → Inside n at
   pub unrefused : base-refusal (at .row) (at .col) motion ≡ 0
+
+-- A block that meets no refusal, with all sixteen samples among the n of the frame; and room for its sixteen values.
+pub record Based (n : ℕ) (at : Place) (motion values : ℕ) : Type 0 where
+  pub inside : Inside n at
+  pub small : motion ≤ 7
+  pub sixteen : values ≡ 16
+  pub unrefused : base-refusal (at .row) (at .col) motion ≡ 0
+
+-- A block of motions 0 to 6 that meets no refusal.
+pub record Referring (at : Place) (motion : ℕ) : Type 0 where
+  pub placed : Placed at
+  pub other : motion < 7
+  pub unrefused : base-refusal (at .row) (at .col) motion ≡ 0
+
+-- Sample 0 or 1 of a block of motions 0 to 6, with two rows above it.
+pub record ReferringAt (at : Place) (motion i : ℕ) : Type 0 where
+  pub placed : Placed at
+  pub other : motion < 7
+  pub rows-above : 2 ≤ at .row
+  pub first : i < 2
 
 -- Where sample i refers to, 5 places on; and the references of motions 0 to 6.
 abbrev pub reference : Place → ℕ → ℕ → ℕ
@@ -49,3 +74,16 @@ pub record Runs (n : ℕ) (refs : References) : Type 0 where
 abbrev pub cell-from : Kind ℕ → List ℕ → Bool → ℕ → ℕ
 cell-from K f averaging p =
     cond averaging (K .average (getD f p (K .constant 0)) (getD f (p + 2) (K .constant 0))) (getD f p (K .constant 0))
+
+-- ── A block's cells ──
+
+-- The sixteen cells of a block's bases, by its motion, over a frame of cells; and those that motion 7 repeats.
+abbrev pub base-cells : Kind ℕ → V2Hdr → Place → ℕ → List ℕ → List ℕ
+base-cells K h at motion f = tabulate 16 0 (λ i. base-cell K f (base h (at .width) (at .row) (at .col) motion i))
+
+abbrev pub repeated-cells : Kind ℕ → V2Hdr → Place → List ℕ → List ℕ
+repeated-cells K h at f = tabulate 16 0 (λ i. base-cell K f (repeated h (at .width) (at .row) (at .col) i))
+
+-- A map with a block's marks: each is that of the cells that the sample's base is read from.
+abbrev pub with-marks : V2Hdr → Place → ℕ → List ℕ → List ℕ
+with-marks h at motion map = sets map (at .row * at .width + at .col) (base-cells v2-marks h at motion map)

@@ -6,7 +6,7 @@ ghost use lib.ListN.{length, getD};
 ghost use Rattle.rules.specs.Frame.{tabulate};
 ghost use Rattle.rules.specs.V2.{motion-averages, average, refers-before, base-refusal, base-cell, sample-kind, repeated, base};
 ghost use Rattle.rules.specs.Ranges.{offset-4, reference-5};
-ghost use Rattle.v2_cells.specs.Places.{Placed, Inside, references, along, Runs, cell-from};
+ghost use Rattle.v2_cells.specs.Places.{Placed, Inside, Based, Referring, ReferringAt, references, along, Runs, cell-from, base-cells, repeated-cells};
 use super::Place;
 use rules::Answer;
 use rules::V2Hdr;
@@ -40,7 +40,7 @@ fn averages(motion: u32) -> bool
 
 // Where sample 0 or 1 refers to, 5 places on, so that none is below 0.
 fn reference_plus_5(at: Place, motion: u32, i: usize) -> usize
-    requires { ⌜ Placed at × ((motion < 7) × ((2 ≤ at .row) × (i < 2))) ⌝ }
+    requires { ⌜ ReferringAt at motion i ⌝ }
     ensures { λ r. ⌜ r ≡ reference-5 (at .width) (at .row) (at .col) motion i ⌝ }
 {
     let col = at.col + i + offset_plus_4(motion);
@@ -53,7 +53,7 @@ fn reference_plus_5(at: Place, motion: u32, i: usize) -> usize
 
 // The references of motions 0 to 6, in a block that meets no refusal.
 pub fn references_of(at: Place, motion: u32) -> References
-    requires { ⌜ Placed at × ((motion < 7) × (base-refusal (at .row) (at .col) motion ≡ 0)) ⌝ }
+    requires { ⌜ Referring at motion ⌝ }
     ensures { λ r. ⌜ r ≡ references at motion ⌝ }
 {
     let even = reference_plus_5(at, motion, 0) - 5;
@@ -148,7 +148,7 @@ fn before(out: &[u16], hdr: V2Hdr, at: Place, i: usize) -> u16
 // The bases of motion 7.
 fn repeat(out: &[u16], hdr: V2Hdr, at: Place, values: &mut [u16; 16])
     requires { ⌜ Inside (length (now out)) at ⌝ }
-    ensures { λ _. ⌜ now (values .exit) ≡ tabulate 16 0 (λ i. base-cell (sample-kind 0) (now (out .entry)) (repeated hdr (at .width) (at .row) (at .col) i)) ⌝ }
+    ensures { λ _. ⌜ now (values .exit) ≡ repeated-cells (sample-kind 0) hdr at (now (out .entry)) ⌝ }
 {
     let a = before(out, hdr, at, 0);
     let b = before(out, hdr, at, 1);
@@ -157,8 +157,8 @@ fn repeat(out: &[u16], hdr: V2Hdr, at: Place, values: &mut [u16; 16])
 
 // The bases of a block that meets no refusal.
 pub fn bases(out: &[u16], hdr: V2Hdr, at: Place, motion: u32, values: &mut [u16; 16])
-    requires { ⌜ Inside (length (now out)) at × ((motion ≤ 7) × ((length (now values) ≡ 16) × (base-refusal (at .row) (at .col) motion ≡ 0))) ⌝ }
-    ensures { λ _. ⌜ now (values .exit) ≡ tabulate 16 0 (λ i. base-cell (sample-kind 0) (now (out .entry)) (base hdr (at .width) (at .row) (at .col) motion i)) ⌝ }
+    requires { ⌜ Based (length (now out)) at motion (length (now values)) ⌝ }
+    ensures { λ _. ⌜ now (values .exit) ≡ base-cells (sample-kind 0) hdr at motion (now (out .entry)) ⌝ }
 {
     if motion == V2Row::MOTION {
         repeat(out, hdr, at, values);

@@ -9,7 +9,7 @@ ghost use Rattle.rules.specs.Frame.{tabulate, ended};
 ghost use Rattle.rules.specs.Reader.{has-filler};
 ghost use Rattle.rules.specs.V2.{base-refusal, base-cell, repeated, base};
 ghost use Rattle.rules.specs.Map.{with-filler, v2-marks};
-ghost use Rattle.v2_cells.specs.Places.{Inside, Markable, along, Runs, cell-from};
+ghost use Rattle.v2_cells.specs.Places.{Inside, Markable, Based, along, Runs, cell-from, base-cells, repeated-cells, with-marks};
 use super::Place;
 use super::base::References;
 use super::base::along_from;
@@ -58,7 +58,7 @@ fn mark_before(map: &[u8], at: Place, i: usize) -> u8
 // The marks of motion 7.
 fn repeat_marks(map: &[u8], at: Place, marks: &mut [u8; 16])
     requires { ⌜ Inside (length (now map)) at ⌝ }
-    ensures { λ _. ⌜ ((h : V2Hdr) → now (marks .exit) ≡ tabulate 16 0 (λ i. base-cell v2-marks (now (map .entry)) (repeated h (at .width) (at .row) (at .col) i))) ⌝ }
+    ensures { λ _. ⌜ ((h : V2Hdr) → now (marks .exit) ≡ repeated-cells v2-marks h at (now (map .entry))) ⌝ }
 {
     let a = mark_before(map, at, 0);
     let b = mark_before(map, at, 1);
@@ -67,8 +67,8 @@ fn repeat_marks(map: &[u8], at: Place, marks: &mut [u8; 16])
 
 // The marks of a block that meets no refusal.
 fn block_marks(map: &[u8], at: Place, motion: u32, marks: &mut [u8; 16])
-    requires { ⌜ Inside (length (now map)) at × ((motion ≤ 7) × ((length (now marks) ≡ 16) × (base-refusal (at .row) (at .col) motion ≡ 0))) ⌝ }
-    ensures { λ _. ⌜ ((h : V2Hdr) → now (marks .exit) ≡ tabulate 16 0 (λ i. base-cell v2-marks (now (map .entry)) (base h (at .width) (at .row) (at .col) motion i))) ⌝ }
+    requires { ⌜ Based (length (now map)) at motion (length (now marks)) ⌝ }
+    ensures { λ _. ⌜ ((h : V2Hdr) → now (marks .exit) ≡ base-cells v2-marks h at motion (now (map .entry))) ⌝ }
 {
     if motion == V2Row::MOTION {
         repeat_marks(map, at, marks);
@@ -92,7 +92,7 @@ fn store_marks(map: &mut [u8], at: usize, marks: &[u8; 16])
 // Marks a block in a map of the whole frame; an empty map has nothing to mark.
 fn mark_base(map: &mut [u8], at: Place, motion: u32)
     requires { ⌜ Markable (length (now map)) at motion ⌝ }
-    ensures { λ _. ⌜ ((h : V2Hdr) → now (map .exit) ≡ sets (now (map .entry)) (at .row * at .width + at .col) (tabulate 16 0 (λ i. base-cell v2-marks (now (map .entry)) (base h (at .width) (at .row) (at .col) motion i)))) ⌝ }
+    ensures { λ _. ⌜ ((h : V2Hdr) → now (map .exit) ≡ with-marks h at motion (now (map .entry))) ⌝ }
 {
     if map.len() == 0 {
         return;
@@ -102,10 +102,11 @@ fn mark_base(map: &mut [u8], at: Place, motion: u32)
     store_marks(&mut map[..], at.first(), &marks);
 }
 
-// The same, and filler where the reader had fetched some by the block's end.
+// Marks a block in a map of the whole frame, and adds filler where the reader had fetched some by the block's end; an empty map has
+// nothing to mark.
 pub fn mark_block(map: &mut [u8], at: Place, motion: u32, end: Bits)
     requires { ⌜ Markable (length (now map)) at motion ⌝ }
-    ensures { λ _. ⌜ ((h : V2Hdr) → now (map .exit) ≡ ended with-filler 0 (has-filler end) (at .row * at .width + at .col) (sets (now (map .entry)) (at .row * at .width + at .col) (tabulate 16 0 (λ i. base-cell v2-marks (now (map .entry)) (base h (at .width) (at .row) (at .col) motion i))))) ⌝ }
+    ensures { λ _. ⌜ ((h : V2Hdr) → now (map .exit) ≡ ended with-filler 0 (has-filler end) (at .row * at .width + at .col) (with-marks h at motion (now (map .entry)))) ⌝ }
 {
     mark_base(map, at, motion);
     if end.filler == 0 {

@@ -25,7 +25,7 @@ fn scaled(base: u16, d: i32, scale: i32) -> i32
     wide(base) + d * (2 * scale + 1) + scale
 }
 
-// The same without its products, where the scale is 0.
+// Base + difference: what `scaled` comes to where the scale is 0, without its products.
 fn unscaled(base: u16, d: i32) -> i32
     requires { ⌜ SFits w32 (pos base +ℤ d) ⌝ }
     ensures { λ r. ⌜ r ≡ pos base +ℤ d ⌝ }

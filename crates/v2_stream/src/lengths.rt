@@ -24,8 +24,8 @@ fn lengths_bit(src: &[u8], hdr: V2Hdr, bits: Bits) -> Got
 // The colour that length j belongs to.
 fn colour_of(row: usize, j: usize) -> usize
     requires { ⌜ j < 4 ⌝ }
-    ensures { λ r. ⌜ r ≡ colour row j ⌝ }
-    ensures { λ r. ⌜ r < 3 ⌝ }
+    ensures answered { λ r. ⌜ r ≡ colour row j ⌝ }
+    ensures small { λ r. ⌜ r < 3 ⌝ }
 {
     if row % 2 == 1 { j / 2 } else { (j / 2 + 2) % 3 }
 }

@@ -1,5 +1,14 @@
-// Reading by position. Bit q counts from the first bit of the word at byte `base`. What stands here reads words that are there,
-// and so no filler; a caller asks first whether the reader's record stands in the stream, and makes the record again after.
+// Reading by position, where all the words that a read needs are in the stream, so that no filler is read.
+//
+//   base     the byte position that bits are counted from: the start of a word
+//   q        a bit's number, from the first bit of the word at `base` on
+//   window   the 64 bits from bit q on, as a number
+//   record   the reader's state, `Bits` (docs/RULES.md, "The reader")
+//   stands   a record stands in the stream if its word is the stream's word before `pos`, so that a bit's number says the same as
+//            the record does
+//
+// A caller asks first whether the record stands in the stream (`stands_within`), reads by position, and makes the record again at
+// the bit after what it read (`state_at`).
 ghost use mathlib.Core.Bool.{true};
 ghost use mathlib.Core.Path.{_≡_};
 ghost use Prim.Native.Nat.{_+_, _*_, _/_, _≤_, _<_, _^_};
@@ -13,7 +22,7 @@ pub const BACK_BYTES: usize = 12;
 
 pub const BACK_BITS: usize = 96;
 
-// A window holds four numbers of so many bits each.
+// The most bits that each of four numbers has that one window holds.
 pub const SHORT_BITS: u32 = 16;
 
 // A byte as a wide number.
@@ -70,12 +79,12 @@ fn stands(src: &[u8], bits: Bits, more: usize) -> bool
     word_there(src, at - 4) == bits.word as u64
 }
 
-// Whether a state stands in the stream with two words before the one fetched last: a window that ends in what follows may begin in
-// them. Where it doesn't, the record reads.
+// Whether a state stands in the stream, with `more` bytes there from the word fetched last on and two words before that one: a
+// window that ends in what follows may begin in them. Where it doesn't, a caller reads by the record.
 pub fn stands_within(src: &[u8], bits: Bits, more: usize) -> bool
     requires { ⌜ 4 ≤ more ⌝ }
-    ensures { λ r. ⌜ r ≡ standing-in (now (src .entry)) bits more ⌝ }
-    ensures { λ r. ⌜ (r ≡ true → Standing (now (src .entry)) bits more) ⌝ }
+    ensures answered { λ r. ⌜ r ≡ standing-in (now (src .entry)) bits more ⌝ }
+    ensures stands { λ r. ⌜ (r ≡ true → Standing (now (src .entry)) bits more) ⌝ }
 {
     if bits.pos < 12 {
         return false;
@@ -83,7 +92,7 @@ pub fn stands_within(src: &[u8], bits: Bits, more: usize) -> bool
     stands(src, bits, more)
 }
 
-// The state that stands before bit q.
+// Returns the record that stands before bit q, with a count of missing words.
 pub fn state_at(src: &[u8], base: usize, q: usize, filler: u64) -> Bits
     requires { ⌜ (0 < q) × ((q < 2 ^ 32) × (base + (q + 31) / 32 * 4 ≤ length (now src))) ⌝ }
     ensures { λ r. ⌜ r ≡ state-at (now (src .entry)) base q filler ⌝ }

@@ -8,6 +8,7 @@ use lib.ListN.{length, take, drop, length-append, length-take, length-drop}
 use lib.Seq.{take-append-add}
 use lib.Dec.{ltb, lit<}
 use borrow.Author.Tests.{ltb-false, le-ltb}
+use Rattle.rules.specs.Limits.{most-side, sample-bound}
 use Rattle.rules.specs.Frame.{cells}
 use Rattle.rules.specs.V0.{sample-kind, exchange}
 use Rattle.rules.specs.Answer.{too-large}
@@ -28,8 +29,8 @@ unfolding any-above
 none-above most [] e = nil
 none-above most (a ∷ f) e = let q = neither _ _ e in more (ltb-false most a (q .0)) (none-above most f (q .1))
 
-pub not-bright : (f : List ℕ) → too-bright f ≡ false → All (λ a. a < 16_384) f
-not-bright f e = all-map (λ a. a ≤ 16_383) (λ a. a < 16_384) (λ a l. omega arith) (none-above 16_383 f e)
+pub not-bright : (f : List ℕ) → too-bright f ≡ false → All (λ a. a < sample-bound) f
+not-bright f e = all-map (λ a. a ≤ 16_383) (λ a. a < sample-bound) (λ a l. omega arith) (none-above 16_383 f e)
 
 -- A number is above a bound if the greatest is.
 pub above-is : (most : ℕ) (f : List ℕ) → ltb most (greatest f) ≡ any-above most f
@@ -39,10 +40,10 @@ above-is most (a ∷ f) = above-either most a (greatest f) ∙ ap (λ t. ltb mos
 
 -- What a call that is done has passed.
 pub record Passed (c : Call) : Type 0 where
-  pub wide : c .size .width ≤ 16_384
-  pub high : c .size .height ≤ 16_384
+  pub wide : c .size .width ≤ most-side
+  pub high : c .size .height ≤ most-side
   pub enough : length (frame-of c) ≡ cells (c .size)
-  pub dim : All (λ a. a < 16_384) (frame-of c)
+  pub dim : All (λ a. a < sample-bound) (frame-of c)
   pub room : length (stream-of c) ≤ length (c .stream)
   pub table : c .size .height ≤ length (c .offsets)
 
@@ -50,7 +51,7 @@ pub passed : (c : Call) → write-refusal c ≡ 0 → Passed c
 unfolding write-refusal too-large short-output
 passed c e =
     let p = tests (too-large (c .size)) (ltb (length (c .samples)) (cells (c .size))) (too-bright (frame-of c)) (short-output c) e in
-    let size = neither (ltb 16_384 (c .size .width)) (ltb 16_384 (c .size .height)) (p .0) in
+    let size = neither (ltb most-side (c .size .width)) (ltb most-side (c .size .height)) (p .0) in
     let output = neither (ltb (length (c .stream)) (length (stream-of c))) (ltb (length (c .offsets)) (c .size .height)) (p .3) in
     record {
       wide = ltb-false _ _ (size .0);

@@ -5,6 +5,7 @@ use mathlib.Core.Path.{_≡_, refl, ap, _∙_}
 use mathlib.Core.List.{List}
 use native.Mathlib.Omega.{arith}
 use lib.ListN.{length, length-append}
+use Rattle.rules.specs.Limits.{most-side}
 use Rattle.rules.specs.V0.{blocks-in}
 use Rattle.rules.proofs.Cells.{All, nil, more, all-append}
 use Rattle.writers.specs.Writer.{gap, padded, block-bits, Coding, Unit, word, line, blocks-bits, row-bytes, rows-bytes, offsets-from}
@@ -58,7 +59,7 @@ module _ (x : Coding) where
     pub row-fourth : (row : ℕ) → length (row-bytes x row) % 4 ≡ 0
     row-fourth row = let w = gap-whole (length (row-bits row)) u in rw (row-is row) (omega arith)
 
-    module _ (wide : x .width ≤ 16_384) where
+    module _ (wide : x .width ≤ most-side) where
       -- A row takes at most 33,920 bytes.
       pub row-most : (row : ℕ) → length (row-bytes x row) ≤ 33_920
       row-most row = rw (row-is row) (go (length (row-bits row)) u (omega (arith, blocks-length row (blocks-in (x .width)) 0)))

@@ -8,6 +8,7 @@ use native.Mathlib.Omega.{arith}
 use native.Mathlib.Nat.{zero-add}
 use lib.ListN.{length, getD, length-append, List·getD-append}
 use lib.Dec.{lit<}
+use Rattle.rules.specs.Limits.{most-side, sample-bound}
 use Rattle.rules.specs.declared.answer.Size.{Size}
 use Rattle.rules.specs.Reader.{fresh}
 use Rattle.rules.specs.Frame.{cells}
@@ -38,7 +39,7 @@ pub stream-below : (z : Size) (f : List ℕ) → All (λ b. b < 256) (stream-for
 unfolding stream-for
 stream-below z f = rows-below (residuals (z .width) (exchange sample-kind z f)) (z .height) 0
 
-module _ (z : Size) (f : List ℕ) (wide : z .width ≤ 16_384) (high : z .height ≤ 16_384) where
+module _ (z : Size) (f : List ℕ) (wide : z .width ≤ most-side) (high : z .height ≤ most-side) where
   pub stream-most : length (stream-for z f) ≤ 555_745_280
   unfolding stream-for
   stream-most = omega (arith, rows-most (residuals (z .width) (exchange sample-kind z f)) word wide (z .height) 0)
@@ -91,7 +92,7 @@ fresh-bits : (row offset : ℕ) → fresh-row row offset .bits ≡ fresh offset
 unfolding fresh-row
 fresh-bits row offset = refl
 
-module _ (s offsets : List ℕ) (st : Stream s) (w h : ℕ) (g : List ℕ) (small : All (λ a. a < 16_384) g) (long : length g ≡ w * h)
+module _ (s offsets : List ℕ) (st : Stream s) (w h : ℕ) (g : List ℕ) (small : All (λ a. a < sample-bound) g) (long : length g ≡ w * h)
     (found : (row : ℕ) → row < h → Found s (getD offsets row 0) (blocks-bits (residuals w g) row (blocks-in w) 0)) where
   abbrev size : Size
   size = record { width = w; height = h }
@@ -140,7 +141,7 @@ pub record Holds (s offsets : List ℕ) (z : Size) (f : List ℕ) : Type 0 where
   pub no-filler : (row : ℕ) → row < z .height → row-blocks s z row (getD offsets row 0) .bits .filler ≡ 0
 
 -- Whatever follows the stream and the offsets.
-module _ (z : Size) (f : List ℕ) (e : length f ≡ cells z) (small : All (λ a. a < 16_384) f) where
+module _ (z : Size) (f : List ℕ) (e : length f ≡ cells z) (small : All (λ a. a < sample-bound) f) where
   abbrev g : List ℕ
   g = exchange sample-kind z f
 
@@ -151,8 +152,8 @@ module _ (z : Size) (f : List ℕ) (e : length f ≡ cells z) (small : All (λ a
     abbrev o : List ℕ
     o = offsets-for z f ++ others
 
-    g-small : All (λ a. a < 16_384) g
-    g-small = exchange-all sample-kind (λ a. a < 16_384) (lit< tt) z small
+    g-small : All (λ a. a < sample-bound) g
+    g-small = exchange-all sample-kind (λ a. a < sample-bound) (lit< tt) z small
 
     g-length : length g ≡ cells z
     g-length = exchange-length sample-kind z f ∙ e
@@ -198,7 +199,7 @@ module _ (z : Size) (f : List ℕ) (e : length f ≡ cells z) (small : All (λ a
         }
 
 -- The stream and the offsets as they are written.
-pub round-trip : (z : Size) (f : List ℕ) → z .width ≤ 16_384 → z .height ≤ 16_384 → length f ≡ cells z → All (λ a. a < 16_384) f
+pub round-trip : (z : Size) (f : List ℕ) → z .width ≤ most-side → z .height ≤ most-side → length f ≡ cells z → All (λ a. a < sample-bound) f
     → Holds (stream-for z f) (offsets-for z f) z f
 round-trip z f wide high e small = rw (append-nil (stream-for z f), append-nil (offsets-for z f)) at
     (written-holds z f e small [] [] (rw (append-nil (stream-for z f)) (stream-bytes z f wide high)))

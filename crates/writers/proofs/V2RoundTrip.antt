@@ -9,6 +9,7 @@ use native.Mathlib.Nat.{mod-eq-of-lt, mul-comm, add-zero}
 use lib.ListN.{length, getD, length-append, length-replicate}
 use lib.Seq.{ext-getD}
 use lib.Dec.{lit<}
+use Rattle.rules.specs.Limits.{most-side, sample-bound}
 use Rattle.rules.specs.declared.answer.Size.{Size}
 use Rattle.rules.specs.declared.reader.Bits.{Bits}
 use Rattle.rules.specs.Reader.{fresh}
@@ -43,7 +44,7 @@ pub stream-below : (z : Size) (f : List ℕ) → All (λ b. b < 256) (stream-for
 unfolding stream-for
 stream-below z f = all-append (λ b. b < 256) (bytes-below header-bits) (rows-below (differences (z .width) f) (z .height) 0)
 
-module _ (z : Size) (f : List ℕ) (wide : z .width ≤ 16_384) (high : z .height ≤ 16_384) where
+module _ (z : Size) (f : List ℕ) (wide : z .width ≤ most-side) (high : z .height ≤ most-side) where
   pub stream-most : length (stream-for z f) ≤ 555_745_296
   unfolding stream-for
   stream-most = omega (arith, length-append (bytes header-bits) (rows-bytes (differences (z .width) f) (z .height) 0), header-bytes, rows-most (differences (z .width) f) line wide (z .height) 0)
@@ -121,7 +122,7 @@ rows-on : (row : ℕ) (q : Row) (rest : Frame) → q .number ≡ 0 → q .bits .
 unfolding then-rows
 rows-on row q rest e f = rw (e, f)
 
-module _ (s : List ℕ) (st : Stream s) (w h : ℕ) (whole : w % 16 ≡ 0) (g : List ℕ) (small : All (λ a. a < 16_384) g) where
+module _ (s : List ℕ) (st : Stream s) (w h : ℕ) (whole : w % 16 ≡ 0) (g : List ℕ) (small : All (λ a. a < sample-bound) g) where
   -- One row, after which the next starts at `after`.
   record SeesRow (row : ℕ) (b : Bits) (after : ℕ) : Type 0 where
     accepted : read-row s written-hdr w row b .number ≡ 0
@@ -223,7 +224,7 @@ pub record Holds (s : List ℕ) (z : Size) (f : List ℕ) : Type 0 where
   pub no-marks : 20 ≤ z .width → (i : ℕ) → i < cells z → getD (v2-map s z) i 0 ≡ 0
 
 -- Whatever follows the stream.
-pub written-holds : (z : Size) (f : List ℕ) → z .width % 16 ≡ 0 → length f ≡ cells z → All (λ a. a < 16_384) f
+pub written-holds : (z : Size) (f : List ℕ) → z .width % 16 ≡ 0 → length f ≡ cells z → All (λ a. a < sample-bound) f
     → (post : List ℕ) → Stream (stream-for z f ++ post) → Holds (stream-for z f ++ post) z f
 unfolding stream-for read-frame frame decoded top
 written-holds z f whole e small post st =
@@ -263,7 +264,7 @@ written-holds z f whole e small post st =
     accepted = rw (H .hdr-is) (R .accepted)
 
 -- The stream as it is written.
-pub round-trip : (z : Size) (f : List ℕ) → z .width ≤ 16_384 → z .height ≤ 16_384 → z .width % 16 ≡ 0 → length f ≡ cells z → All (λ a. a < 16_384) f
+pub round-trip : (z : Size) (f : List ℕ) → z .width ≤ most-side → z .height ≤ most-side → z .width % 16 ≡ 0 → length f ≡ cells z → All (λ a. a < sample-bound) f
     → Holds (stream-for z f) z f
 round-trip z f wide high whole e small =
     rw (append-nil (stream-for z f)) at (written-holds z f whole e small [] (rw (append-nil (stream-for z f)) (stream-bytes z f wide high)))

@@ -15,6 +15,7 @@ use lib.IntN.{ℤ, pos, negsuc}
 use lib.Pow.{pow-pos}
 use lib.Signed.{mag}
 use borrow.Author.Tests.{le-ltb, eqb-true, eqb-false}
+use Rattle.rules.specs.Limits.{sample-bound}
 use Rattle.rules.specs.declared.reader.Bits.{Bits}
 use Rattle.rules.specs.Reader.{has-filler, signed, modulo}
 use Rattle.rules.specs.Frame.{tabulate}
@@ -129,11 +130,11 @@ sets-same (suc k) i v n f g l h a =
 
 -- ── A block ──
 
-module _ (w h : ℕ) (g : List ℕ) (small : All (λ a. a < 16_384) g) (row : ℕ) (in-frame : row < h) where
-  get-small : (i : ℕ) → getD g i 0 < 16_384
-  get-small i = all-get (λ a. a < 16_384) small i 0 (lit< tt)
+module _ (w h : ℕ) (g : List ℕ) (small : All (λ a. a < sample-bound) g) (row : ℕ) (in-frame : row < h) where
+  get-small : (i : ℕ) → getD g i 0 < sample-bound
+  get-small i = all-get (λ a. a < sample-bound) small i 0 (lit< tt)
 
-  base-small : (col i : ℕ) → base-of w g row col i < 16_384
+  base-small : (col i : ℕ) → base-of w g row col i < sample-bound
   unfolding base-of
   base-small col i = by-test (eqb col 0) (λ e. rw e (lit< tt)) (λ e. rw e (get-small (row * w + col - 2 + i % 2)))
 
@@ -198,7 +199,7 @@ module _ (w h : ℕ) (g : List ℕ) (small : All (λ a. a < 16_384) g) (row : �
 
 -- ── A row's blocks ──
 
-module _ (s : List ℕ) (st : Stream s) (w h : ℕ) (g : List ℕ) (small : All (λ a. a < 16_384) g) (row : ℕ) (in-frame : row < h) where
+module _ (s : List ℕ) (st : Stream s) (w h : ℕ) (g : List ℕ) (small : All (λ a. a < sample-bound) g) (row : ℕ) (in-frame : row < h) where
   -- k blocks from a column on: none is refused, the reader sees what follows them, and they give the written frame.
   pub record SeesBlocks (k col : ℕ) (b : Bits) (mode : List (List ℕ)) (rest : List Bool) : Type 0 where
     pub accepted : blocks s written-hdr w row k col b fresh-row mode .number ≡ 0

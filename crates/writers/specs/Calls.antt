@@ -6,6 +6,7 @@ use mathlib.Core.List.{List, [], _∷_, _++_}
 use lib.ListN.{length, take, drop}
 use lib.Dec.{ltb, eqb}
 use Rattle.rules.specs.declared.answer.Size.{Size}
+use Rattle.rules.specs.Limits.{most-sample}
 use Rattle.rules.specs.Frame.{cells}
 use Rattle.rules.specs.Answer.{done, refused as early, too-large}
 use Rattle.writers.specs.declared.Written.{Written}
@@ -40,9 +41,9 @@ unfoldable pub any-above : ℕ → List ℕ → Bool
 any-above most [] = false
 any-above most (a ∷ f) = ltb most a || any-above most f
 
--- 9: a sample is above 16,383.
+-- 9: a sample is above the greatest that is written.
 abbrev pub too-bright : List ℕ → Bool
-too-bright f = any-above 16_383 f
+too-bright f = any-above most-sample f
 
 -- 10: the stream or the offsets do not fit their buffer.
 unfoldable pub short-output : Call → Bool

@@ -53,6 +53,9 @@ impl Written {
     }
 }
 
+// The greatest sample that is written.
+const MOST_SAMPLE: u16 = 16_383;
+
 // The brighter of two samples.
 fn brighter(a: u16, b: u16) -> u16
     ensures { λ r. ⌜ r ≡ max a b ⌝ }
@@ -60,7 +63,7 @@ fn brighter(a: u16, b: u16) -> u16
     if a < b { b } else { a }
 }
 
-// 9: a sample is above 16,383. A loop that never leaves early can take many samples at once.
+// Whether a sample is above the greatest that is written: refusal 9. A loop that never leaves early can take many samples at once.
 pub fn is_too_bright(samples: &[u16]) -> bool
     ensures { λ r. ⌜ r ≡ too-bright (now (samples .entry)) ⌝ }
 {
@@ -70,5 +73,5 @@ pub fn is_too_bright(samples: &[u16]) -> bool
         most = brighter(most, samples[i]);
         i += 1;
     }
-    16_383 < most
+    MOST_SAMPLE < most
 }

@@ -1,4 +1,4 @@
-//! Who decodes a frame: the Rust, and each of Razvolk's entries, all into the same buffers.
+//! Who decodes a frame: samsung.rs, and each of Razvolk's entries, all into the same buffers.
 
 use crate::measure::Contender;
 use compare::bands::Cut;
@@ -23,10 +23,10 @@ impl Buffers {
     }
 }
 
-/// A decoder of the Rust.
+/// A decoder of samsung.rs.
 type Rust = fn(&Frame, &mut [u16]) -> reference::Result<()>;
 
-/// The Rust's decoders of a version; Razvolk's are compared with the first, the two-phase ones with the second.
+/// samsung.rs's decoders of a version; Razvolk's are compared with the first, the two-phase ones with the second.
 fn rust(version: Version) -> &'static [(&'static str, Rust)] {
     match version {
         Version::V0 => &[
@@ -80,7 +80,7 @@ fn clean<'a>(frame: &'a Frame, buffers: &'a RefCell<Buffers>, contenders: &mut V
     }
 }
 
-/// The Rust's decoders of a frame, and Razvolk's entries. Frames that are refused are run, too. The decoder in bands is compared
+/// samsung.rs's decoders of a frame, and Razvolk's entries. Frames that are refused are run, too. The decoder in bands is compared
 /// with Razvolk's own in two phases, those for clean frames with its direct ones.
 pub fn of<'a>(frame: &'a Frame, buffers: &'a RefCell<Buffers>) -> Vec<Contender<'a>> {
     let mut contenders = Vec::new();

@@ -1,4 +1,4 @@
-//! Who turns V0 into V2: Razvolk, beside the Rust's two decoders, which read the one and the other.
+//! Who turns V0 into V2: Razvolk, beside samsung.rs's two decoders, which read the one and the other.
 
 use crate::measure::Contender;
 use compare::convert::plain::plain;
@@ -28,7 +28,7 @@ impl Converted {
         Converted { frame: v0::encode(&image, width, height), image, stream, buffers: RefCell::new(buffers) }
     }
 
-    /// The Rust's direct decoder of V0 and then its decoder of V2, with which it is compared, and the converter.
+    /// samsung.rs's direct decoder of V0 and then its decoder of V2, with which it is compared, and the converter.
     pub fn contenders(&self) -> Vec<Contender<'_>> {
         let Converted { frame, stream, buffers, .. } = self;
         let &Frame { width, height, .. } = frame;

@@ -1,4 +1,4 @@
-//! `bench [V0 | V2 | planes | write | blank | into] [RUNS [PART]]`: Razvolk and the Rust in turn on the same frames, in one process, the best of
+//! `bench [V0 | V2 | planes | write | blank | into] [RUNS [PART]]`: Razvolk and samsung.rs in turn on the same frames, in one process, the best of
 //! RUNS runs each (20); then the instructions that they take, where valgrind is installed. PART divides each side of the frames, for
 //! a quick look; a name leaves out the others.
 
@@ -55,7 +55,7 @@ fn tell_how(runs: usize) {
         "{model}; best of {runs} runs in turn, processor time of one thread; buffers are not cleared between runs"
     );
     println!(
-        "ratio: time divided by the Rust's, decode_v0_reference for direct and for writers, decode_v0_with(.., false) for \
+        "ratio: time divided by samsung.rs's, decode_v0_reference for direct and for writers, decode_v0_with(.., false) for \
          two-phase, decode_v0_reference and decode_v2 together for v0_to_v2; of decode_v0_bands, with 8 bands and blocks of \
          256 columns, by decode_v0's; of decode_v0_clean by decode_v0_reference's, both Razvolk's; of blank by \
          blank_with's"
@@ -83,7 +83,7 @@ fn time_blanking(runs: usize, part: usize) {
     bench::blank::time(V0.0 / part, V0.1 / part, runs);
 }
 
-/// Whether the Rust decodes V2 of this size, and there is a time to compare with.
+/// Whether samsung.rs decodes V2 of this size, and there is a time to compare with.
 fn the_rust_takes(width: usize, height: usize) -> bool {
     width >= 646 && height >= 436
 }

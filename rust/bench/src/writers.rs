@@ -1,4 +1,4 @@
-//! Who writes a frame: Razvolk and a plain Rust writer, beside the Rust's direct decoder, which reads what they write.
+//! Who writes a frame: Razvolk and a plain Rust writer, beside samsung.rs's direct decoder, which reads what they write.
 
 use crate::measure::Contender;
 use compare::write::plain::plain;
@@ -26,7 +26,7 @@ impl Written {
         Written { image, frame, buffers: RefCell::new(buffers) }
     }
 
-    /// The Rust's direct decoder, with which all are compared, and the writers.
+    /// samsung.rs's direct decoder, with which all are compared, and the writers.
     pub fn contenders(&self) -> Vec<Contender<'_>> {
         let Written { image, frame, buffers } = self;
         let &Frame { width, height, .. } = frame;

@@ -1,5 +1,5 @@
-//! Blanking and the archive export against plain loops written from the request: of frames that are decoded, with their maps, and
-//! of maps that are made up. There is nothing of them in the Rust that the decoders are held to. The plain loop has a fault where
+//! Blanking and the archive export against plain loops written from the rules: of frames that are decoded, with their maps, and
+//! of maps that are made up. There is nothing of them in samsung.rs, which the decoders are held to. The plain loop has a fault where
 //! wanted, and the comparison must find each fault out.
 
 use crate::call::{Difference, first_difference};

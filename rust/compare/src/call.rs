@@ -42,7 +42,7 @@ pub struct Lent<'a> {
     pub scratch: &'a mut [u8],
 }
 
-/// Number 0 is done. The Rust tells of no missing words: what is held to it leaves the count out.
+/// Number 0 is done. samsung.rs tells of no missing words: what is held to it leaves the count out.
 #[derive(Clone, Copy, Debug, PartialEq, Eq)]
 pub struct Answer {
     pub number: u32,

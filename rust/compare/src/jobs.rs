@@ -1,4 +1,4 @@
-//! Inputs of the job program with the texts that it must write. Samples come from the Rust, marks from runs of the Rust over
+//! Inputs of the job program with the texts that it must write. Samples come from samsung.rs, marks from runs of samsung.rs over
 //! two sets of old values and from the comparison's own decoder: nothing here comes from the program that is tested.
 
 use crate::v0::compare::{both_parts, marks, rust};
@@ -55,7 +55,7 @@ fn rows(frame: &Frame) -> String {
     let n = frame.samples();
     let (zeros, ones) = (rust(frame, &vec![0; n]), rust(frame, &vec![1; n]));
     let old = marks(n, &zeros, &ones).expect("a sample rises with the old values or stays");
-    let marks = both_parts(frame, &vec![0; n], &zeros, &old).expect("the decoder of its own is the Rust's equal");
+    let marks = both_parts(frame, &vec![0; n], &zeros, &old).expect("the decoder of its own is samsung.rs's equal");
     let mut text = String::from("done\n");
     for row in 0..frame.height {
         write!(text, "{row}:").expect("a string takes all");

@@ -1,8 +1,8 @@
-//! Holds Razvolk to the Rust that it was ported from: both sides get the same inputs, and everything that both let a caller
+//! Holds Razvolk to samsung.rs, which it was ported from: both sides get the same inputs, and everything that both let a caller
 //! see is compared. Inputs come from a generator with a seed (`streams`), so that a difference can be had again.
 //!
 //! [`call`] has Razvolk's entries. A comparison is a module whose `compare` tells what it has seen, or the first difference;
-//! `main` has the table of them. The models are decoders of their own, written from the rules: they tell what the Rust does
+//! `main` has the table of them. The models are decoders of their own, written from the rules: they tell what samsung.rs does
 //! not, and with a fault they must be found out.
 
 pub mod bands;

@@ -185,7 +185,7 @@ struct Rules {
     origins: Vec<(usize, u16)>,
 }
 
-/// V0's are found by runs of the Rust over chosen old values: zeros give the amounts, ones the old parts of the marks, and each
+/// V0's are found by runs of samsung.rs over chosen old values: zeros give the amounts, ones the old parts of the marks, and each
 /// sample's own place, in two parts of 16 bits, the positions. The filler parts are those of the decoder of its own.
 fn rules(asked: &Asked, pool: &Pool) -> Result<Rules, String> {
     let frame = match asked {

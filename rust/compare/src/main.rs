@@ -1,4 +1,4 @@
-//! The comparisons with the Rust, as long as wanted. Each prints its seed, and how much was compared.
+//! The comparisons with samsung.rs, as long as wanted. Each prints its seed, and how much was compared.
 
 use compare::call::{Difference, Entry, razvolk, razvolk_in_bands, razvolk_of, with_map};
 use compare::{
@@ -14,7 +14,7 @@ use streams::Version::{V0, V2};
 const USAGE: &str = "usage: compare quick [SEED]
        compare long [SEED]
        compare reader|states|v0|bands|clean|v2|v2-crops|v2-full|missing|uploads|late|refusals|lists|planes|write|blank|convert|convert-full|packed COUNT [SEED]
-       compare record FILE           writes recorded calls of the Rust
+       compare record FILE           writes recorded calls of samsung.rs
        compare record-check FILE     finds them equal
        compare jobs FOLDER           writes the job program's cases
        compare jobs-check FOLDER     finds them equal";

@@ -1,5 +1,5 @@
-//! How many words were missing: streams broken off after every byte. V0's samples are the Rust's; V2's are those of the decoder
-//! of its own, which [`crate::v2`] holds to the Rust. The counts are those of readers that know how many bits were read, and
+//! How many words were missing: streams broken off after every byte. V0's samples are samsung.rs's; V2's are those of the decoder
+//! of its own, which [`crate::v2`] holds to samsung.rs. The counts are those of readers that know how many bits were read, and
 //! fetch no words.
 
 use crate::call::{Ask, Difference, Entry, Lent};
@@ -30,7 +30,7 @@ impl fmt::Display for Seen {
 }
 
 /// Breaks `frames` small frames of V0 off after every byte; for every eighth, a small crop of V2; and for every thirty-second, a
-/// stream of V2 that the Rust takes, after every byte of the header, of the first two rows, and of the end.
+/// stream of V2 that samsung.rs takes, after every byte of the header, of the first two rows, and of the end.
 pub fn compare(of_v0: &[Entry], of_v2: &[Entry], seed: u64, frames: u64) -> Result<Seen, Difference> {
     let mut random = Random::new(seed);
     let mut seen = Seen { seed, ..Seen::default() };

@@ -1,4 +1,4 @@
-//! Colour planes, both ways, against a plain loop written from the request. There is nothing of them in the Rust that the
+//! Colour planes, both ways, against a plain loop written from the rules. There is nothing of them in samsung.rs, which the
 //! decoders are held to.
 
 use crate::call::Difference;

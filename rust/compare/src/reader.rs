@@ -1,6 +1,6 @@
-//! The bit reader: Razvolk's `Ph1Bits`, over `razvolk::bits`, against the Rust's, step by step. Value, position and overrun are
-//! compared after each step; the unread bits, which the Rust keeps to itself, show in the reads that follow. The count of
-//! missing words, which the Rust does not have, is held to the positions that the Rust fetches from. A state with more than 31
+//! The bit reader: Razvolk's `Ph1Bits`, over `razvolk::bits`, against samsung.rs's, step by step. Value, position and overrun are
+//! compared after each step; the unread bits, which samsung.rs keeps to itself, show in the reads that follow. The count of
+//! missing words, which samsung.rs does not have, is held to the positions that samsung.rs fetches from. A state with more than 31
 //! unread bits has no counterpart there, nor has one with a large count: [`crate::states`] tries them.
 
 use crate::call::Difference;
@@ -25,7 +25,7 @@ pub fn razvolk<'a>(src: &'a [u8], pos: u64) -> Box<dyn Reader + 'a> {
     Box::new(razvolk::Ph1Bits::new(src, pos as usize))
 }
 
-/// The Rust's reader.
+/// samsung.rs's reader.
 pub fn reference<'a>(src: &'a [u8], pos: u64) -> Box<dyn Reader + 'a> {
     Box::new(reference::Ph1Bits::new(src, pos as usize))
 }
@@ -100,7 +100,7 @@ impl fmt::Display for Seen {
         writeln!(f, "reader, seed {seed}: {streams} streams, {resets} resets")?;
         writeln!(f, "reader: the overrun was set after {overrun} reads, {missing} words were missing")?;
         writeln!(f, "reader: {wrapped} reads took the position past 2^64")?;
-        write!(f, "reader: {reads} reads compared with the Rust, no difference")
+        write!(f, "reader: {reads} reads compared with samsung.rs, no difference")
     }
 }
 

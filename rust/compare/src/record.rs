@@ -1,4 +1,4 @@
-//! Calls of the Rust, and of the plain writer, with what they answered and left, as a file that a program can replay without
+//! Calls of samsung.rs, and of the plain writer, with what they answered and left, as a file that a program can replay without
 //! either. docs/RECORD.md says how the file is laid out.
 
 use crate::call::{Answer, Ask, first_difference};
@@ -11,7 +11,7 @@ use streams::random::Random;
 use streams::v2::any::{Header, Planted, Scale, Style, written};
 use streams::{Frame, Version, v0};
 
-/// In place of a row that the Rust does not tell.
+/// In place of a row that samsung.rs does not tell.
 const NOT_TOLD: u32 = u32::MAX;
 
 /// How long the buffers are that a frame is written into.
@@ -102,7 +102,7 @@ impl File {
         let answer = match reference::decode_v0_reference(stream, offsets, width, height, &mut out) {
             Ok(()) => Answer::DONE,
             Err(Error::InvalidArgument(_)) => Answer::refused(3),
-            Err(other) => panic!("the Rust answers {other:?}"),
+            Err(other) => panic!("samsung.rs answers {other:?}"),
         };
         self.call(frame, lent, seed, answer, &out);
     }
@@ -178,7 +178,7 @@ fn streams_of_v2(file: &mut File, random: &mut Random) {
         file.v2(&written(random, &style, 646, 436, None), n + 5, random);
     }
     let zeros = |width, height| Frame { stream: vec![0; 16], ..Frame::new(Version::V2, width, height) };
-    // The Rust refuses all below 646 by 436 as too small; Razvolk only what is below 32 by 1.
+    // samsung.rs refuses all below 646 by 436 as too small; Razvolk only what is below 32 by 1.
     for (width, height, lent) in [(31, 1, n), (32, 0, n), (646, 436, n - 1)] {
         file.v2(&zeros(width, height), lent, random);
     }

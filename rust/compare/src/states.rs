@@ -1,5 +1,5 @@
 //! The bit reader by value, at the C boundary, in any state: more unread bits than there can be, any position, any count of
-//! missing words, mostly near its ends. The Rust has no such states; a reader by value of this module, written from the rules,
+//! missing words, mostly near its ends. samsung.rs has no such states; a reader by value of this module, written from the rules,
 //! stands in for it.
 
 use crate::call::Difference;

@@ -11,7 +11,7 @@ fn razvolk_converts_as_the_plain_converter_does() {
     assert_eq!(seen.frames, 1_000);
     assert!([0, 1, 2, 10].iter().all(|&number| seen.numbers[number] > 40), "{seen}");
     assert!([3, 4, 9, 15, 16].iter().all(|&number| seen.numbers[number] > 40), "{seen}");
-    assert!(seen.decoded > 300 && seen.by_the_rust > 40, "{seen}");
+    assert!(seen.decoded > 300 && seen.by_samsung_rs > 40, "{seen}");
 }
 
 /// The comparison of a converter with a fault.

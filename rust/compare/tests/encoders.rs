@@ -1,4 +1,4 @@
-//! What `streams` encodes, the Rust decodes to the image.
+//! What `streams` encodes, samsung.rs decodes to the image.
 
 use reference::{decode_v0_reference, decode_v2};
 use streams::images::photo;

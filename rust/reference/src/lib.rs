@@ -1,4 +1,4 @@
-//! The Rust that Razvolk is held to: samsung.rs, par.rs and error.rs, unchanged, from where they lie (see `build.rs`). What
+//! What Razvolk is held to: samsung.rs, par.rs and error.rs, unchanged, from where they lie (see `build.rs`). What
 //! they name of files that are not at hand is stood in for here; the decoders that are compared reach none of it.
 // What the foreign files would be warned of is not ours to change.
 #![allow(warnings)]

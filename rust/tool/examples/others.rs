@@ -25,7 +25,7 @@ fn main() -> io::Result<()> {
             put(name("v0"), own(Coding::V0(encoded.offsets), width, height, &encoded.stream))?;
             let (stream, offsets) = razvolk::write_v0_to_vecs(image, width, height).map_err(io::Error::other)?;
             put(name("v0-written"), own(Coding::V0(offsets), width, height, &stream))?;
-            // Other readers may refuse smaller ones, as the Rust does.
+            // Other readers may refuse smaller ones, as samsung.rs does.
             if width >= 646 {
                 put(name("v2"), own(Coding::V2, width, height, &v2::encode(image, width, height).stream))?;
             }

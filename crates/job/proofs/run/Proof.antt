@@ -1,4 +1,4 @@
--- Each way out gives the text that document 01 has for what the tests before it found.
+-- Each way out gives the text that the rules have for what the tests before it found.
 use mathlib.Core.Path.{sym, _∙_}
 use denote.Ref.{now}
 use borrow.Author.Tests.{not-true, not-false}

@@ -1,4 +1,4 @@
-//! V0 in bands against the Rust and the plain call: samples and scratch of good lists of every kind; and lists and cuts that are
+//! V0 in bands against samsung.rs and the plain call: samples and scratch of good lists of every kind; and lists and cuts that are
 //! broken in every way, which must be refused with nothing changed.
 
 use super::{Cut, Kind, Way};
@@ -33,11 +33,11 @@ impl fmt::Display for Seen {
         writeln!(f, "bands: up to {bands} bands of up to {blocks} blocks; answers 0 to 12: {numbers:?}")?;
         let ways: Vec<String> = Way::ALL.iter().zip(ways).map(|(way, count)| format!("{way:?} {count}")).collect();
         writeln!(f, "bands: refused by 11 or 12: {}", ways.join(", "))?;
-        write!(f, "bands: {frames} frames, each by {} lists as the plain call and the Rust", Kind::ALL.len())
+        write!(f, "bands: {frames} frames, each by {} lists as the plain call and samsung.rs", Kind::ALL.len())
     }
 }
 
-/// A frame with what its buffers hold before and after, by the Rust and the plain call.
+/// A frame with what its buffers hold before and after, by samsung.rs and the plain call.
 struct Expected<'a> {
     frame: &'a Frame,
     old: (Vec<u16>, Vec<u8>),
@@ -55,7 +55,7 @@ fn expected<'a>(frame: &'a Frame, random: &mut Random) -> Result<Expected<'a>, S
     let mut phases = old.0.clone();
     reference::decode_v0_with(stream, offsets, width, height, &mut phases, false).expect("within the limits");
     match first_difference(&new.0, &direct).or_else(|| first_difference(&new.0, &phases)) {
-        Some(what) => Err(format!("the plain call and the Rust: {what}")),
+        Some(what) => Err(format!("the plain call and samsung.rs: {what}")),
         None => Ok(Expected { frame, old, new }),
     }
 }

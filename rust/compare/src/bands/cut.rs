@@ -20,7 +20,7 @@ pub enum Kind {
     Columns,
     Diagonals,
     Ready,
-    /// As the Rust's `wavefront` does its blocks, on some threads.
+    /// As samsung.rs's `wavefront` does its blocks, on some threads.
     Wavefront,
 }
 
@@ -52,7 +52,7 @@ impl Cut {
         let threads = 1 + random.index(most);
         let mut cut = Cut::shape(random, width, height);
         if kind == Kind::Wavefront && random.below(2) == 0 {
-            // The Rust's own cut.
+            // samsung.rs's own cut.
             cut.bands = threads.min(most_bands(height));
             cut.block_width = width.div_ceil(16).div_ceil(4 * threads).max(16) * 16;
         }

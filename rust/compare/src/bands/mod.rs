@@ -1,5 +1,5 @@
 //! V0 in bands: lists of steps that are good and lists that are broken, the comparison of the entry with the plain call and with
-//! the Rust, and a decoder that is wrong where wanted.
+//! samsung.rs, and a decoder that is wrong where wanted.
 
 pub mod broken;
 pub mod compare;

@@ -1,5 +1,5 @@
-//! Clean V0 frames: the profile's verdict against a plain one, written from the request, and a decoder that is wrong where
-//! wanted. There is nothing of it in the Rust that the decoders are held to.
+//! Clean V0 frames: the verdict against a plain one, written from the rules, and a decoder that is wrong where
+//! wanted. There is nothing of it in samsung.rs, which the decoders are held to.
 
 pub mod compare;
 pub mod frames;

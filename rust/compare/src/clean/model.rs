@@ -1,4 +1,4 @@
-//! The profile's verdict in plain loops, and a decoder over it, with a fault where wanted: the comparison must find each out.
+//! The verdict on clean frames in plain loops, and a decoder over it, with a fault where wanted: the comparison must find each out.
 
 use crate::v0::parse::{Head, heads};
 use razvolk::Refusal;

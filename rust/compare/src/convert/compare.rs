@@ -1,5 +1,5 @@
 //! A converter against the plain one: answer, length, samples, map and every byte of the stream, over random buffers that are just
-//! long enough, short, and longer; and what it writes decoded by Razvolk's V2 entries and, where it takes the size, by the Rust.
+//! long enough, short, and longer; and what it writes decoded by Razvolk's V2 entries and, where it takes the size, by samsung.rs.
 
 use super::plain::{Buffers, Fault, convert};
 use crate::call::{self, Answer, Difference, Entry, Lent, first_difference, razvolk_of};
@@ -37,24 +37,24 @@ pub struct Seen {
     /// Calls of the converter, and how many got number 0 to 16.
     pub calls: u64,
     pub numbers: [u64; 17],
-    /// Streams decoded back by Razvolk's entries, and by the Rust.
+    /// Streams decoded back by Razvolk's entries, and by samsung.rs.
     pub decoded: u64,
-    pub by_the_rust: u64,
+    pub by_samsung_rs: u64,
 }
 
 impl fmt::Display for Seen {
     fn fmt(&self, f: &mut fmt::Formatter<'_>) -> fmt::Result {
-        let Seen { seed, frames, samples, bytes, calls, numbers, decoded, by_the_rust } = self;
+        let Seen { seed, frames, samples, bytes, calls, numbers, decoded, by_samsung_rs } = self;
         writeln!(
             f,
             "convert, seed {seed}: {samples} samples into {bytes} bytes, {calls} calls, answers 0 to 16: {numbers:?}"
         )?;
-        writeln!(f, "convert: {decoded} streams decoded back by Razvolk, {by_the_rust} by the Rust")?;
+        writeln!(f, "convert: {decoded} streams decoded back by Razvolk, {by_samsung_rs} by samsung.rs")?;
         write!(f, "convert: {frames} frames equal to the plain converter's")
     }
 }
 
-/// The size of frame number `i`: one of `every` is large enough for the Rust, the others are small; not all widths are multiples
+/// The size of frame number `i`: one of `every` is large enough for samsung.rs, the others are small; not all widths are multiples
 /// of 16.
 fn size(random: &mut Random, i: u64, every: u64) -> (usize, usize) {
     let uneven = if random.once_in(8) { random.index(16) } else { 0 };
@@ -110,7 +110,7 @@ fn called(
     found.map_or(Ok((written, a, c)), |found| Err(format!("{what}, {}: {found}", written.answer)))
 }
 
-/// Decodes a stream by Razvolk's V2 entries, over random buffers, and by the Rust: the samples come back, with no byte other than 0.
+/// Decodes a stream by Razvolk's V2 entries, over random buffers, and by samsung.rs: the samples come back, with no byte other than 0.
 fn back(entries: &[Entry], frame: &Frame, samples: &[u16], random: &mut Random, seen: &mut Seen) -> Result<(), String> {
     let n = samples.len();
     for entry in entries {
@@ -125,11 +125,11 @@ fn back(entries: &[Entry], frame: &Frame, samples: &[u16], random: &mut Random, 
     if rust_takes(frame.width, frame.height) {
         let mut new = random.samples(n);
         reference::decode_v2(&frame.stream, frame.width, frame.height, &mut new)
-            .map_err(|e| format!("the Rust: {e:?}"))?;
+            .map_err(|e| format!("samsung.rs: {e:?}"))?;
         if new != samples {
-            return Err("the Rust: other samples".into());
+            return Err("samsung.rs: other samples".into());
         }
-        seen.by_the_rust += 1;
+        seen.by_samsung_rs += 1;
     }
     Ok(())
 }
@@ -171,7 +171,7 @@ fn one(
     Ok(())
 }
 
-/// Compares a converter on so many frames, of which one of `every` is large enough for the Rust.
+/// Compares a converter on so many frames, of which one of `every` is large enough for samsung.rs.
 pub fn compare(converter: Convert, seed: u64, frames: u64, every: u64) -> Result<Seen, Difference> {
     compare_sizes(converter, seed, frames, |random, i| size(random, i, every))
 }

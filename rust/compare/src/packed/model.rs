@@ -1,9 +1,9 @@
-//! The verdict on a proposal in plain Rust: the plain verdict of the profile, the plain writer, and the Rust's own decoder; with a
+//! The verdict on a proposal in plain Rust: the plain verdict on clean frames, the plain writer, and samsung.rs's own decoder; with a
 //! fault where wanted, which the comparison must find out.
 
 use super::proposals::Proposal;
 use crate::call::Answer;
-use crate::clean::model as profile;
+use crate::clean::model as clean;
 use crate::write::plain::plain;
 use streams::Frame;
 
@@ -18,13 +18,13 @@ crate::faults::faults!(
     FirstRowAlone,
     AllButTheLast,
     PastTheFrame,
-    BrightAfterProfile,
+    BrightAfterClean,
     BrightBeforeShort,
     BrightAfterScratch,
     BrightPastTheFrame,
     BrightAt16383,
-    ProfileAfterLength,
-    NoProfile,
+    CleanAfterLength,
+    NoClean,
     NoRow,
     ScratchKeptByOther,
     ScratchKept,
@@ -42,9 +42,9 @@ pub fn check(fault: Fault, proposal: &Proposal, scratch: &mut [u16]) -> Answer {
     let told = told(fault, frame);
     let long = is_longer(fault, stream, offsets, meant, (width, height));
     let long = long.then_some(Answer::refused(21));
-    let bright = fault == Fault::BrightAfterProfile && is_bright(fault, meant, width * height);
+    let bright = fault == Fault::BrightAfterClean && is_bright(fault, meant, width * height);
     let before = match fault {
-        Fault::ProfileAfterLength => long.or(told),
+        Fault::CleanAfterLength => long.or(told),
         Fault::SamplesBeforeLength => told,
         _ => told.or(bright.then_some(Answer::refused(9))).or(long),
     };
@@ -86,15 +86,15 @@ fn refusal(fault: Fault, Proposal { frame, meant }: &Proposal, scratch: usize) -
     match fault {
         Fault::BrightBeforeShort => early.swap(0, 1),
         Fault::BrightAfterScratch => early.swap(1, 2),
-        Fault::BrightAfterProfile => early[1].1 = false,
+        Fault::BrightAfterClean => early[1].1 = false,
         _ => {}
     }
     early.iter().find(|(_, holds)| *holds).map(|&(number, _)| number)
 }
 
-/// The profile's refusal.
+/// The refusal of a frame that is not clean.
 fn told(fault: Fault, frame: &Frame) -> Option<Answer> {
-    let (number, row, _) = profile::verdict(profile::Fault::None, frame).filter(|_| fault != Fault::NoProfile)?;
+    let (number, row, _) = clean::verdict(clean::Fault::None, frame).filter(|_| fault != Fault::NoClean)?;
     let row = if fault == Fault::NoRow { 0 } else { row as u32 };
     Some(Answer { number, row, filler: 0 })
 }

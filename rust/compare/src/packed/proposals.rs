@@ -23,7 +23,7 @@ pub enum Source {
     Filled,
     /// A clean frame of any kind, and what it decodes to.
     Clean,
-    /// A frame with a fault of the profile, or two.
+    /// A frame with a fault of those that are not clean, or two.
     Unclean,
     /// Any frame.
     Any,

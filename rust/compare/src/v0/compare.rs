@@ -1,4 +1,4 @@
-//! V0's entries against the Rust: samples over the whole buffer, the old part of marks against runs over two sets of old
+//! V0's entries against samsung.rs: samples over the whole buffer, the old part of marks against runs over two sets of old
 //! values, its filler part against the decoder of its own, scratch and the count of missing words against the frame's blocks
 //! read on their own.
 
@@ -42,11 +42,11 @@ impl fmt::Display for Seen {
         writeln!(f, "V0: {none} lengths of 0 or below, {long} above 32")?;
         writeln!(f, "V0: {} rows past the stream's end, {} words missing", missing.rows, missing.words)?;
         writeln!(f, "V0: {spill} frames with spill, {old} with old samples, {marked} samples old, {filled} of filler")?;
-        write!(f, "V0: {frames} frames compared with the Rust, no difference")
+        write!(f, "V0: {frames} frames compared with samsung.rs, no difference")
     }
 }
 
-/// What the Rust leaves of a frame over old values.
+/// What samsung.rs leaves of a frame over old values.
 pub fn rust(frame: &Frame, old: &[u16]) -> Vec<u16> {
     let mut out = old.to_vec();
     let &Frame { width, height, ref stream, ref offsets, .. } = frame;
@@ -59,7 +59,7 @@ pub fn one_higher(old: &[u16]) -> Vec<u16> {
     old.iter().map(|s| s.wrapping_add(1)).collect()
 }
 
-/// The old parts of the marks, found by runs of the Rust alone: samples over old values and over old values that are one higher differ by 1
+/// The old parts of the marks, found by runs of samsung.rs alone: samples over old values and over old values that are one higher differ by 1
 /// where they rest on an old value, else not at all.
 pub fn marks(n: usize, over_old: &[u16], over_higher: &[u16]) -> Result<Vec<u8>, String> {
     let rise = |(i, (a, b)): (usize, (&u16, &u16))| match b.wrapping_sub(*a) {
@@ -79,7 +79,7 @@ struct Expected {
     missing: Missing,
 }
 
-/// The map's bytes by the decoder of its own, whose samples must be the Rust's and whose old parts those of runs of the Rust.
+/// The map's bytes by the decoder of its own, whose samples must be samsung.rs's and whose old parts those of runs of samsung.rs.
 pub fn both_parts(frame: &Frame, old: &[u16], samples: &[u16], old_parts: &[u8]) -> Result<Vec<u8>, String> {
     let (mut own, mut map) = (old.to_vec(), vec![9; frame.samples()]);
     let mut lent = Lent { samples: &mut own, map: &mut map, scratch: &mut [] };
@@ -101,7 +101,7 @@ fn expected(frame: &Frame, old: Vec<u16>) -> Result<Expected, String> {
     let &Frame { width, height, ref stream, ref offsets, .. } = frame;
     reference::decode_v0(stream, offsets, width, height, &mut other).expect("the frame is within the limits");
     if let Some(what) = first_difference(&other, &samples[1]) {
-        return Err(format!("the Rust's decode_v0 and decode_v0_reference: {what}"));
+        return Err(format!("samsung.rs's decode_v0 and decode_v0_reference: {what}"));
     }
     let marks = both_parts(frame, &old[1], &samples[1], &marks(width * height, &samples[1], &samples[0])?)?;
     let (directions, missing) = (parse::directions(frame), parse::heads(frame, |_| {}));

@@ -1,4 +1,4 @@
-//! V0: the comparison of its entries with the Rust, and a decoder that is wrong where wanted.
+//! V0: the comparison of its entries with samsung.rs, and a decoder that is wrong where wanted.
 
 pub mod compare;
 pub mod model;

@@ -1,4 +1,4 @@
-//! A V0 decoder of its own, written from the rules: it gives what the Rust does not tell, which samples rest on missing words.
+//! A V0 decoder of its own, written from the rules: it gives what samsung.rs does not tell, which samples rest on missing words.
 //! With a fault where wanted: the comparisons must find each fault out.
 
 use crate::call::{Answer, Ask, Decoder, Entry, Lent};

@@ -1,4 +1,4 @@
-//! V2's entries against the Rust, or where it refuses the size against the rules: the refusal's number, its row, samples over the
+//! V2's entries against samsung.rs, or where it refuses the size against the rules: the refusal's number, its row, samples over the
 //! whole buffer, and marks.
 
 use super::model::{self, Fault, Used};
@@ -9,10 +9,10 @@ use streams::Frame;
 use streams::random::Random;
 use streams::v2::any::{Planted, Scale, Style, written};
 
-/// The least width and height that the Rust takes. Razvolk takes smaller ones.
+/// The least width and height that samsung.rs takes. Razvolk takes smaller ones.
 pub const RUST_LEAST: (usize, usize) = (646, 436);
 
-/// Whether the Rust takes frames of this size.
+/// Whether samsung.rs takes frames of this size.
 pub fn rust_takes(width: usize, height: usize) -> bool {
     width >= RUST_LEAST.0 && height >= RUST_LEAST.1
 }
@@ -55,19 +55,19 @@ impl fmt::Display for Seen {
     }
 }
 
-/// What the Rust answers and leaves over old values; it tells a row only with 8, and of no missing words.
+/// What samsung.rs answers and leaves over old values; it tells a row only with 8, and of no missing words.
 pub fn rust(frame: &Frame, old: &[u16]) -> (Answer, Vec<u16>) {
     let mut out = old.to_vec();
     let answer = match reference::decode_v2(&frame.stream, frame.width, frame.height, &mut out) {
         Ok(()) => Answer::DONE,
         Err(Error::InvalidArgument(_)) => Answer::refused(3),
         Err(Error::CorruptFile { what, .. }) => refusal(&what),
-        Err(other) => panic!("the Rust answers {other:?}"),
+        Err(other) => panic!("samsung.rs answers {other:?}"),
     };
     (answer, out)
 }
 
-/// The number and row of the Rust's text.
+/// The number and row of samsung.rs's text.
 fn refusal(what: &str) -> Answer {
     let parts = [("too small", 2), ("on the first rows", 5), ("out of range", 6), ("invalid difference length", 7)];
     if let Some((_, number)) = parts.into_iter().find(|(part, _)| what.contains(part)) {
@@ -76,11 +76,11 @@ fn refusal(what: &str) -> Answer {
     let row = what.split("truncated data at row ").nth(1).and_then(|rest| rest.split('/').next());
     match row.and_then(|row| row.parse().ok()) {
         Some(row) => Answer { row, ..Answer::refused(8) },
-        None => panic!("the Rust says: {what}"),
+        None => panic!("samsung.rs says: {what}"),
     }
 }
 
-/// What decides over old values: the Rust, or where it refuses the size the decoder of its own, which is written from the rules.
+/// What decides over old values: samsung.rs, or where it refuses the size the decoder of its own, which is written from the rules.
 pub fn decided(frame: &Frame, old: &[u16]) -> (Answer, Vec<u16>) {
     if rust_takes(frame.width, frame.height) {
         return rust(frame, old);
@@ -99,7 +99,7 @@ struct Expected {
 }
 
 /// The number and samples are those of what decides. The rows of 5 to 7, the count of missing words and the marks are those of the
-/// decoder of its own, which must give the Rust's number and samples where it takes the size, and whose samples without an old part
+/// decoder of its own, which must give samsung.rs's number and samples where it takes the size, and whose samples without an old part
 /// must be the same over other old values.
 fn expected(frame: &Frame, old: &[u16], other: &[u16]) -> Result<Expected, String> {
     let (told, samples) = decided(frame, old);
@@ -205,10 +205,10 @@ fn planted(random: &mut Random, i: u64, width: usize, height: usize) -> Option<P
     })
 }
 
-/// Compares `calls` streams with the Rust: written ones with every value of the options in turn, and of each some that are broken
+/// Compares `calls` streams with samsung.rs: written ones with every value of the options in turn, and of each some that are broken
 /// off or damaged; of every hundredth, one broken off in each row.
 pub fn compare(entries: &[Entry], seed: u64, calls: u64) -> Result<Seen, Difference> {
-    let seen = Seen { name: "V2", with: "the Rust", seed, ..Seen::default() };
+    let seen = Seen { name: "V2", with: "samsung.rs", seed, ..Seen::default() };
     compared(entries, seen, calls, size, style)
 }
 

@@ -1,4 +1,4 @@
-//! V2's entries on crops, which the Rust refuses: against the decoder of its own, which is written from the rules.
+//! V2's entries on crops, which samsung.rs refuses: against the decoder of its own, which is written from the rules.
 
 use super::compare::{RUST_LEAST, Seen, compared};
 use crate::call::{Difference, Entry};
@@ -20,7 +20,7 @@ pub fn any_size(random: &mut Random) -> (usize, usize) {
 }
 
 /// The size of the V2 frame that goes with V0 frame number `i` of a comparison, if one does: of every eighth that of a crop, of
-/// every sixty-fourth just above the least that the Rust takes.
+/// every sixty-fourth just above the least that samsung.rs takes.
 pub fn v2_size(random: &mut Random, i: u64) -> Option<(usize, usize)> {
     match i % 64 {
         0 => Some((RUST_LEAST.0 + random.index(20), RUST_LEAST.1)),
@@ -38,7 +38,7 @@ fn style(random: &mut Random, i: u64) -> Style {
     Style::any(random, options(i))
 }
 
-/// Compares `calls` streams, whole, broken off and damaged, as those are that the Rust takes.
+/// Compares `calls` streams, whole, broken off and damaged, as those are that samsung.rs takes.
 pub fn compare(entries: &[Entry], seed: u64, calls: u64) -> Result<Seen, Difference> {
     let seen = Seen { name: "V2 crops", with: "the rules' own decoder", seed, ..Seen::default() };
     compared(entries, seen, calls, |_, i| size(i), style)

@@ -1,4 +1,4 @@
-//! V2's entries against the Rust on frames of full size: accepted, or refused in one of their last rows.
+//! V2's entries against samsung.rs on frames of full size: accepted, or refused in one of their last rows.
 
 use super::compare::{Seen, frame};
 use crate::call::{Difference, Entry};
@@ -20,7 +20,7 @@ pub fn size(random: &mut Random, i: u64) -> (usize, usize) {
 /// that is too long.
 pub fn compare(entries: &[Entry], seed: u64, calls: u64) -> Result<Seen, Difference> {
     let mut random = Random::new(seed);
-    let mut seen = Seen { name: "V2 of full size", with: "the Rust", seed, ..Seen::default() };
+    let mut seen = Seen { name: "V2 of full size", with: "samsung.rs", seed, ..Seen::default() };
     for i in 0..calls {
         let (width, height) = size(&mut random, i);
         let style = Style::any(&mut random, (i % 16) as u32);

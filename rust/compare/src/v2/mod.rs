@@ -1,4 +1,4 @@
-//! V2: the comparison of its entries with the Rust, and of crops, which the Rust refuses, with a decoder of its own, wrong where
+//! V2: the comparison of its entries with samsung.rs, and of crops, which samsung.rs refuses, with a decoder of its own, wrong where
 //! wanted.
 
 pub mod compare;

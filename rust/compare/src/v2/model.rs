@@ -1,4 +1,4 @@
-//! A V2 decoder of its own, written from the rules: it gives what the Rust does not tell, the row of each refusal and the
+//! A V2 decoder of its own, written from the rules: it gives what samsung.rs does not tell, the row of each refusal and the
 //! marks. With a fault where wanted: the comparison must find each fault out.
 
 use crate::call::{Answer, Ask, Decoder, Entry, Lent};

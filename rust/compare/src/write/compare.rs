@@ -1,5 +1,5 @@
 //! A writer of V0 against the plain one, byte for byte, with buffers just long enough, one short, and longer; and what it writes
-//! decoded by Razvolk's entries and by the Rust: the samples come back, and no map byte is 1.
+//! decoded by Razvolk's entries and by samsung.rs: the samples come back, and no map byte is 1.
 
 use super::plain::{Ask, Written, plain};
 use crate::bands::Cut;
@@ -46,7 +46,7 @@ impl fmt::Display for Seen {
         writeln!(f, "write, seed {seed}: {samples} samples in {bytes} bytes, {calls} calls, {decoded} decoded back")?;
         writeln!(f, "write: answers 0 to 10: {numbers:?}, lengths of 0 to 15 bits: {lengths:?}")?;
         writeln!(f, "write: {past} frames with columns past the row's end")?;
-        write!(f, "write: {frames} frames equal to the plain writer's and decoded back, by Razvolk and by the Rust")
+        write!(f, "write: {frames} frames equal to the plain writer's and decoded back, by Razvolk and by samsung.rs")
     }
 }
 
@@ -144,7 +144,7 @@ fn refused(write: Write, ask: &Ask, lens: (usize, usize), random: &mut Random, s
     Ok(())
 }
 
-/// Decodes what was written by Razvolk's entries, over old samples and maps that are random, and by the Rust. Gives how many
+/// Decodes what was written by Razvolk's entries, over old samples and maps that are random, and by samsung.rs. Gives how many
 /// times.
 pub fn back(entries: &[Entry], frame: &Frame, samples: &[u16], random: &mut Random) -> Result<u64, String> {
     let (&Frame { width, height, ref stream, ref offsets, .. }, n) = (frame, samples.len());
@@ -172,7 +172,7 @@ pub fn back(entries: &[Entry], frame: &Frame, samples: &[u16], random: &mut Rand
         decoded += 1;
         let found = first_difference(&out, samples).or(result.err().map(|e| format!("{e:?}")));
         if let Some(what) = found {
-            return Err(format!("decoded back by the Rust's {name}: {what}"));
+            return Err(format!("decoded back by samsung.rs's {name}: {what}"));
         }
     }
     Ok(decoded)

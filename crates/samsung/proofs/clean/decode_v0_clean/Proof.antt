@@ -1,4 +1,4 @@
--- A refusal is the rules', a fault the profile's; else the frame's samples are what the direct decoder leaves.
+-- A refusal is the rules', a fault the verdict's; else the frame's samples are what the direct decoder leaves.
 use mathlib.Core.Path.{refl, sym}
 use mathlib.Core.Logic.{inr}
 use mathlib.Core.Option.{none}

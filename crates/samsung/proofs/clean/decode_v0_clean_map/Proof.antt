@@ -1,4 +1,5 @@
--- A refusal is the rules', a fault the profile's; else the frame's samples are what the direct decoder leaves, and the map's bytes are 0.
+-- A refusal is the rules', a fault the verdict's; else the frame's samples are what the direct decoder leaves, and the map's bytes
+-- are 0.
 use mathlib.Core.Path.{refl, sym}
 use mathlib.Core.Logic.{inr}
 use mathlib.Core.Option.{none, some}

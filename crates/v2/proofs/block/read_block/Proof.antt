@@ -68,7 +68,12 @@ bases-requires : tie.Need-bases-requires
 bases-requires c κs =
     let a = at-start (after-next-scale (after-refusal-of (c .before))) in
     let ek = c .before .before .before .refusal-of .ensures in
-    (a .pre .0 .inside, (own-motion _ _ _ _ _ _ (a .pre .0) _ (c .before .before .before .before .before .next-motion .ensures), (refl, sym ek ∙ refusal-zero _ _ _ _ ek (c .before .before .if1 .left) (c .before .if2 .left))))
+    record {
+      inside = a .pre .0 .inside;
+      small = own-motion _ _ _ _ _ _ (a .pre .0) _ (c .before .before .before .before .before .next-motion .ensures);
+      sixteen = refl;
+      unrefused = sym ek ∙ refusal-zero _ _ _ _ ek (c .before .before .if1 .left) (c .before .if2 .left);
+    }
 
 read-tail-requires : tie.Need-read-tail-requires
 read-tail-requires c κs =

@@ -9,12 +9,12 @@ repeat-requires : tie.Need-repeat-requires
 repeat-requires c κs = search needs
 
 references-of-requires : tie.Need-references-of-requires
-references-of-requires c κs = let p = c .before .before .pre in (p .0 .placed, (omega (arith, c .if1 .left, p .1 .0), p .1 .1 .1))
+references-of-requires c κs = let p = c .before .before .pre in record { placed = p .inside .placed; other = omega (arith, c .if1 .left, p .small); unrefused = p .unrefused }
 
 refer-requires : tie.Need-refer-requires
 refer-requires c κs =
     let p = c .before .before .before .before .pre in
-    (rw (c .before .references-of .ensures) (runs (p .0) (c .before .before .if1 .left) (p .1 .1 .1)), p .1 .1 .0)
+    (rw (c .before .references-of .ensures) (runs (p .inside) (c .before .before .if1 .left) (p .unrefused)), p .sixteen)
 
 returns : tie.Need-returns
 returns c = bases-7 _ _ _ _ _ _ _ _ (c .before .before .if1 .taken) (c .repeat .ensures)
@@ -23,7 +23,7 @@ returns-2 : tie.Need-returns-2
 returns-2 c =
     let e = c .before .before .before in
     let p = e .before .before .pre in
-    bases-referred (p .0) (e .if1 .left) (p .1 .1 .1) _ _ _ (c .before .before .references-of .ensures) (c .refer .ensures)
+    bases-referred (p .inside) (e .if1 .left) (p .unrefused) _ _ _ (c .before .before .references-of .ensures) (c .refer .ensures)
 
 pub bases-spec : {M : Type 1} → statement M
 bases-spec =

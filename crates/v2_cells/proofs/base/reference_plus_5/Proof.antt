@@ -15,7 +15,7 @@ offset-plus-4-requires : tie.Need-offset-plus-4-requires
 offset-plus-4-requires c κs = search needs
 
 add-col-2 : tie.Need-add-col-2
-add-col-2 c = let a = c .before .before in omega (arith, c .offset-plus-4 .ensures, offset-most (a .args .motion), a .pre .0 .column)
+add-col-2 c = let a = c .before .before in omega (arith, c .offset-plus-4 .ensures, offset-most (a .args .motion), a .pre .placed .column)
 
 add-if1 : tie.Need-add-if1
 add-if1 c = search needs
@@ -28,22 +28,22 @@ abbrev at-start : tie.After-struct-known2 → tie.Start
 at-start c = c .before .before .before
 
 mul-result : tie.Need-mul-result
-mul-result c = let a = at-start (c .before .before .before) in omega (arith, rows-room (a .args .at .row) (a .args .at .width) (a .pre .0 .high) (a .pre .0 .wide))
+mul-result c = let a = at-start (c .before .before .before) in omega (arith, rows-room (a .args .at .row) (a .args .at .width) (a .pre .placed .high) (a .pre .placed .wide))
 
 add-result : tie.Need-add-result
-add-result c = let a = at-start (c .before .before .before) in omega (arith, rows-room (a .args .at .row) (a .args .at .width) (a .pre .0 .high) (a .pre .0 .wide), c .before .before .before .before .offset-plus-4 .ensures, offset-most (a .args .motion))
+add-result c = let a = at-start (c .before .before .before) in omega (arith, rows-room (a .args .at .row) (a .args .at .width) (a .pre .placed .high) (a .pre .placed .wide), c .before .before .before .before .offset-plus-4 .ensures, offset-most (a .args .motion))
 
 add-result-2 : tie.Need-add-result-2
-add-result-2 c = let a = at-start (c .before .before .before) in omega (arith, rows-room (a .args .at .row) (a .args .at .width) (a .pre .0 .high) (a .pre .0 .wide), c .before .before .before .before .offset-plus-4 .ensures, offset-most (a .args .motion))
+add-result-2 c = let a = at-start (c .before .before .before) in omega (arith, rows-room (a .args .at .row) (a .args .at .width) (a .pre .placed .high) (a .pre .placed .wide), c .before .before .before .before .offset-plus-4 .ensures, offset-most (a .args .motion))
 
 sub-result-2 : tie.Need-sub-result-2
 sub-result-2 c = search needs
 
 mul-result-2 : tie.Need-mul-result-2
-mul-result-2 c = let a = at-start (c .before .before .before) in omega (arith, rows-room (a .args .at .row) (a .args .at .width) (a .pre .0 .high) (a .pre .0 .wide))
+mul-result-2 c = let a = at-start (c .before .before .before) in omega (arith, rows-room (a .args .at .row) (a .args .at .width) (a .pre .placed .high) (a .pre .placed .wide))
 
 add-result-3 : tie.Need-add-result-3
-add-result-3 c = let a = at-start (c .before .before .before) in omega (arith, rows-room (a .args .at .row) (a .args .at .width) (a .pre .0 .high) (a .pre .0 .wide), c .before .before .before .before .offset-plus-4 .ensures, offset-most (a .args .motion))
+add-result-3 c = let a = at-start (c .before .before .before) in omega (arith, rows-room (a .args .at .row) (a .args .at .width) (a .pre .placed .high) (a .pre .placed .wide), c .before .before .before .before .offset-plus-4 .ensures, offset-most (a .args .motion))
 
 mul-result-3 : tie.Need-mul-result-3
 mul-result-3 c = search needs
@@ -52,7 +52,7 @@ sub-result-3 : tie.Need-sub-result-3
 sub-result-3 c = search needs
 
 add-result-4 : tie.Need-add-result-4
-add-result-4 c = let a = at-start (c .before .before .before) in omega (arith, rows-room (a .args .at .row) (a .args .at .width) (a .pre .0 .high) (a .pre .0 .wide), c .before .before .before .before .offset-plus-4 .ensures, offset-most (a .args .motion))
+add-result-4 c = let a = at-start (c .before .before .before) in omega (arith, rows-room (a .args .at .row) (a .args .at .width) (a .pre .placed .high) (a .pre .placed .wide), c .before .before .before .before .offset-plus-4 .ensures, offset-most (a .args .motion))
 
 returns : tie.Need-returns
 unfolding reference-5

@@ -10,22 +10,22 @@ use Rattle.v2_cells.proofs.base.references_of.Tie as tie
 
 -- The block itself ends what it refers to.
 inside : (c : tie.Start) → let a = c .args .at in Inside (a .row * a .width + a .col + 16) a
-inside c = record { placed = c .pre .0; room = omega arith }
+inside c = record { placed = c .pre .placed; room = omega arith }
 
 other : (c : tie.Start) → c .args .motion ≡ 7 → ⊥
-other c e = omega (arith, c .pre .1 .0)
+other c e = omega (arith, c .pre .other)
 
 reference-plus-5-requires : tie.Need-reference-plus-5-requires
-reference-plus-5-requires c κs = (c .pre .0, (c .pre .1 .0, (low-row (inside c) (other c) (c .pre .1 .1), omega arith)))
+reference-plus-5-requires c κs = record { placed = c .pre .placed; other = c .pre .other; rows-above = low-row (inside c) (other c) (c .pre .unrefused); first = omega arith }
 
 sub-even : tie.Need-sub-even
-sub-even c = let s = c .before in rw (c .reference-plus-5 .ensures) (each (inside s) (other s) (s .pre .1 .1) 0 (omega arith) .0)
+sub-even c = let s = c .before in rw (c .reference-plus-5 .ensures) (each (inside s) (other s) (s .pre .unrefused) 0 (omega arith) .0)
 
 reference-plus-5-requires-2 : tie.Need-reference-plus-5-requires-2
-reference-plus-5-requires-2 c κs = let s = c .before in (s .pre .0, (s .pre .1 .0, (low-row (inside s) (other s) (s .pre .1 .1), omega arith)))
+reference-plus-5-requires-2 c κs = let s = c .before in record { placed = s .pre .placed; other = s .pre .other; rows-above = low-row (inside s) (other s) (s .pre .unrefused); first = omega arith }
 
 sub-odd : tie.Need-sub-odd
-sub-odd c = let s = c .before .before in rw (c .reference-plus-52 .ensures) (each (inside s) (other s) (s .pre .1 .1) 1 (omega arith) .0)
+sub-odd c = let s = c .before .before in rw (c .reference-plus-52 .ensures) (each (inside s) (other s) (s .pre .unrefused) 1 (omega arith) .0)
 
 averages-requires : tie.Need-averages-requires
 averages-requires c κs = search needs

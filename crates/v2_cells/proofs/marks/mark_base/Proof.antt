@@ -13,7 +13,7 @@ unfolding tabulate
 returns c = λ h. rw (empty-is (now (c .before .before .args .map)) (c .if1 .taken))
 
 block-marks-requires : tie.Need-block-marks-requires
-block-marks-requires c κs = let a = c .before .before .before .before in let filled = c .before .before .if1 .left in (a .pre .inside filled, (a .pre .small, (refl, a .pre .unrefused)))
+block-marks-requires c κs = let a = c .before .before .before .before in let filled = c .before .before .if1 .left in record { inside = a .pre .inside filled; small = a .pre .small; sixteen = refl; unrefused = a .pre .unrefused }
 
 first-requires : tie.Need-first-requires
 first-requires c κs = search needs
