@@ -34,12 +34,13 @@ fn the_rust_crate_lists_the_same_refusals() {
     hold(&rules()[1..], place, &of_tables(&text(place)));
 }
 
-/// The migration page lists those that samsung.rs has, too, as they stand in the rules.
+/// The migration page names those that samsung.rs has, too.
 #[test]
-fn the_migration_page_lists_the_refusals_of_samsung_rs() {
-    let ported: Vec<Listed> = rules().into_iter().filter(|one| [2, 3, 5, 6, 7, 8].contains(&one.number)).collect();
+fn the_migration_page_names_the_refusals_of_samsung_rs() {
+    let ported = |name: &String| [2, 3, 5, 6, 7, 8].iter().any(|number| name.starts_with(&format!("{number} ")));
+    let ported: Vec<String> = names(&text("docs/RULES.md")).into_iter().filter(ported).collect();
     let place = "docs/MIGRATION.md";
-    hold(&ported, place, &of_tables(&text(place)));
+    hold(&ported, place, &names(&text(place)));
 }
 
 #[test]
