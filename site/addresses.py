@@ -39,7 +39,7 @@ class Addresses:
     def item(self, key: Key) -> str:
         """A rule's definition stands in its section, another crate's own on the crate's page, and a theorem in its file."""
         if key in self.rules.home:
-            return f"rules/{self.rules.home[key].slug}.html#{anchor_of(key)}"
+            return f"{self.rules.home[key].page}#{anchor_of(key)}"
         item = self.code.items[key]
         if is_spec(key) and item.public:
             return f"crates/{key[0]}.html#{anchor_of(key)}"

@@ -5,7 +5,9 @@ from __future__ import annotations
 import re
 from dataclasses import dataclass
 
-HEAD = re.compile(r"(?P<words>(?:(?:unfoldable|abbrev|opaque|pub) )*)(?P<kind>(?:record|data) )?(?P<name>[^\s:(){}]+)(?P<rest>.*)")
+HEAD = re.compile(
+    r"(?P<words>(?:(?:unfoldable|abbrev|opaque|pub) )*)(?P<kind>(?:record|data) )?(?P<name>[^\s:(){}]+)(?P<rest>.*)"
+)
 NO_ITEM = ("use", "mod", "module", "ruleset", "unfolding", "open", "infix", "infixl", "infixr")
 
 
@@ -124,8 +126,12 @@ def belongs(lines: list[str], at: int, level: int, record: bool) -> bool:
         return indent_of(later) > level and bool(later)
     if indent_of(line) > level:
         return True
-    return not record and indent_of(line) == level and not line.lstrip().startswith("--") and head_of(line) is None and not line.lstrip().startswith(
-        ("use ", "mod ", "pub ", "module ")
+    return (
+        not record
+        and indent_of(line) == level
+        and not line.lstrip().startswith("--")
+        and head_of(line) is None
+        and not line.lstrip().startswith(("use ", "mod ", "pub ", "module "))
     )
 
 

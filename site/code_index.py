@@ -89,7 +89,9 @@ class Code:
         """The functions whose lines mention a name, in a file or in all."""
         word = re.compile(rf"\b{name}\b")
         places = ((one, self.repository.text(one.path)) for one in self.functions if one.path == path or not path)
-        return [one for one, text in places if one.name != name and word.search("\n".join(text.splitlines()[one.line - 1 : one.last]))]
+        return [
+            one for one, text in places if one.name != name and word.search("\n".join(text.splitlines()[one.line - 1 : one.last]))
+        ]
 
     def crate_functions(self, crate: str) -> list[Function]:
         """The functions of a crate."""

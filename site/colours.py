@@ -22,13 +22,18 @@ TYPES = frozenset("ℕ ℤ Bool List Option u8 u16 u32 u64 i32 i64 usize bool".s
 Link = Callable[[str], str | None]
 
 
+def no_link(word: str) -> None:
+    """What a field, or a name where it is given, links to."""
+
+
 def coloured(text: str, link: Link) -> str:
     """The code's HTML; words that `link` knows are links."""
     parts: list[str] = []
     at = 0
     for found in TOKEN.finditer(text):
         parts.append(escape(text[at : found.start()]))
-        parts.append(piece(found, link))
+        named = text[found.start() - 1 : found.start()] == "." or text[found.end() :].startswith((" : ", " = "))
+        parts.append(piece(found, no_link if named else link))
         at = found.end()
     parts.append(escape(text[at:]))
     return "".join(parts)

@@ -12,7 +12,7 @@ from documents import source_link, with_links
 from drawings import drawn, node, quoted
 from evidence import Evidence
 from markdown_text import names, tables
-from rule_pages import mark
+from rule_pages import WIDE, mark
 
 
 def told(code: Code) -> dict[str, tuple[str, str]]:
@@ -40,7 +40,9 @@ class CratePages:
         holds, document = self.told.get(name, ("", ""))
         holds = with_links(holds, document, page, self.addresses)
         parts = [f"# `{name}`", holds[:1].upper() + holds[1:] + ("." if holds else "")]
-        parts.append(f"**Uses** {self.linked(list(repository.crates[name].uses), page)}. **Used by** {self.linked(repository.users(name), page)}.")
+        parts.append(
+            f"**Uses** {self.linked(list(repository.crates[name].uses), page)}. **Used by** {self.linked(repository.users(name), page)}."
+        )
         parts.append(self.functions(name))
         parts.append(self.definitions(name, page))
         parts.append(self.theorems(name, page))
@@ -79,7 +81,9 @@ class CratePages:
             if key[0] == name and not is_spec(key) and item.public and item.comment:
                 to = relative(self.addresses.source(item.path, item.line), page)
                 file = key[1].removeprefix("proofs.")
-                lines.append(f'<li><a href="{escape(to)}"><code>{escape(file)}.{escape(item.name)}</code></a> {words(first_sentence(item.comment))}</li>')
+                lines.append(
+                    f'<li><a href="{escape(to)}"><code>{escape(file)}.{escape(item.name)}</code></a> {words(first_sentence(item.comment))}</li>'
+                )
         return f'## Theorems\n\n<ul class="theorems">{"".join(lines)}</ul>' if lines else ""
 
     def edits(self, name: str, page: str) -> str:
@@ -89,7 +93,9 @@ class CratePages:
             if edit.path.split("/")[1] == name:
                 to = relative(self.addresses.source(edit.path), page)
                 beside = "" if edit.in_gate else " (beside the gate)"
-                lines.append(f'<li><a href="{escape(to)}"><code>{escape(edit.name)}</code></a>{beside} {words(edit.comment)}</li>')
+                lines.append(
+                    f'<li><a href="{escape(to)}"><code>{escape(edit.name)}</code></a>{beside} {words(edit.comment)}</li>'
+                )
         return f"## Wrong edits\n\n<ul>{''.join(lines)}</ul>" if lines else ""
 
     def front(self) -> str:
@@ -99,17 +105,19 @@ class CratePages:
             holds, document = self.told.get(name, ("", ""))
             lines.append(f"| [`{name}`]({name}.md) | {with_links(holds, document, 'crates/index.html', self.addresses)} |")
         opening = "Each crate stands above all that it uses. An arrow leads from a crate to one that it uses; where a longer way says it already, it is left out."
-        return f"# Crates\n\n{opening}\n\n{mark('drawing', ['crates'])}\n\n" + "\n".join(lines) + "\n"
+        return f"{WIDE}# Crates\n\n{opening}\n\n{mark('drawing', ['crates'])}\n\n" + "\n".join(lines) + "\n"
 
     def drawing(self) -> str:
         """All crates by layers."""
         repository = self.code.repository
         lines = ["digraph {", 'rankdir=TB; bgcolor="transparent"; nodesep=0.18; ranksep=0.45;']
-        lines.append('node [shape=box, style=rounded, fontname="sans-serif", fontsize=12, height=0.32, margin="0.09,0.03"]; edge [arrowsize=0.5];')
+        lines.append(
+            'node [shape=box, style=rounded, fontname="sans-serif", fontsize=12, height=0.32, margin="0.09,0.03"]; edge [arrowsize=0.5];'
+        )
         for layer in reversed(repository.layers):
             lines.append("{ rank=same;")
             lines += [node(name, name, f"{name}.html") for name in layer]
             lines.append("}")
         for crate in repository.crates.values():
             lines += [f"{quoted(crate.name)} -> {quoted(used)};" for used in crate.uses if used in repository.crates]
-        return drawn("\n".join([*lines, "}"]), reduced=True)
+        return drawn("\n".join([*lines, "}"]), "wide", reduced=True)

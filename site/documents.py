@@ -17,7 +17,11 @@ def listed(addresses: Addresses) -> list[str]:
     repository = addresses.code.repository
     at_top = repository.paths("*.md")
     others = [path for path in repository.paths("docs/*.md") if path != DOCUMENT]
-    return [path for path in at_top if path.startswith("README")] + others + [path for path in at_top if not path.startswith("README")]
+    return (
+        [path for path in at_top if path.startswith("README")]
+        + others
+        + [path for path in at_top if not path.startswith("README")]
+    )
 
 
 def with_links(text: str, path: str, page: str, addresses: Addresses) -> str:

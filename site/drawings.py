@@ -6,7 +6,7 @@ import re
 import subprocess
 
 
-def drawn(dot: str, reduced: bool = False) -> str:
+def drawn(dot: str, kind: str, reduced: bool = False) -> str:
     """The SVG of a graph; where it is to be reduced, an edge is left out that a longer way stands for."""
     if reduced:
         dot = subprocess.run(["tred"], input=dot, capture_output=True, text=True, check=True).stdout
@@ -16,7 +16,7 @@ def drawn(dot: str, reduced: bool = False) -> str:
     svg = re.sub(r"<title>.*?</title>\n?", "", svg, flags=re.S)
     svg = re.sub(r' xlink:title="[^"]*"| id="[^"]*"', "", svg).replace("xlink:href", "href")
     svg = re.sub(r'<polygon fill="white" stroke="(?:transparent|none)"[^>]*/>\n?', "", svg)
-    return f'<div class="drawing">{svg}</div>'
+    return f'<div class="drawing {kind}">{svg}</div>'
 
 
 def quoted(text: str) -> str:

@@ -87,6 +87,12 @@ def example_kind(code: Code, item: Item) -> str:
     return found[1] if fits and ("→" not in item.signature or found[1] == "Example") else ""
 
 
+def in_examples(code: Code, key: Key) -> bool:
+    """Whether a definition stands in a file of worked examples."""
+    path = code.items[key].path
+    return any(item.path == path and example_kind(code, item) for item in code.items.values())
+
+
 def of_all(code: Code, path: str, kind: str) -> set[Key]:
     """What every element of a file's lists is held to: the definitions in its functions of one element."""
     own = [item for item in code.items.values() if item.path == path and f": {kind} → " in item.signature]

@@ -3,19 +3,24 @@
 from __future__ import annotations
 
 from dataclasses import dataclass
+from functools import cached_property
 
 from addresses import Addresses
+from code_index import is_spec
 from documents import source_link
 from evidence import Evidence
-from examples import example_kind
+from examples import in_examples
 from names import Key
+
+THEOREMS = "Theorems speak of it, and no function computes it"
+STATEMENTS = "A record of statements over definitions that examples pin"
+INNER = "Inner functions ask it of each other or are held to it on the way; no export's contract rests on it"
 
 
 @dataclass(frozen=True)
 class Lack:
-    """Definitions of one file that lack the same, and why."""
+    """Definitions that lack the same, and why."""
 
-    file: str
     keys: tuple[Key, ...]
     what: str
     why: str
@@ -35,63 +40,61 @@ class Lacks:
         """Whether an example pins a definition, or one that rests on it."""
         return bool(self.evidence.pins.get(key) or self.evidence.through(key, self.evidence.pins))
 
-    def in_examples(self, key: Key) -> bool:
-        """Whether a definition stands in a file of worked examples."""
-        path = self.code.items[key].path
-        return any(item.path == path and example_kind(self.code, item) for item in self.code.items.values())
+    @cached_property
+    def of_exports(self) -> set[Key]:
+        """The definitions that the exports' contracts rest on."""
+        waiting = [key for one in self.code.functions if one.exported for key in self.code.contracts[one.full]]
+        found: set[Key] = set()
+        while waiting:
+            key = waiting.pop()
+            if key not in found and is_spec(key):
+                found.add(key)
+                waiting += self.code.item_cites[key]
+        return found
 
-    def why_no_function(self, key: Key) -> str:
-        """Why no contract reaches a definition: theorems speak of it, or of what rests on it."""
-        return self.by_theorems(key, "What theorems say, and no function computes")
+    @cached_property
+    def of_theorems(self) -> set[Key]:
+        """The definitions that proofs speak of."""
+        return {cited for key, found in self.code.item_cites.items() if not is_spec(key) for cited in found}
 
     def why_no_pin(self, key: Key) -> str:
-        """Why no example reaches a definition: its parts are pinned, or a contract and theorems hold it."""
+        """Why no example reaches a definition, or nothing where there is no reason."""
         parts = [one for one in self.code.item_cites[key] if one in self.addresses.rules.home]
         if self.code.items[key].kind == "record" and parts and all(map(self.has_pin, parts)):
-            return "A record of statements over definitions that examples pin"
-        if self.has_function(key):
-            return self.by_theorems(key, "Inner functions are held to it, and proofs to the rules; no entry's contract states it")
-        return self.by_theorems(key, "What theorems say, and no function computes")
+            return STATEMENTS
+        return INNER if key not in self.of_exports else ""
 
-    def by_theorems(self, key: Key, words: str) -> str:
-        """The words where theorems or contracts speak of a definition or of what rests on it; nothing where none does."""
-        seen: set[Key] = set()
-        waiting = [key]
-        while waiting:
-            one = waiting.pop()
-            if self.evidence.theorems.get(one) or self.evidence.functions.get(one):
-                return words
-            seen.add(one)
-            waiting += [user for user in self.code.users.get(one, []) if user not in seen]
-        return ""
+    def of(self, key: Key) -> tuple[str, str] | None:
+        """What a definition lacks, and why."""
+        function, pin = self.has_function(key), self.has_pin(key)
+        if (function and pin) or in_examples(self.code, key):
+            return None
+        if function:
+            return "a pin", self.why_no_pin(key)
+        return "a function" if pin else "a function and a pin", THEOREMS if key in self.of_theorems else ""
 
     def all(self) -> list[Lack]:
-        """What is lacking, by file."""
-        groups: dict[tuple[str, str, str], list[Key]] = {}
+        """What is lacking; what lacks the same for the same reason stands together."""
+        groups: dict[tuple[str, str], list[Key]] = {}
         for key in self.addresses.rules.home:
-            for what, why in self.of(key):
-                groups.setdefault((f"{key[0]}/{key[1].replace('.', '/')}.antt", what, why), []).append(key)
-        return [Lack(file, tuple(keys), what, why) for (file, what, why), keys in groups.items()]
-
-    def of(self, key: Key) -> list[tuple[str, str]]:
-        """What a definition lacks, and why."""
-        if self.in_examples(key):
-            return []
-        function, pin = self.has_function(key), self.has_pin(key)
-        if not function and not pin:
-            return [("a function and a pin", self.why_no_function(key))]
-        found = [] if function else [("a function", self.why_no_function(key))]
-        return found + ([] if pin else [("a pin", self.why_no_pin(key))])
+            found = self.of(key)
+            if found is not None:
+                groups.setdefault(found, []).append(key)
+        return [Lack(tuple(keys), what, why) for (what, why), keys in groups.items()]
 
     def page(self) -> str:
         """The table."""
-        count = sum(not self.in_examples(key) for key in self.addresses.rules.home)
-        lines = ["| Definitions | Lack | Why |", "|---|---|---|"]
+        count = sum(not in_examples(self.code, key) for key in self.addresses.rules.home)
+        lines = ["| Lack | Why | Definitions |", "|---|---|---|"]
         for lack in self.all():
-            links = [f"[`{key[2]}`]({source_link(self.addresses.item(key), 'lacks.html')})" for key in lack.keys]
-            lines.append(f"| {lack.file.split('/')[-1].removesuffix('.antt')}: {', '.join(links)} | {lack.what} | {lack.why} |")
+            links = [
+                f"[`{key[1].rsplit('.', 1)[1]}.{key[2]}`]({source_link(self.addresses.item(key), 'lacks.html')})"
+                for key in lack.keys
+            ]
+            lines.append(f"| {lack.what} | {lack.why} | {', '.join(links)} |")
+        lacking = sum(len(lack.keys) for lack in self.all())
         opening = (
-            f"The rules cite {count} definitions beside those of worked examples. Each has a function whose contract cites it, itself or "
-            "through a definition that rests on it, and in the same way an example that pins it; but for these."
+            f"The rules cite {count} definitions beside those of worked examples. {count - lacking} of them have a function whose contract "
+            "cites them, themselves or through a definition that rests on them, and in the same way an example that pins them. The others:"
         )
         return f"# What lacks a function or a pin\n\n{opening}\n\n" + "\n".join(lines) + "\n"

@@ -9,9 +9,10 @@ from addresses import Addresses, relative
 from documents import source_link
 from drawings import drawn, node, quoted
 from evidence import Evidence
+from examples import in_examples
 from names import Key
 from rattle import Function
-from rule_pages import blocks, mark
+from rule_pages import WIDE, blocks, mark
 from rules import Section, citations
 from running import Step, grown, steps
 
@@ -40,28 +41,39 @@ class Life:
 
     def walks(self) -> list[Section]:
         """The sections that end in the samples that a decoder leaves."""
-        return [section for section in self.rules.sections if any(key[2] == ENDS and home is section for key, home in self.rules.home.items())]
+        return [
+            section
+            for section in self.rules.sections
+            if any(key[2] == ENDS and home is section for key, home in self.rules.home.items())
+        ]
 
     def stations(self, section: Section) -> list[Station]:
-        """The paragraphs and items of a section that have a title."""
+        """The paragraphs and items of a section that have a title, up to the one that says what the decoder leaves."""
         found: list[Station] = []
         for text in blocks(section.text):
             lead = LEAD.match(text)
             keys = [self.rules.resolve(one, section.text) for one in citations(text)]
             if lead is not None and keys:
-                found.append(Station(lead["title"].rstrip("."), keys, self.function(keys)))
+                title = lead["title"].rstrip(".")
+                found.append(Station(title, keys, self.function(title, keys)))
+            if any(key[2] == ENDS for key in keys):
+                break
         return found
 
-    def function(self, keys: list[Key]) -> Function | None:
-        """The function whose contract cites most of the definitions; of several a public one of the fewest citations."""
+    def function(self, title: str, keys: list[Key]) -> Function | None:
+        """The function that does it: one with a word of the title in its name, if there is such, whose contract cites most of the definitions."""
         cited: dict[str, int] = {}
         for key in dict.fromkeys(keys):
             for one in self.evidence.functions.get(key, []):
-                cited[one.full] = cited.get(one.full, 0) + 1
-        if not cited:
-            return None
-        best = min(cited, key=lambda name: (-cited[name], not self.code.function[name].public, len(self.code.contracts[name]), name))
-        return self.code.function[best]
+                cited[one.full] = cited.get(one.full, 0) + (1 if one.crate != key[0] else 0)
+        stems = [word[:6].lower() for word in re.findall(r"\w{3,}", title)]
+
+        def rank(name: str) -> tuple[bool, int, bool, int, str]:
+            function = self.code.function[name]
+            named = any(stem in function.name for stem in stems)
+            return not named, -cited[name], not function.public, len(self.code.contracts[name]), name
+
+        return self.code.function[min(cited, key=rank)] if cited else None
 
     def before(self, section: Section) -> Section | None:
         """The section whose definitions those of this one cite most."""
@@ -69,7 +81,7 @@ class Life:
         for key, home in self.rules.home.items():
             for cited in self.code.item_cites[key] if home is section else []:
                 other = self.rules.home.get(cited)
-                if other is not None and other is not section:
+                if other is not None and other is not section and other.title:
                     counts[other.slug] = counts.get(other.slug, 0) + 1
         best = max(counts, key=lambda slug: counts[slug], default="")
         return next((one for one in self.rules.sections if one.slug == best), None)
@@ -79,17 +91,22 @@ class Life:
         ends = [key for key, home in self.rules.home.items() if key[2] == ENDS and home is section]
         frames = ends + [one for key in ends for one in self.code.item_cites[key] if self.rules.home.get(one) is section]
         users = [user for key in frames for user in self.code.users.get(key, []) if user in self.rules.home]
-        return [user for user in dict.fromkeys(users) if self.rules.home[user] is not section][:4]
+        others = [user for user in dict.fromkeys(users) if self.rules.home[user] is not section]
+        return [user for user in others if not in_examples(self.code, user)][:4]
 
     def walk(self, slug: str) -> str:
         """A walk, drawn."""
         section = next(one for one in self.rules.sections if one.slug == slug)
-        lines = ["digraph {", 'bgcolor="transparent"; nodesep=0.25; ranksep=0.28;', 'node [shape=box, style=rounded, fontname="sans-serif", fontsize=12, height=0.36]; edge [arrowsize=0.6];']
+        lines = [
+            "digraph {",
+            'bgcolor="transparent"; nodesep=0.25; ranksep=0.28;',
+            'node [shape=box, style=rounded, fontname="sans-serif", fontsize=12, height=0.36]; edge [arrowsize=0.6];',
+        ]
         way = ["bytes"]
-        lines.append(node("bytes", "the stream's bytes", f"rules/{slug}.html"))
+        lines.append(node("bytes", "the stream's bytes", section.page))
         before = self.before(section)
         if before is not None:
-            lines.append(node("before", before.title, f"rules/{before.slug}.html"))
+            lines.append(node("before", before.title, before.page))
             way.append("before")
         for at, station in enumerate(self.stations(section)):
             lines += self.drawn_station(f"s{at}", station)
@@ -98,27 +115,40 @@ class Life:
         for key in self.after(section):
             lines.append(node(f"after {key}", f"{key[1].rsplit('.', 1)[1]}.{key[2]}", relative(self.addresses.item(key), PAGE)))
             lines.append(f"{quoted(way[-1])} -> {quoted(f'after {key}')};")
-        return drawn("\n".join([*lines, "}"]))
+        return drawn("\n".join([*lines, "}"]), "narrow")
 
     def drawn_station(self, name: str, station: Station) -> list[str]:
         """A station's box, and beside it that of its function."""
         lines = [node(name, station.title, relative(self.addresses.item(station.keys[0]), PAGE))]
         if station.function is not None:
             code = f"{name} code"
-            lines.append(node(code, station.function.full, relative(self.addresses.function(station.function), PAGE), 'style="", fontname="monospace", fontsize=10'))
+            lines.append(
+                node(
+                    code,
+                    station.function.full,
+                    relative(self.addresses.function(station.function), PAGE),
+                    'style="", fontname="monospace", fontsize=10',
+                )
+            )
             lines.append(f"{{ rank=same; {quoted(name)}; {quoted(code)}; }}")
             lines.append(f"{quoted(name)} -> {quoted(code)} [style=dashed, arrowhead=none];")
         return lines
 
     def page(self) -> str:
         """The page's Markdown."""
-        parts = ["# Life of a frame", "From bytes to a sample: on the left the rules, on the right a function that is proved to do what they say. Each box is a link."]
+        parts = [
+            f"{WIDE}# Life of a frame",
+            "From bytes to a sample: on the left the rules, on the right a function that is proved to do what they say. Each box is a link.",
+        ]
         for section in self.walks():
             parts += [f"## {section.title}", mark("walk", [section.slug])]
         made = steps(self.code.repository, self.library)
         parts += ["## The map's bytes, step by step", made.opening]
         parts.append(mark("steps", ["rows"]))
-        parts += ["## The same frame as its bytes come in", "The decoder is run on the first bytes of the stream. A sample that is not marked stays as it is."]
+        parts += [
+            "## The same frame as its bytes come in",
+            "The decoder is run on the first bytes of the stream. A sample that is not marked stays as it is.",
+        ]
         parts.append(mark("steps", ["bytes"]))
         marks = [key for key in self.rules.home if any(key in self.after(section) for section in self.walks())]
         links = [f"[`{key[1].rsplit('.', 1)[1]}.{key[2]}`]({source_link(self.addresses.item(key), PAGE)})" for key in marks]
@@ -140,7 +170,9 @@ def picture(step: Step) -> str:
             byte = step.marks[row][column]
             x, y = column * side + 1, row * side + 1
             cells.append(f'<rect class="byte{byte}" x="{x}" y="{y}" width="{side - 2}" height="{side - 2}"/>')
-            cells.append(f'<text x="{x + side // 2 - 1}" y="{y + 26}">{sample}</text><text class="byte" x="{x + side // 2 - 1}" y="{y + 48}">byte {byte}</text>')
+            cells.append(
+                f'<text x="{x + side // 2 - 1}" y="{y + 26}">{sample}</text><text class="byte" x="{x + side // 2 - 1}" y="{y + 48}">byte {byte}</text>'
+            )
     width, height = side * len(step.samples[0]), side * len(step.samples)
     svg = f'<svg viewBox="0 0 {width} {height}" width="{width}" height="{height}" role="img">{"".join(cells)}</svg>'
     return f"<figure>{svg}<figcaption>{step.words}</figcaption></figure>"

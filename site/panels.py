@@ -44,6 +44,17 @@ class Panels:
         """A link to a line of a file."""
         return f'<p class="place">{self.anchor(f"{escape(path)}, line {line}", self.addresses.source(path, line), page)}</p>'
 
+    def words(self, text: str, page: str) -> str:
+        """A sentence of a document; files that it names are links."""
+        parts = words(text).split("<code>")
+        for at, part in enumerate(parts[1:], 1):
+            path, _, rest = part.partition("</code>")
+            whole = f"<code>{path}</code>"
+            if (self.code.repository.top / path).is_file():
+                whole = self.anchor(whole, self.addresses.source(path), page)
+            parts[at] = whole + rest
+        return "".join(parts)
+
     def definition(self, key: Key, page: str) -> str:
         """A definition with its comment, and under it what stands behind it."""
         item = self.code.items[key]
@@ -89,7 +100,9 @@ class Panels:
         keys = sorted(self.evidence.theorems.get(key, []), key=lambda one: not self.code.items[one].comment)
         shown = [self.shown_theorem(self.code.items[one], page) for one in keys[:SHOWN]]
         others = [self.code.items[one] for one in keys[SHOWN:]]
-        links = [self.anchor(f"<code>{escape(one.name)}</code>", self.addresses.source(one.path, one.line), page) for one in others]
+        links = [
+            self.anchor(f"<code>{escape(one.name)}</code>", self.addresses.source(one.path, one.line), page) for one in others
+        ]
         return self.part("Theorems that speak of it", shown + ([", ".join(links)] if links else []), "none")
 
     def shown_theorem(self, item: Item, page: str) -> str:
@@ -125,7 +138,10 @@ class Panels:
         """A wrong edit: what it says, and what it changes."""
         crate = edit.path.split("/")[1]
         lead = self.anchor(f"<code>{escape(crate)}/{escape(edit.name)}</code>", self.addresses.source(edit.path), page)
-        lines = [f'<span class="gd">- {escape(one.old.strip())}</span>\n<span class="gi">+ {escape(one.new.strip())}</span>' for one in edit.changes]
+        lines = [
+            f'<span class="gd">- {escape(one.old.strip())}</span>\n<span class="gi">+ {escape(one.new.strip())}</span>'
+            for one in edit.changes
+        ]
         beside = "" if edit.in_gate else " (beside the gate)"
         return f'{lead}{beside} {words(edit.comment)}<div class="highlight"><pre><code>{chr(10).join(lines)}</code></pre></div>'
 

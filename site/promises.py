@@ -11,7 +11,7 @@ from html import escape
 from addresses import Addresses
 from antt import Item
 from code_index import Code
-from colours import block, words
+from colours import block
 from documents import link, with_links
 from markdown_text import tables
 from names import COMMENT, TOKEN, Key
@@ -43,7 +43,11 @@ class Promises:
         self.code, self.addresses, self.panels = code, addresses, panels
         self.record = next(item for item in code.items.values() if item.kind == "record" and FIELD.search(item.body))
         proved = re.compile(rf"→ {self.record.name}\b[^→]*$")
-        self.theorem = next(item for item in code.items.values() if item.path == self.record.path and item.kind == "definition" and proved.search(item.signature))
+        self.theorem = next(
+            item
+            for item in code.items.values()
+            if item.path == self.record.path and item.kind == "definition" and proved.search(item.signature)
+        )
 
     @cached_property
     def document(self) -> str:
@@ -93,7 +97,9 @@ class Promises:
     def shown(self, title: str, keys: list[Key]) -> str:
         """Items with their first sentences and statements."""
         items = [self.code.items[key] for key in keys]
-        shown = [self.panels.shown_theorem(item, "promises.html") for item in items if item.public or item.path == self.record.path]
+        shown = [
+            self.panels.shown_theorem(item, "promises.html") for item in items if item.public or item.path == self.record.path
+        ]
         return self.panels.part(title, shown, "the field's own words")
 
     def rests_on(self, number: int) -> str:
@@ -104,7 +110,9 @@ class Promises:
                     row = next((row for row in table.rows if row[0].split()[0] == str(number)), None)
                     if row is not None:
                         cells = [f"{head}: {cell}" for head, cell in zip(table.head[1:], row[1:])]
-                        return self.panels.part("Where it stands", [words(cell) for cell in cells], "")
+                        return self.panels.part(
+                            "Where it stands", [self.panels.words(cell, "promises.html") for cell in cells], ""
+                        )
         return ""
 
     # ── The way to the exports ──
@@ -162,9 +170,9 @@ class Promises:
             if name in self.exports:
                 groups.setdefault(tuple(way), []).append(self.code.function[name])
         lines: list[str] = []
-        for way, functions in groups.items():
-            steps = [f"<code>{escape(one.field)}</code>"] + [self.step(key) for key in way]
-            lines.append(" → ".join(steps) + " → " + ", ".join(self.ended(one) for one in functions))
+        for between, functions in groups.items():
+            steps = [f"<code>{escape(one.field)}</code>"] + [self.step(key) for key in between]
+            lines.append(" → ".join(steps) + " → " + ", ".join(self.ended(function) for function in functions))
         return self.panels.part("The way down to the exports", lines, "none")
 
     def step(self, key: Key) -> str:
@@ -175,7 +183,7 @@ class Promises:
         """A function at the end of a way: an export, or an entry with its export."""
         export = self.exports[function.full]
         names = [export] if export == function else [function, export]
-        links = [self.panels.anchor(f"<code>{escape(one.name)}</code>", self.addresses.function(one), "promises.html") for one in names]
+        links = [
+            self.panels.anchor(f"<code>{escape(one.name)}</code>", self.addresses.function(one), "promises.html") for one in names
+        ]
         return " (exported as ".join(links) + (")" if len(links) > 1 else "")
-
-

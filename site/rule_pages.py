@@ -3,11 +3,15 @@
 from __future__ import annotations
 
 import re
+from collections import Counter
 
 from addresses import Addresses, anchor_of
 from documents import source_link, with_links
 from names import Key
 from rules import DOCUMENT, Section, citations
+
+# A page without the list of its headings beside it.
+WIDE = "---\nhide:\n  - toc\n---\n"
 
 MARK = re.compile(r"(?:<p>)?⟦(\w+) ([^⟧]*)⟧(?:</p>)?")
 
@@ -25,10 +29,12 @@ class RulePages:
 
     def page(self, section: Section) -> str:
         """A section's Markdown."""
-        name = f"rules/{section.slug}.html"
+        return f"# {section.title}\n\n{self.body(section)}"
+
+    def body(self, section: Section) -> str:
+        """A section's blocks, each with the definitions that have their place there."""
         placed: set[Key] = set()
-        parts = [self.block(block, section, name, placed) for block in blocks(section.text)]
-        return f"# {section.title}\n\n" + "\n".join(parts)
+        return "\n".join(self.block(block, section, section.page, placed) for block in blocks(section.text))
 
     def block(self, text: str, section: Section, page: str, placed: set[Key]) -> str:
         """A paragraph, a list's item or a table, and after it the definitions that have their place here."""
@@ -60,14 +66,10 @@ class RulePages:
 
     def front(self) -> str:
         """The first page: how the document opens, and its sections."""
-        counts = {section.slug: 0 for section in self.rules.sections}
-        for home in self.rules.home.values():
-            counts[home.slug] += 1
-        opening = with_links(self.rules.opening, DOCUMENT, "index.html", self.addresses)
-        keys = [self.rules.resolve(found, "") for found in citations(self.rules.opening)]
-        lines = [f"| [{one.title}](rules/{one.slug}.md) | {counts[one.slug]} |" for one in self.rules.sections]
+        counts = Counter(home.title for home in self.rules.home.values())
+        lines = [f"| [{one.title}](rules/{one.slug}.md) | {counts[one.title]} |" for one in self.rules.sections]
         table = "| Section | Definitions |\n|---|---|\n" + "\n".join(lines)
-        return f"{self.cited(opening, keys, 'index.html')}\n\n## Sections\n\n{table}\n"
+        return f"{self.body(self.rules.front)}\n\n## Sections\n\n{table}\n"
 
 
 def blocks(text: str) -> list[str]:

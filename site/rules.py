@@ -22,6 +22,11 @@ class Section:
     text: str
 
     @property
+    def page(self) -> str:
+        """Its page; what stands before the first heading is the site's first."""
+        return f"rules/{self.slug}.html" if self.title else "index.html"
+
+    @property
     def slug(self) -> str:
         """The heading as it stands in addresses."""
         return re.sub(r"[^a-z0-9]+", "-", self.title.lower()).strip("-")
@@ -50,9 +55,9 @@ class Rules:
         for section in self.sections:
             for found in citations(section.text):
                 self.home.setdefault(self.resolve(found, section.text), section)
+        self.front = Section("", self.opening)
         for found in citations(self.opening):
-            if (key := self.resolve(found, "")) not in self.home:
-                self.home[key] = self.sections[0]
+            self.home.setdefault(self.resolve(found, ""), self.front)
 
     def resolve(self, found: re.Match[str], text: str) -> Key:
         """The definition that a citation means: where several crates have it, that of the crate named last before it in the section."""

@@ -6,6 +6,7 @@ import ctypes
 import re
 import struct
 from dataclasses import dataclass
+from typing import Any
 
 from repository import Repository
 
@@ -61,7 +62,7 @@ def decoded(library: str, frame: Frame, samples: list[int]) -> tuple[list[int], 
     """The samples and the map that the direct decoder leaves over lent samples. The map is lent full of 255s."""
     function = ctypes.CDLL(library).razvolk_decode_v0_reference_map
     function.restype = Answer
-    buffers = [
+    buffers: list[ctypes.Array[Any]] = [
         (ctypes.c_uint8 * len(frame.stream)).from_buffer_copy(frame.stream),
         (ctypes.c_uint32 * len(frame.offsets))(*frame.offsets),
         (ctypes.c_uint16 * len(samples))(*samples),
@@ -84,13 +85,19 @@ def steps(repository: Repository, library: str) -> Steps:
     """The frame row by row. A row of the first two, decoded alone, is what it is in the frame before the exchange, unless it looks up."""
     frame = small_frame(repository)
     old = rows_of(list(range(OLD, OLD + frame.width * frame.height)), frame.width)
-    alone = [decoded(library, Frame(frame.stream, [offset], frame.width, 1), old[row]) for row, offset in enumerate(frame.offsets)]
+    alone = [
+        decoded(library, Frame(frame.stream, [offset], frame.width, 1), old[row]) for row, offset in enumerate(frame.offsets)
+    ]
     made = [Step("At entry: the samples as they are lent; every byte is 1.", old, [[1] * frame.width for _ in old])]
     for row, offset in enumerate(frame.offsets):
         samples = [alone[i][0] if i <= row else old[i] for i in range(frame.height)]
         marks = [alone[i][1] if i <= row else [1] * frame.width for i in range(frame.height)]
         kept = samples[row] == old[row]
-        words = "every sample is skipped, and the bytes stay" if kept else "its samples rest on the stream alone, and their bytes become 0"
+        words = (
+            "every sample is skipped, and the bytes stay"
+            if kept
+            else "its samples rest on the stream alone, and their bytes become 0"
+        )
         made.append(Step(f"Row {row} is read, from byte {offset} of the stream on: {words}.", samples, marks))
     samples_left, marks_left = decoded(library, frame, [sample for row in old for sample in row])
     words = "The exchange: the sample right of the first and the one below it change places, and so do their bytes. This is what the call leaves."
