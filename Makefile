@@ -78,7 +78,7 @@ dist: $(archive)
 # as files, without a server.
 site: $(shared)
 	@command -v mkdocs >/dev/null && command -v dot >/dev/null || { echo 'mkdocs, mkdocs-material or graphviz is not installed (tests/setup)' >&2; exit 1; }
-	$(PYTHON) site/make.py target/site $(shared)
+	PYTHONDONTWRITEBYTECODE=1 $(PYTHON) site/make.py target/site $(shared)
 
 # The Python package, target/wheel/razvolk-VERSION-py3-none-manylinux*_x86_64.whl, with both shared libraries inside.
 PYTHON = /usr/bin/python3

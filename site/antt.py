@@ -85,12 +85,18 @@ def items(path: str, text: str) -> list[Item]:
             level = min(level, indent_of(line))
             head = head_of(line) if indent_of(line) == level else None
             if head is not None:
-                item = read_item(path, lines, at, head, comment_text(comment))
+                item = read_item(path, lines, at, head, comment_text(comment) or shared_comment(found, at))
                 found.append(item)
                 at = item.last - 1
             comment = []
         at += 1
     return found
+
+
+def shared_comment(before: list[Item], at: int) -> str:
+    """The comment of a record that stands just before an item without one: it speaks of both."""
+    shared = before and before[-1].kind != "definition" and before[-1].last == at - 1
+    return before[-1].comment if shared else ""
 
 
 def read_item(path: str, lines: list[str], at: int, head: re.Match[str], comment: str) -> Item:
@@ -148,5 +154,5 @@ def file_comment(text: str) -> str:
 def first_sentence(text: str) -> str:
     """The first sentence of a comment, on one line."""
     words = " ".join(text.split())
-    found = re.match(r"(.*?[^.][.:;?!])(?:\s|$)", words)
+    found = re.match(r"(.*?[^.\s][.?!])(?=\s+[A-Z`\d]|$)", words)
     return found[1] if found else words

@@ -61,17 +61,17 @@ class Life:
         return found
 
     def function(self, title: str, keys: list[Key]) -> Function | None:
-        """The function that does it: one with a word of the title in its name, if there is such, whose contract cites most of the definitions."""
+        """The function that does it: one with the last word of the title in its name, if there is such, whose contract cites most."""
         cited: dict[str, int] = {}
         for key in dict.fromkeys(keys):
             for one in self.evidence.functions.get(key, []):
                 cited[one.full] = cited.get(one.full, 0) + (1 if one.crate != key[0] else 0)
-        stems = [word[:6].lower() for word in re.findall(r"\w{3,}", title)]
+        stems = [word[:6].lower() for word in re.findall(r"\w{3,}", title)][::-1]
 
-        def rank(name: str) -> tuple[bool, int, bool, int, str]:
+        def rank(name: str) -> tuple[int, int, bool, int, str]:
             function = self.code.function[name]
-            named = any(stem in function.name for stem in stems)
-            return not named, -cited[name], not function.public, len(self.code.contracts[name]), name
+            named = next((at for at, stem in enumerate(stems) if stem in function.name), len(stems))
+            return named, -cited[name], not function.public, len(self.code.contracts[name]), name
 
         return self.code.function[min(cited, key=rank)] if cited else None
 

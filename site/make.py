@@ -34,6 +34,8 @@ from rule_pages import MARK, RulePages
 from rules import Rules
 from samsung import Samsung
 
+# What mkdocs and its theme put there for servers, other languages and those who debug them.
+UNUSED = ("sitemap.xml*", "404.html", "assets/**/*.map", "assets/javascripts/lunr")
 HERE = Path(__file__).resolve().parent
 
 
@@ -127,8 +129,9 @@ def build(top: Path, out: Path, library: str) -> None:
     write_pages(site, work)
     words = ["mkdocs", "build", "--quiet", "--strict", "--config-file", str(work / "mkdocs.yml"), "--site-dir", str(out)]
     subprocess.run(words, check=True)
-    for name in ("sitemap.xml", "sitemap.xml.gz", "404.html"):
-        (out / name).unlink(missing_ok=True)
+    for pattern in UNUSED:
+        for path in out.glob(pattern):
+            shutil.rmtree(path) if path.is_dir() else path.unlink()
     fill(site, out)
     search.write(out, search.entries(site.code, site.addresses))
     for source in sorted(site.addresses.sources):
