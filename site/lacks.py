@@ -2,6 +2,7 @@
 
 from __future__ import annotations
 
+import re
 from dataclasses import dataclass
 from functools import cached_property
 
@@ -11,9 +12,17 @@ from documents import source_link
 from evidence import Evidence
 from examples import in_examples
 from names import Key
+from rule_pages import blocks
+from rules import Section, citations
 
 THEOREMS = "Theorems speak of it, and no function computes it"
 STATEMENTS = "A record of statements over definitions that examples pin"
+# Why a rule cites no definition.
+PROVED = "Tells of theorems or of worked examples, and names their file"
+OPENS = "Opens its section, whose other rules cite the definitions"
+FOLLOWS = "Tells what the definitions of its section come to"
+NAMED_FILE = re.compile(r"`[^`]*(?:/proofs|\.antt)`")
+PAGE = "lacks.html"
 INNER = "Inner functions ask it of each other or are held to it on the way; no export's contract rests on it"
 
 
@@ -82,19 +91,52 @@ class Lacks:
                 groups.setdefault(found, []).append(key)
         return [Lack(tuple(keys), what, why) for (what, why), keys in groups.items()]
 
-    def page(self) -> str:
-        """The table."""
-        count = sum(not in_examples(self.code, key) for key in self.addresses.rules.home)
+    def undefined(self) -> dict[str, list[tuple[Section, str]]]:
+        """The rules that cite no definition, by the reason: paragraphs, items of lists and rows of tables, each with its section."""
+        found: dict[str, list[tuple[Section, str]]] = {}
+        for section in self.addresses.rules.sections:
+            for at, block in enumerate(blocks(section.text)):
+                rules = block.splitlines()[2:] if block.startswith("|") else [block]
+                for rule in rules:
+                    if rule.strip() and not citations(rule):
+                        why = PROVED if NAMED_FILE.search(rule) else OPENS if at == 0 else FOLLOWS
+                        found.setdefault(why, []).append((section, rule))
+        return found
+
+    def definitions_table(self) -> str:
+        """What lacks a function or a pin."""
         lines = ["| Lack | Why | Definitions |", "|---|---|---|"]
         for lack in self.all():
-            links = [
-                f"[`{key[1].rsplit('.', 1)[1]}.{key[2]}`]({source_link(self.addresses.item(key), 'lacks.html')})"
-                for key in lack.keys
-            ]
+            links = [f"[`{shown(key)}`]({source_link(self.addresses.item(key), PAGE)})" for key in lack.keys]
             lines.append(f"| {lack.what} | {lack.why} | {', '.join(links)} |")
+        return "\n".join(lines)
+
+    def rules_table(self) -> str:
+        """What lacks a definition."""
+        lines = ["| Lack | Why | Rules, by their first words |", "|---|---|---|"]
+        for why, rules in self.undefined().items():
+            links = [f"[{first_words(rule)}]({source_link(section.page, PAGE)})" for section, rule in rules]
+            lines.append(f"| a definition | {why} | {'; '.join(links)} |")
+        return "\n".join(lines)
+
+    def page(self) -> str:
+        """The page: two tables."""
+        count = sum(not in_examples(self.code, key) for key in self.addresses.rules.home)
         lacking = sum(len(lack.keys) for lack in self.all())
         opening = (
             f"The rules cite {count} definitions beside those of worked examples. {count - lacking} of them have a function whose contract "
             "cites them, themselves or through a definition that rests on them, and in the same way an example that pins them. The others:"
         )
-        return f"# What lacks a function or a pin\n\n{opening}\n\n" + "\n".join(lines) + "\n"
+        second = "Every rule cites a definition, but for these:"
+        return f"# What lacks something\n\n{opening}\n\n{self.definitions_table()}\n\n{second}\n\n{self.rules_table()}\n"
+
+
+def shown(key: Key) -> str:
+    """A definition as the rules cite it."""
+    return f"{key[1].rsplit('.', 1)[1]}.{key[2]}"
+
+
+def first_words(rule: str) -> str:
+    """The first words of a rule, without its marks."""
+    plain = re.sub(r"[`*|\[\]]", "", re.sub(r"^(?:- |\d+\. |\| )", "", rule))
+    return " ".join(plain.split()[:5]).rstrip(".,:;") + " .."

@@ -74,7 +74,7 @@ class Site:
         papers = [self.addresses.document(path).removesuffix(".html") + ".md" for path in listed(self.addresses)]
         crates: list[Any] = ["crates/index.md", *({name: f"crates/{name}.md"} for name in self.repository.crates)]
         return [
-            {"Rules": [*rules, {"What lacks a function or a pin": "lacks.md"}]},
+            {"Rules": [*rules, {"What lacks something": "lacks.md"}]},
             {"Promises": "promises.md"},
             {"Life of a frame": "life.md"},
             {"Crates": crates},

@@ -26,20 +26,31 @@ def its_functions(repository: Repository) -> set[str]:
     return found
 
 
-def clauses(repository: Repository) -> list[tuple[str, set[str], str]]:
-    """Clauses of paragraphs that tell where its functions went: each with the crates that it names, and its document."""
-    its = its_functions(repository)
-    found: list[tuple[str, set[str], str]] = []
+# A clause, the crates that it names, and the document that it stands in.
+Clause = tuple[str, set[str], str]
+
+
+def clauses(repository: Repository) -> list[Clause]:
+    """What tells where its functions went: clauses of paragraphs, and rows of tables that are headed `samsung.rs`."""
+    found: list[Clause] = []
     for path in repository.paths("docs/*.md"):
-        for line in repository.text(path).splitlines():
-            named = {re.split(r"\W", name)[0] for name in names(line)}
-            if line.startswith("|") or len(named & its) < 3 or len(named & set(repository.crates)) < 3 or "::" not in line:
-                continue
-            for clause in re.split(r"[;.:](?= )|\.$", line):
-                crates = {name.split("::")[0] for name in names(clause)} & set(repository.crates)
-                if crates:
-                    found.append((clause.strip(), crates, path))
+        text = repository.text(path)
+        told = [clause for part in re.split(r"\n\s*\n", text) for clause in of_paragraph(repository, part)]
+        told += [": ".join(row[:2]) for table in tables(text) if REFERENCE in table.head for row in table.rows]
+        named = ((clause, {name.split("::")[0] for name in names(clause)} & set(repository.crates)) for clause in told)
+        found += [(clause, crates, path) for clause, crates in named if crates]
+    if not found:
+        raise SystemExit("no document tells where the functions of samsung.rs went")
     return found
+
+
+def of_paragraph(repository: Repository, text: str) -> list[str]:
+    """The clauses of a paragraph that names functions of samsung.rs, and our crates with functions of theirs."""
+    named = {re.split(r"\W", name)[0] for name in names(text)}
+    few = len(named & its_functions(repository)) < 3 or len(named & set(repository.crates)) < 3
+    if few or text.startswith("|") or "::" not in text:
+        return []
+    return [clause.strip(" -\n") for clause in re.split(r"[;.:](?=\s)|\.$", text)]
 
 
 class Samsung:

@@ -97,14 +97,20 @@ def hold_rules(driver: WebDriver, site: Path) -> int:
 
 
 def hold_lacks(driver: WebDriver, site: Path, rules: int) -> str:
-    """The table of what lacks something is short, and tells why of each."""
+    """The tables of what lacks something are short, and tell why of each."""
     driver.get((site / "lacks.html").as_uri())
-    rows = driver.find_elements(By.CSS_SELECTOR, ".md-content tbody tr")
-    cells = [[cell.text for cell in row.find_elements(By.TAG_NAME, "td")] for row in rows]
-    assert 0 < len(cells) < 10 and all(len(row) == 3 and all(row) for row in cells), cells
-    lacking = sum(row[2].count(",") + 1 for row in cells)
+    tables = driver.find_elements(By.CSS_SELECTOR, ".md-content table")
+    assert len(tables) == 2, "definitions without a function or a pin, and rules without a definition"
+    cells = [
+        [[cell.text for cell in row.find_elements(By.TAG_NAME, "td")] for row in table.find_elements(By.CSS_SELECTOR, "tbody tr")]
+        for table in tables
+    ]
+    for rows in cells:
+        assert 0 < len(rows) < 10 and all(len(row) == 3 and all(row) for row in rows), rows
+    lacking = sum(row[2].count(",") + 1 for row in cells[0])
     assert rules > 4 * lacking > 0, (rules, lacking)
-    return f"{lacking} of {rules} definitions lack a function or a pin, for {len(cells)} reasons"
+    undefined = sum(row[2].count(";") + 1 for row in cells[1])
+    return f"{lacking} of {rules} definitions lack a function or a pin, {undefined} rules a definition, for {len(cells[0] + cells[1])} reasons"
 
 
 def hold_search(driver: WebDriver, site: Path) -> None:
