@@ -57,4 +57,4 @@ class Addresses:
         """A document's page; the rules are the site's first page."""
         if path == DOCUMENT:
             return "index.html"
-        return f"documents/{posixpath.basename(path).removesuffix('.md')}.html"
+        return f"documents/{posixpath.basename(path).removesuffix('.md').lower()}.html"

@@ -13,7 +13,7 @@ from examples import in_examples
 from names import Key
 from rattle import Function
 from rule_pages import WIDE, blocks, mark
-from rules import Section, citations
+from rules import Section
 from running import Step, grown, steps
 
 PAGE = "life.html"
@@ -52,7 +52,7 @@ class Life:
         found: list[Station] = []
         for text in blocks(section.text):
             lead = LEAD.match(text)
-            keys = [self.rules.resolve(one, section.text) for one in citations(text)]
+            keys = self.rules.cited_by(text, section)
             if lead is not None and keys:
                 title = lead["title"].rstrip(".")
                 found.append(Station(title, keys, self.function(title, keys)))

@@ -10,6 +10,9 @@ TOKEN = re.compile(r"[^\s(){};,\"⌜⌝]+")
 BOUND = re.compile(r"λ ([^.⌜]+)\.|[({]([^:(){}=]+) : |\blet (\S+) =")
 COMMENT = re.compile(r"(?<!\S)--[^\n]*|//[^\n]*|^\s*unfolding [^\n]*", re.M)
 
+# Names of fields where they are declared or given, which are no citations.
+FIELD = re.compile(r"(?<=pub )[^\s:(){}]+(?= : )|(?<=[{;])(\s*)[^\s={};]+(?= = )")
+
 # A module: the crate, and the path below it with dots, as `specs.V0`.
 Module = tuple[str, str]
 # An item: its module and its name.
@@ -75,7 +78,7 @@ def bound_in(text: str) -> set[str]:
 
 def cited(text: str, scope: Scope) -> list[Key]:
     """The items that a text cites, each once, in their order."""
-    code = COMMENT.sub("", text)
+    code = FIELD.sub(" ", COMMENT.sub("", text))
     bound = bound_in(code)
     keys = (scope.key(token) for token in TOKEN.findall(code) if token not in bound)
     return list(dict.fromkeys(key for key in keys if key is not None))

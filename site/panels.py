@@ -15,8 +15,8 @@ from names import Key
 from rattle import Function
 from samsung import Samsung
 
-# How many theorems are shown with their statements; the others are named.
-SHOWN = 8
+# How many theorems, examples and wrong edits are shown whole; the others are links.
+THEOREMS, PINS, EDITS = 8, 3, 8
 
 
 class Panels:
@@ -98,8 +98,8 @@ class Panels:
     def theorems_of(self, key: Key, page: str) -> str:
         """The theorems that speak of a definition: those with a comment of their own first."""
         keys = sorted(self.evidence.theorems.get(key, []), key=lambda one: not self.code.items[one].comment)
-        shown = [self.shown_theorem(self.code.items[one], page) for one in keys[:SHOWN]]
-        others = [self.code.items[one] for one in keys[SHOWN:]]
+        shown = [self.shown_theorem(self.code.items[one], page) for one in keys[:THEOREMS]]
+        others = [self.code.items[one] for one in keys[THEOREMS:]]
         links = [
             self.anchor(f"<code>{escape(one.name)}</code>", self.addresses.source(one.path, one.line), page) for one in others
         ]
@@ -116,9 +116,11 @@ class Panels:
         named = f" {key[2]} "
         pins = self.evidence.pins.get(key, [])
         pins = sorted(pins, key=lambda one: named not in f" {one.comment.replace(':', ' ').replace(',', ' ').replace(';', ' ')} ")
-        shown = [self.shown_example(one, page) for one in pins[:3]]
-        if len(pins) > 3:
-            shown.append(f"and {len(pins) - 3} more")
+        shown = [self.shown_example(one, page) for one in pins[:PINS]]
+        places = [
+            (f"{one.path.split('/', 1)[1]}, line {one.line}", self.addresses.source(one.path, one.line)) for one in pins[PINS:]
+        ]
+        shown += [", ".join(self.anchor(escape(text), to, page) for text, to in places)] if places else []
         through = self.reached(self.evidence.through(key, self.evidence.pins), page)
         return self.part("Examples that pin it", shown, through)
 
@@ -132,18 +134,23 @@ class Panels:
     def edits_of(self, key: Key, page: str) -> str:
         """The wrong edits that break a definition."""
         found = self.evidence.broken.get(key, [])
-        return self.part("Wrong edits that break it", [self.shown_edit(one, page) for one in found[:12]], "none")
+        shown = [self.shown_edit(one, page) for one in found[:EDITS]]
+        others = [self.edit_link(one, page) for one in found[EDITS:]]
+        return self.part("Wrong edits that break it", shown + ([", ".join(others)] if others else []), "none")
+
+    def edit_link(self, edit: Edit, page: str) -> str:
+        """A wrong edit's name, as a link to its file."""
+        crate = edit.path.split("/")[1]
+        return self.anchor(f"<code>{escape(crate)}/{escape(edit.name)}</code>", self.addresses.source(edit.path), page)
 
     def shown_edit(self, edit: Edit, page: str) -> str:
         """A wrong edit: what it says, and what it changes."""
-        crate = edit.path.split("/")[1]
-        lead = self.anchor(f"<code>{escape(crate)}/{escape(edit.name)}</code>", self.addresses.source(edit.path), page)
         lines = [
             f'<span class="gd">- {escape(one.old.strip())}</span>\n<span class="gi">+ {escape(one.new.strip())}</span>'
             for one in edit.changes
         ]
         beside = "" if edit.in_gate else " (beside the gate)"
-        return f'{lead}{beside} {words(edit.comment)}<div class="highlight"><pre><code>{chr(10).join(lines)}</code></pre></div>'
+        return f'{self.edit_link(edit, page)}{beside} {words(edit.comment)}<div class="highlight"><pre><code>{chr(10).join(lines)}</code></pre></div>'
 
     def samsung_of(self, key: Key, page: str) -> str:
         """Where samsung.rs has it, as the documents tell."""

@@ -126,7 +126,8 @@ class Promises:
         scope = self.code.scopes[path]
         found: dict[str, Function] = {}
         for token in TOKEN.findall(COMMENT.sub("", text)):
-            module = scope.aliases.get(token.split(".")[0])
+            alias, dot, _ = token.partition(".")
+            module = scope.aliases.get(alias) if dot else None
             parts = module[1].split(".")[1:] if module else []
             for end in range(len(parts), 0, -1):
                 function = self.code.function.get("::".join((module[0], *parts[:end]))) if module else None
@@ -166,8 +167,10 @@ class Promises:
     def chains(self, one: Promise) -> str:
         """The ways to the exports, those with the same items between together."""
         groups: dict[tuple[Key, ...], list[Function]] = {}
-        for name, way in self.ways(one).items():
-            if name in self.exports:
+        ways = self.ways(one)
+        for name, way in ways.items():
+            export = self.exports.get(name)
+            if export is not None and (export.full == name or export.full not in ways):
                 groups.setdefault(tuple(way), []).append(self.code.function[name])
         lines: list[str] = []
         for between, functions in groups.items():

@@ -38,11 +38,7 @@ class RulePages:
 
     def block(self, text: str, section: Section, page: str, placed: set[Key]) -> str:
         """A paragraph, a list's item or a table, and after it the definitions that have their place here."""
-        before = section.text[: section.text.index(text)] if text.strip() else ""
-        keys: list[Key] = []
-        for found in citations(before + text):
-            if found.start() >= len(before):
-                keys.append(self.rules.resolve(found, section.text))
+        keys = self.rules.cited_by(text, section)
         new = [key for key in dict.fromkeys(keys) if self.rules.home[key] is section and key not in placed]
         placed.update(new)
         linked = self.cited(with_links(text, DOCUMENT, page, self.addresses), keys, page)

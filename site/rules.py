@@ -68,3 +68,9 @@ class Rules:
         if not keys:
             raise SystemExit(f"{DOCUMENT}: no crate has the definition {found[1]}.{found[2]}")
         return keys[0]
+
+    def cited_by(self, block: str, section: Section) -> list[Key]:
+        """The definitions that a block of a section cites, in their order."""
+        before = section.text[: section.text.index(block)]
+        found = citations(before + block)
+        return [self.resolve(one, section.text) for one in found if one.start() >= len(before)]

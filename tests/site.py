@@ -128,8 +128,9 @@ def hold_search(driver: WebDriver, site: Path) -> None:
     found = [link for link in links if link.split("?")[0].endswith(".html") and link.split("#")[-1].endswith(".predictor")]
     assert found, links[:10]
     driver.get(found[0])
-    name = unquote(found[0].split("#")[1])
-    assert driver.execute_script("return document.getElementById(arguments[0]).open", name), name
+    panel = driver.find_element(By.ID, unquote(found[0].split("#")[1]))
+    assert panel.get_attribute("open"), found[0]
+    assert len(panel.find_elements(By.CSS_SELECTOR, "p.part + ul")) == 5, "functions, theorems, examples, wrong edits, samsung.rs"
 
 
 def hold_widths(driver: WebDriver, site: Path) -> None:
@@ -152,6 +153,7 @@ def hold_widths(driver: WebDriver, site: Path) -> None:
         driver.get((site / "index.html").as_uri())
         colours.add(driver.execute_script("return getComputedStyle(document.body).backgroundColor"))
     assert len(colours) == 2, colours
+    driver.get((site / pages[-1]).as_uri())
     assert driver.print_page().startswith("JVBERi0"), "it prints"
 
 
