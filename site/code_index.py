@@ -17,7 +17,7 @@ def is_spec(key: Key) -> bool:
 
 
 def is_theorem_file(path: str) -> bool:
-    """Whether a file has theorems of its own: the folders of single functions' proofs have the functions' names, in small letters."""
+    """Whether a file has theorems of its own: folders of one function's proof have its name, in small letters."""
     return all(part[:1].isupper() for part in path.split("/proofs/")[1].split("/"))
 
 

@@ -41,7 +41,8 @@ class CratePages:
         holds = with_links(holds, document, page, self.addresses)
         parts = [f"# `{name}`", holds[:1].upper() + holds[1:] + ("." if holds else "")]
         parts.append(
-            f"**Uses** {self.linked(list(repository.crates[name].uses), page)}. **Used by** {self.linked(repository.users(name), page)}."
+            f"**Uses** {self.linked(list(repository.crates[name].uses), page)}. "
+            f"**Used by** {self.linked(repository.users(name), page)}."
         )
         parts.append(self.functions(name))
         parts.append(self.definitions(name, page))
@@ -82,7 +83,8 @@ class CratePages:
                 to = relative(self.addresses.source(item.path, item.line), page)
                 file = key[1].removeprefix("proofs.")
                 lines.append(
-                    f'<li><a href="{escape(to)}"><code>{escape(file)}.{escape(item.name)}</code></a> {words(first_sentence(item.comment))}</li>'
+                    f'<li><a href="{escape(to)}"><code>{escape(file)}.{escape(item.name)}</code></a> '
+                    f"{words(first_sentence(item.comment))}</li>"
                 )
         return f'## Theorems\n\n<ul class="theorems">{"".join(lines)}</ul>' if lines else ""
 
@@ -104,7 +106,10 @@ class CratePages:
         for name in self.code.repository.crates:
             holds, document = self.told.get(name, ("", ""))
             lines.append(f"| [`{name}`]({name}.md) | {with_links(holds, document, 'crates/index.html', self.addresses)} |")
-        opening = "Each crate stands above all that it uses. An arrow leads from a crate to one that it uses; where a longer way says it already, it is left out."
+        opening = (
+            "Each crate stands above all that it uses. An arrow leads from a crate to one that it uses; "
+            "where a longer way says it already, it is left out."
+        )
         return f"{WIDE}# Crates\n\n{opening}\n\n{mark('drawing', ['crates'])}\n\n" + "\n".join(lines) + "\n"
 
     def drawing(self) -> str:
@@ -112,7 +117,8 @@ class CratePages:
         repository = self.code.repository
         lines = ["digraph {", 'rankdir=TB; bgcolor="transparent"; nodesep=0.18; ranksep=0.45;']
         lines.append(
-            'node [shape=box, style=rounded, fontname="sans-serif", fontsize=12, height=0.32, margin="0.09,0.03"]; edge [arrowsize=0.5];'
+            'node [shape=box, style=rounded, fontname="sans-serif", fontsize=12, height=0.32, margin="0.09,0.03"];'
+            "edge [arrowsize=0.5];"
         )
         for layer in reversed(repository.layers):
             lines.append("{ rank=same;")

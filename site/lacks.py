@@ -92,7 +92,7 @@ class Lacks:
         return [Lack(tuple(keys), what, why) for (what, why), keys in groups.items()]
 
     def undefined(self) -> dict[str, list[tuple[Section, str]]]:
-        """The rules that cite no definition, by the reason: paragraphs, items of lists and rows of tables, each with its section."""
+        """The rules that cite no definition, by the reason: paragraphs, items of lists and rows of tables."""
         found: dict[str, list[tuple[Section, str]]] = {}
         for section in self.addresses.rules.sections:
             for at, block in enumerate(blocks(section.text)):
@@ -124,8 +124,9 @@ class Lacks:
         count = sum(not in_examples(self.code, key) for key in self.addresses.rules.home)
         lacking = sum(len(lack.keys) for lack in self.all())
         opening = (
-            f"The rules cite {count} definitions beside those of worked examples. {count - lacking} of them have a function whose contract "
-            "cites them, themselves or through a definition that rests on them, and in the same way an example that pins them. The others:"
+            f"The rules cite {count} definitions beside those of worked examples. {count - lacking} of them have a function whose "
+            "contract cites them, themselves or through a definition that rests on them, and in the same way an example that pins "
+            "them. The others:"
         )
         second = "Every rule cites a definition, but for these:"
         return f"# What lacks something\n\n{opening}\n\n{self.definitions_table()}\n\n{second}\n\n{self.rules_table()}\n"

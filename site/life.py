@@ -61,7 +61,7 @@ class Life:
         return found
 
     def function(self, title: str, keys: list[Key]) -> Function | None:
-        """The function that does it: one with the last word of the title in its name, if there is such, whose contract cites most."""
+        """The function that does it: with the last word of the title in its name, if there is such; its contract cites most."""
         cited: dict[str, int] = {}
         for key in dict.fromkeys(keys):
             for one in self.evidence.functions.get(key, []):
@@ -138,7 +138,7 @@ class Life:
         """The page's Markdown."""
         parts = [
             f"{WIDE}# Life of a frame",
-            "From bytes to a sample: on the left the rules, on the right a function that is proved to do what they say. Each box is a link.",
+            "From bytes to a sample: on the left the rules, on the right a function whose contract cites them. Each box is a link.",
         ]
         for section in self.walks():
             parts += [f"## {section.title}", mark("walk", [section.slug])]
@@ -171,7 +171,8 @@ def picture(step: Step) -> str:
             x, y = column * side + 1, row * side + 1
             cells.append(f'<rect class="byte{byte}" x="{x}" y="{y}" width="{side - 2}" height="{side - 2}"/>')
             cells.append(
-                f'<text x="{x + side // 2 - 1}" y="{y + 26}">{sample}</text><text class="byte" x="{x + side // 2 - 1}" y="{y + 48}">byte {byte}</text>'
+                f'<text x="{x + side // 2 - 1}" y="{y + 26}">{sample}</text>'
+                f'<text class="byte" x="{x + side // 2 - 1}" y="{y + 48}">byte {byte}</text>'
             )
     width, height = side * len(step.samples[0]), side * len(step.samples)
     svg = f'<svg viewBox="0 0 {width} {height}" width="{width}" height="{height}" role="img">{"".join(cells)}</svg>'

@@ -26,7 +26,7 @@ def module_of(path: str) -> Module:
 
 
 def named_module(path: str) -> Module | None:
-    """The module that a `use` line names, where it is one of a crate: `Rattle.rules.specs.V0` is `specs.V0` of `rules`."""
+    """The module of a crate that a `use` line names: `Rattle.rules.specs.V0` is `specs.V0` of `rules`."""
     if not path.startswith("Rattle·"):
         return None
     crate, _, inner = path.removeprefix("Rattle·").partition(".")

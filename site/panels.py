@@ -150,7 +150,9 @@ class Panels:
             for one in edit.changes
         ]
         beside = "" if edit.in_gate else " (beside the gate)"
-        return f'{self.edit_link(edit, page)}{beside} {words(edit.comment)}<div class="highlight"><pre><code>{chr(10).join(lines)}</code></pre></div>'
+        code = "\n".join(lines)
+        lead = f"{self.edit_link(edit, page)}{beside} {words(edit.comment)}"
+        return f'{lead}<div class="highlight"><pre><code>{code}</code></pre></div>'
 
     def samsung_of(self, key: Key, page: str) -> str:
         """Where samsung.rs has it, as the documents tell."""

@@ -73,7 +73,11 @@ class Promises:
         """The page's Markdown."""
         path = self.record.path
         source = link(f"[{path}]", self.addresses.source(path, self.record.line), "promises.html")
-        opening = f"Each line of the list is one field of one record, {source}; the theorem `{self.theorem.name}` proves all of them. Below each stand the field, the theorem that proves it, and the way from the field down to the functions that are exported."
+        opening = (
+            f"Each line of the list is one field of one record, {source}; the theorem `{self.theorem.name}` proves all of them. "
+            "Below each stand the field, what it claims, the theorem that proves it, and the way from the field down to the "
+            "functions that are exported."
+        )
         parts = ["# Promises", opening]
         for one in self.all():
             parts.append(f"## {one.number}. {one.title}")

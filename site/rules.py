@@ -60,7 +60,7 @@ class Rules:
             self.home.setdefault(self.resolve(found, ""), self.front)
 
     def resolve(self, found: re.Match[str], text: str) -> Key:
-        """The definition that a citation means: where several crates have it, that of the crate named last before it in the section."""
+        """The definition that a citation means: of several crates' that of the crate named last before it in the section."""
         keys = [key for key in self.code.items if is_spec(key) and key[1].endswith(f".{found[1]}") and key[2] == found[2]]
         if len(keys) > 1:
             before = CRATE.findall(text[: found.start()])[::-1] + self.named

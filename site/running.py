@@ -81,29 +81,37 @@ def rows_of(cells: list[int], width: int) -> list[list[int]]:
     return [cells[at : at + width] for at in range(0, len(cells), width)]
 
 
+def told(row: int, offset: int, old: list[int], samples: list[int], marks: list[int]) -> str:
+    """What the decoder did with a row."""
+    if samples == old:
+        words = "every sample is skipped, and the bytes stay"
+    elif not any(marks):
+        words = "its samples rest on the stream alone, and their bytes become 0"
+    else:
+        words = "some of its samples rest on the stream alone"
+    return f"Row {row} is read, from byte {offset} of the stream on: {words}."
+
+
 def steps(repository: Repository, library: str) -> Steps:
-    """The frame row by row. A row of the first two, decoded alone, is what it is in the frame before the exchange, unless it looks up."""
+    """The frame row by row: a row that doesn't look up is, decoded alone, what it is in the frame before the exchange."""
     frame = small_frame(repository)
     old = rows_of(list(range(OLD, OLD + frame.width * frame.height)), frame.width)
-    alone = [
-        decoded(library, Frame(frame.stream, [offset], frame.width, 1), old[row]) for row, offset in enumerate(frame.offsets)
-    ]
+    alone = [decoded(library, Frame(frame.stream, [at], frame.width, 1), old[row]) for row, at in enumerate(frame.offsets)]
     made = [Step("At entry: the samples as they are lent; every byte is 1.", old, [[1] * frame.width for _ in old])]
     for row, offset in enumerate(frame.offsets):
         samples = [alone[i][0] if i <= row else old[i] for i in range(frame.height)]
         marks = [alone[i][1] if i <= row else [1] * frame.width for i in range(frame.height)]
-        kept = samples[row] == old[row]
-        words = (
-            "every sample is skipped, and the bytes stay"
-            if kept
-            else "its samples rest on the stream alone, and their bytes become 0"
-        )
-        made.append(Step(f"Row {row} is read, from byte {offset} of the stream on: {words}.", samples, marks))
-    samples_left, marks_left = decoded(library, frame, [sample for row in old for sample in row])
-    words = "The exchange: the sample right of the first and the one below it change places, and so do their bytes. This is what the call leaves."
+        made.append(Step(told(row, offset, old[row], *alone[row]), samples, marks))
+    samples_left, marks_left = decoded(library, frame, [sample for line in old for sample in line])
+    words = (
+        "The exchange: the sample right of the first and the one below it change places with their bytes. So the call leaves it."
+    )
     made.append(Step(words, rows_of(samples_left, frame.width), rows_of(marks_left, frame.width)))
     hold(made)
-    opening = f"The README's frame of {frame.width} by {frame.height}, over samples that hold {OLD} and on. Each picture but the first shows what the decoder left when this page was made: of the rows, decoded one by one, and then of the whole frame."
+    opening = (
+        f"The README's frame of {frame.width} by {frame.height}, over samples that hold {OLD} and on. Each picture but the first "
+        "shows what the decoder left when this page was made: of the rows, decoded one by one, and then of the whole frame."
+    )
     return Steps(opening, made)
 
 

@@ -79,7 +79,8 @@ def hold_rules(driver: WebDriver, site: Path) -> int:
     for path in sorted((site / "rules").glob("*.html")):
         driver.get(path.as_uri())
         panels = driver.execute_script(
-            "return [...document.querySelectorAll('details.panel')].map(p => [p.id, p.querySelector('pre').textContent, p.textContent])"
+            "return [...document.querySelectorAll('details.panel')]"
+            ".map(p => [p.id, p.querySelector('pre').textContent, p.textContent])"
         )
         for name, code, text in panels:
             assert name.rsplit(".", 1)[1] in code, name
@@ -110,7 +111,8 @@ def hold_lacks(driver: WebDriver, site: Path, rules: int) -> str:
     lacking = sum(row[2].count(",") + 1 for row in cells[0])
     assert rules > 4 * lacking > 0, (rules, lacking)
     undefined = sum(row[2].count(";") + 1 for row in cells[1])
-    return f"{lacking} of {rules} definitions lack a function or a pin, {undefined} rules a definition, for {len(cells[0] + cells[1])} reasons"
+    reasons = len(cells[0] + cells[1])
+    return f"{lacking} of {rules} definitions lack a function or a pin, {undefined} rules a definition, for {reasons} reasons"
 
 
 def hold_search(driver: WebDriver, site: Path) -> None:
