@@ -59,9 +59,8 @@ class Panels:
         """A definition with its comment, and under it what stands behind it."""
         item = self.code.items[key]
         name = f"{key[1].rsplit('.', 1)[1]}.{key[2]}"
-        comment = "".join(f"-- {line}\n" for line in item.comment.splitlines())
         parts = [
-            block(comment + item.code, self.link(item.path, page, key)),
+            comment_of(item.comment) + block(item.code, self.link(item.path, page, key)),
             self.place(item.path, item.line, page),
             self.functions_of(key, page),
             self.theorems_of(key, page),
@@ -163,7 +162,13 @@ class Panels:
     def function(self, function: Function, page: str) -> str:
         """A function, which opens to its signature and its contract."""
         told = f"{function.signature}\n{function.contract}".rstrip()
-        comment = "".join(f"// {line}\n" for line in function.comment.splitlines())
         lead = f"<code>{escape(function.full)}</code> <span>{words(first_sentence(function.comment))}</span>"
-        inner = block(comment + told, self.link(function.path, page)) + self.place(function.path, function.line, page)
+        inner = comment_of(function.comment) + block(told, self.link(function.path, page))
+        inner += self.place(function.path, function.line, page)
         return f'<details class="panel" id="{escape(function.full)}"><summary>{lead}</summary>{inner}</details>'
+
+
+def comment_of(text: str) -> str:
+    """A comment as a paragraph, where it says more than the line that is opened."""
+    whole = " ".join(text.split())
+    return f"<p>{words(whole)}</p>" if first_sentence(text) != whole else ""

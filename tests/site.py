@@ -135,8 +135,22 @@ def hold_search(driver: WebDriver, site: Path) -> None:
     assert len(panel.find_elements(By.CSS_SELECTOR, "p.part + ul")) == 5, "functions, theorems, examples, wrong edits, samsung.rs"
 
 
+def contrast(driver: WebDriver) -> float:
+    """How far a page's links stand out from its background, as WCAG has it: from 1 to 21, and 4.5 can be read."""
+    script = """
+        const light = colour => {
+            const parts = colour.match(/\\d+/g).slice(0, 3).map(part => part / 255)
+            const [r, g, b] = parts.map(p => p <= 0.03928 ? p / 12.92 : ((p + 0.055) / 1.055) ** 2.4)
+            return 0.2126 * r + 0.7152 * g + 0.0722 * b + 0.05
+        }
+        const link = getComputedStyle(document.querySelector(".md-content td a")).color
+        const pair = [light(link), light(getComputedStyle(document.body).backgroundColor)]
+        return Math.max(...pair) / Math.min(...pair)"""
+    return float(driver.execute_script(script))
+
+
 def hold_widths(driver: WebDriver, site: Path) -> None:
-    """On a phone no page is wider than the screen, and in the dark it is dark; a page can be printed."""
+    """On a phone no page is wider than the screen; light and dark differ, and links can be read in both; a page can be printed."""
     pages = ["index.html", "promises.html", "life.html", "lacks.html", "crates/index.html"]
     pages += [f"rules/{path.name}" for path in sorted((site / "rules").glob("*.html"))]
     driver.execute_cdp_cmd(
@@ -154,6 +168,7 @@ def hold_widths(driver: WebDriver, site: Path) -> None:
         driver.execute_script("localStorage.clear()")
         driver.get((site / "index.html").as_uri())
         colours.add(driver.execute_script("return getComputedStyle(document.body).backgroundColor"))
+        assert contrast(driver) > 4.5, f"{theme}: {contrast(driver)}"
     assert len(colours) == 2, colours
     driver.get((site / pages[-1]).as_uri())
     assert driver.print_page().startswith("JVBERi0"), "it prints"
