@@ -150,7 +150,7 @@ def contrast(driver: WebDriver) -> float:
 
 
 def hold_widths(driver: WebDriver, site: Path) -> None:
-    """On a phone no page is wider than the screen; light and dark differ, and links can be read in both; a page can be printed."""
+    """On a phone no page is wider than the screen; light and dark differ, and links can be read in both."""
     pages = ["index.html", "promises.html", "life.html", "lacks.html", "crates/index.html"]
     pages += [f"rules/{path.name}" for path in sorted((site / "rules").glob("*.html"))]
     driver.execute_cdp_cmd(
@@ -170,7 +170,19 @@ def hold_widths(driver: WebDriver, site: Path) -> None:
         colours.add(driver.execute_script("return getComputedStyle(document.body).backgroundColor"))
         assert contrast(driver) > 4.5, f"{theme}: {contrast(driver)}"
     assert len(colours) == 2, colours
-    driver.get((site / pages[-1]).as_uri())
+
+
+def hold_paper(driver: WebDriver, site: Path) -> None:
+    """A page can be printed: on paper stands the definition that was opened, and of others the line that opens them."""
+    path = min((site / "rules").glob("*.html"), key=lambda path: path.stat().st_size)
+    driver.get(path.as_uri())
+    first = driver.find_element(By.CSS_SELECTOR, "details.panel > summary")
+    driver.execute_script("arguments[0].click()", first)
+    driver.execute_cdp_cmd("Emulation.setEmulatedMedia", {"media": "print"})
+    driver.execute_script("document.querySelectorAll('details.panel').forEach(one => one.open = true)")
+    codes = driver.find_elements(By.CSS_SELECTOR, "details.panel > .highlight")
+    assert [code.is_displayed() for code in codes] == [True] + [False] * (len(codes) - 1) and len(codes) > 1, path
+    driver.execute_cdp_cmd("Emulation.setEmulatedMedia", {"media": ""})
     assert driver.print_page().startswith("JVBERi0"), "it prints"
 
 
@@ -202,6 +214,7 @@ def main() -> None:
         lacks = hold_lacks(driver, site, rules)
         hold_search(driver, site)
         hold_widths(driver, site)
+        hold_paper(driver, site)
         pages = hold_pages(driver, site)
         log = driver.get_log("browser")
         assert not log, log

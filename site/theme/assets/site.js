@@ -27,16 +27,22 @@ if (location.protocol === "file:")
     }
   }
 
-// What an address or a link names is opened, with all that it stands in.
+// What an address or a link names is opened, with all that it stands in. On paper stands what was opened, and no more, though the
+// theme opens everything there.
 const show = hash => {
   const named = document.getElementById(decodeURIComponent(hash.slice(1)))
   for (let part = named; part; part = part.parentElement)
-    if (part.tagName === "DETAILS") part.open = true
+    if (part.tagName === "DETAILS") {
+      part.open = true
+      part.classList.add("opened")
+    }
   if (named) named.scrollIntoView()
 }
 addEventListener("hashchange", () => show(location.hash))
 addEventListener("DOMContentLoaded", () => {
   show(location.hash)
+  for (const lead of document.querySelectorAll("details.panel > summary"))
+    lead.addEventListener("click", () => lead.parentElement.classList.toggle("opened", !lead.parentElement.open))
   for (const link of document.querySelectorAll('a[href^="#"]'))
     link.addEventListener("click", () => show(link.getAttribute("href")))
 })
