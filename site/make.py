@@ -3,15 +3,17 @@
 
     site/make.py FOLDER [LIBRARY]
 
-The site is put into FOLDER, and what mkdocs makes it from into FOLDER.pages. LIBRARY is the shared library that is run for the
-pictures of a frame; without, the repository's own below target/staticlib.
+The site is put into FOLDER, in place of one that is there. LIBRARY is the shared library that is run for the pictures of a frame;
+without, the repository's own below target/staticlib.
 """
 
 from __future__ import annotations
 
 import shutil
+import signal
 import subprocess
 import sys
+import tempfile
 from pathlib import Path
 from typing import Any
 
@@ -120,12 +122,9 @@ def fill(site: Site, out: Path) -> None:
         write(path, made)
 
 
-def build(top: Path, out: Path, library: str) -> None:
-    """Builds the site."""
-    site = Site(top, library)
-    work = out.with_name(out.name + ".pages")
-    for folder in (work, out):
-        shutil.rmtree(folder, ignore_errors=True)
+def built(site: Site, work: Path) -> Path:
+    """Builds the site in a folder for that alone; where it is."""
+    out = work / "site"
     write_pages(site, work)
     words = ["mkdocs", "build", "--quiet", "--strict", "--config-file", str(work / "mkdocs.yml"), "--site-dir", str(out)]
     subprocess.run(words, check=True)
@@ -136,12 +135,28 @@ def build(top: Path, out: Path, library: str) -> None:
     search.write(out, search.entries(site.code, site.addresses))
     for source in sorted(site.addresses.sources):
         write(out / "sources" / f"{source}.html", sources.page(site.repository, source))
-    shutil.rmtree(work)
+    return out
+
+
+def build(top: Path, out: Path, library: str) -> None:
+    """Puts the site into a folder, whole or not at all. A folder that is no site is not touched."""
+    if out.exists() and not (out / search.INDEX).is_file():
+        raise SystemExit(f"site/make.py: {out} is there, and is no site")
+    for program in ("mkdocs", "dot", "tred"):
+        if shutil.which(program) is None:
+            raise SystemExit(f"site/make.py: {program} is not installed")
+    out.parent.mkdir(parents=True, exist_ok=True)
+    with tempfile.TemporaryDirectory(prefix=f"{out.name}.", dir=out.parent) as work:
+        made = built(Site(top, library), Path(work))
+        shutil.rmtree(out, ignore_errors=True)
+        made.rename(out)
 
 
 def main() -> None:
     if len(sys.argv) not in (2, 3):
         raise SystemExit("usage: site/make.py FOLDER [LIBRARY]")
+    # What ends it removes what it has begun.
+    signal.signal(signal.SIGTERM, lambda *_: sys.exit(1))
     top = HERE.parent
     library = sys.argv[2] if len(sys.argv) > 2 else str(top / "target/staticlib/librazvolk.so.0")
     build(top, Path(sys.argv[1]).resolve(), library)

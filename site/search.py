@@ -12,6 +12,9 @@ from antt import first_sentence
 from code_index import Code, is_spec
 from rule_pages import MARK
 
+# Where the pages load the index from.
+INDEX = "search/search_index.js"
+
 
 def entry(location: str, title: str, text: str) -> dict[str, str]:
     """A thing that can be found."""
@@ -44,5 +47,5 @@ def write(site: Path, found: list[dict[str, str]]) -> None:
             index["docs"] += [entry(page, title, ""), entry(f"{page}#L1", title, "")]
     index["docs"] += found
     text = json.dumps(index, ensure_ascii=False, separators=(",", ":"))
-    (site / "search" / "search_index.js").write_text(f"__search.ready({text});\n", encoding="utf-8")
+    (site / INDEX).write_text(f"__search.ready({text});\n", encoding="utf-8")
     plain.unlink()
