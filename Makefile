@@ -1,4 +1,4 @@
-.PHONY: tool install-tool install-libraries run test archive container install dist wheel bench-python refuse mutate compare compare-long bench memcheck fuzz frames picture sheet bench-tool soak fmt fuzz-container hour landings
+.PHONY: tool install-tool install-libraries run test archive container install dist wheel bench-python refuse mutate compare compare-long bench memcheck fuzz frames picture sheet bench-tool soak fmt fuzz-container hour landings site
 
 archive = target/staticlib/librazvolk.a
 shared = target/staticlib/librazvolk.so.0
@@ -73,6 +73,12 @@ tool: $(archive)
 # A release, target/dist/razvolk-VERSION.tar.gz, which needs no Rattle toolchain.
 dist: $(archive)
 	dist/make
+
+# The static site, target/site/index.html: rules, definitions, code and proofs, read out of sources and documents. It is opened
+# as files, without a server.
+site: $(shared)
+	@command -v mkdocs >/dev/null && command -v dot >/dev/null || { echo 'mkdocs, mkdocs-material or graphviz is not installed (tests/setup)' >&2; exit 1; }
+	PYTHONDONTWRITEBYTECODE=1 $(PYTHON) site/make.py target/site $(shared)
 
 # The Python package, target/wheel/razvolk-VERSION-py3-none-manylinux*_x86_64.whl, with both shared libraries inside.
 PYTHON = /usr/bin/python3
