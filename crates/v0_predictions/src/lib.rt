@@ -1,14 +1,12 @@
 // Phase two: the prediction of each sample from row 2 on, added to the residual that phase one left in its place.
 ghost use mathlib.Core.Path.{_≡_};
-ghost use mathlib.Core.Bool.{true, false, cond};
+ghost use mathlib.Core.Bool.{true, false};
 ghost use mathlib.Core.List.{[], _∷_};
 ghost use Prim.Native.Nat.{_+_, _-_, _*_, _%_, _≤_, _<_};
-ghost use lib.Dec.{eqb};
-ghost use lib.ListN.{length, getD, take, drop};
-ghost use Rattle.rules.specs.V0.{order, blocks-in, sample-kind};
+ghost use lib.ListN.{length, take, drop};
+ghost use Rattle.rules.specs.V0.{order, blocks-in};
 ghost use Rattle.rules.specs.Phases.{late-predictor, predict-samples, predict-blocks, sample-stage};
 ghost use Rattle.v0_cells.specs.Places.{Inside, Low};
-ghost use Rattle.v0_cells.specs.Inner.{Replaced};
 ghost use Rattle.v0_predictions.specs.Inner.{predict-inner};
 ghost use Rattle.v0_predictions.specs.Lent.{LateSample, LateRow};
 use rules::Predictor;
