@@ -8,7 +8,7 @@
  * There is no state at all: nothing is kept from call to call, allocated or locked. Any number of threads may call at once, as
  * long as no thread writes a slice that another one reads or writes.
  *
- * No call uses more than 2,048 bytes of stack, beside what the C library's memset and memcpy use. */
+ * No call uses more than 8,192 bytes of stack, beside what the C library's memset and memcpy use. */
 #ifndef RAZVOLK_H
 #define RAZVOLK_H
 

@@ -51,7 +51,7 @@ module _ {k : Kind ℕ} {base : ℕ} {new : ℕ → ℕ} {f₀ : List ℕ} where
   storing-done {f} {n} l s = let e : n ≡ 16 = omega arith in rw e at (s .replaced)
 
   -- A frame is known by what was replaced in it.
-  replaced-same : (n : ℕ) (f g : List ℕ) → Replaced k base n new f₀ f → Replaced k base n new f₀ g → f ≡ g
+  pub replaced-same : (n : ℕ) (f g : List ℕ) → Replaced k base n new f₀ f → Replaced k base n new f₀ g → f ≡ g
   replaced-same n f g a b =
       ext-getD (k .constant 0) f g (a .same-length ∙ sym (b .same-length)) (λ i l. go i (decLt i base) (decLt i (base + n)))
     where
@@ -71,7 +71,8 @@ module _ {k : Kind ℕ} {base : ℕ} {new : ℕ → ℕ} {f₀ : List ℕ} where
 
 -- ── The operations of a block ──
 
-source-before : (w base : ℕ) (up : Bool) (c : ℕ) → 16 ≤ w → 2 * w ≤ base → c < 16 → source-of w base up c < base
+-- Every source lies before the block.
+pub source-before : (w base : ℕ) (up : Bool) (c : ℕ) → 16 ≤ w → 2 * w ≤ base → c < 16 → source-of w base up c < base
 unfolding source-of
 source-before w base true c wide rows l =
     let h : 1 * w ≤ rows-up c * w = mul-le-mul-right w (omega arith) in omega arith
@@ -82,7 +83,7 @@ module _ (k : Kind ℕ) (w base : ℕ) (up : Bool) (d : ℕ → ℕ) (f₀ : Lis
   abbrev pub predicted : ℕ → ℕ
   predicted c = k .plus (getD f₀ (source-of w base up c) (k .constant 0)) (d c)
 
-  abbrev ops : List ℕ → List V0Op
+  abbrev pub ops : List ℕ → List V0Op
   ops cs = inner-ops w base up cs (map d cs)
 
   ops-outside : (i : ℕ) {cs : List ℕ} → All (λ c. i ≢ base + c) cs → (f : List ℕ)
@@ -124,7 +125,8 @@ module _ (k : Kind ℕ) (w base : ℕ) (up : Bool) (d : ℕ → ℕ) (f₀ : Lis
     ops-inside nil f r = r .written nil
     ops-inside (more {a = b} {xs = bs} h hs) f r = ops-inside hs _ (ready-on b bs f h r)
 
-  ops-replace : Inside w base f₀ → Replaced k base 16 predicted f₀ (apply k (ops order) f₀)
+  -- They replace the cells of the block, and no others.
+  pub ops-replace : Inside w base f₀ → Replaced k base 16 predicted f₀ (apply k (ops order) f₀)
   ops-replace i =
       record {
         same-length = apply-length k (ops order) f₀;

@@ -68,6 +68,25 @@ pub fn put_four(out: &mut [u16], w: usize, base: usize, up: bool, first: usize, 
     put_sum(out, to + 6, from + 3 * step, four[3]);
 }
 
+// Of two samples the one for a column: even columns take the first, odd ones the second.
+pub fn sample_of(c: usize, even: u16, odd: u16) -> u16
+    ensures { λ r. ⌜ r ≡ cond (eqb (c % 2) 0) even odd ⌝ }
+{
+    if c % 2 == 0 { even } else { odd }
+}
+
+// The samples of a block, once all are known.
+pub fn store_samples(out: &mut [u16], base: usize, values: [u16; V0Row::BLOCK])
+    requires { ⌜ (base + 16 ≤ length (now out)) × Low base ⌝ }
+    ensures { λ _. ⌜ Replaced V0.sample-kind base 16 (λ c. getD values c 0) (now (out .entry)) (now (out .exit)) ⌝ }
+{
+    let mut c: usize = 0;
+    while c < V0Row::BLOCK {
+        out[base + c] = values[c];
+        c += 1;
+    }
+}
+
 // Of two marks the one for a column: even columns take the first, odd ones the second.
 fn mark_of(c: usize, even: u8, odd: u8) -> u8
     ensures { λ r. ⌜ r ≡ cond (eqb (c % 2) 0) even odd ⌝ }

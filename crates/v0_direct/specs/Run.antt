@@ -3,14 +3,18 @@ use Prim.Native.Nat.{ℕ, _+_, _-_, _*_, _/_, _%_, _≤_}
 use mathlib.Core.Bool.{Bool, cond, not, _&&_}
 use mathlib.Core.Path.{_≡_}
 use mathlib.Core.List.{List}
-use lib.Dec.{leb, eqb}
-use lib.ListN.{length}
+use lib.Dec.{leb, ltb, eqb}
+use lib.ListN.{length, replicate}
+use Rattle.rules.specs.V0.{apply, order}
+use Rattle.rules.specs.Map.{v0-marks}
 use Rattle.rules.specs.declared.answer.Size.{Size}
 use Rattle.rules.specs.declared.v0.V0Row.{V0Row}
 use Rattle.window.specs.Window.{state-at, standing-in}
 use Rattle.v0_stream.specs.Lengths.{Within}
 use Rattle.v0_windows.specs.ByWindow.{Ahead, short}
 use Rattle.v0_windows.specs.Run.{last-bit, run-length}
+use Rattle.v0_cells.specs.Inner.{inner-ops}
+use Rattle.v0_lanes.specs.Blocks.{predict-lanes}
 use Rattle.v0_direct.specs.Block.{BlockRun}
 use Rattle.v0_direct.specs.declared.run.Point.{Point}
 
@@ -25,6 +29,19 @@ run-begins s z row col st = inner z row col && (eqb (st .bits .filler) 0 && (sho
 -- The column after its last block: the block's own column where no run begins.
 unfoldable pub run-end : List ℕ → Size → ℕ → ℕ → V0Row → ℕ
 run-end s z row col st = col + 16 * cond (run-begins s z row col st) (run-length s (last-bit s (st .bits)) ((z .width - col) / 16) st) 0
+
+-- ── A block that waits ──
+
+-- A run that began at a column `from` has stored the residuals of the block before a column, if it has one there, as their lanes came:
+-- the samples with that block's predictions, and the map with its marks.
+unfoldable pub finished : Size → ℕ → ℕ → ℕ → Bool → List ℕ → List ℕ
+finished z row from col up f = cond (ltb from col) (predict-lanes (z .width) (row * z .width + (col - 16)) up f) f
+
+unfoldable pub finished-marks : Size → ℕ → ℕ → ℕ → Bool → List ℕ → List ℕ
+finished-marks z row from col up m =
+    cond (ltb from col) (apply v0-marks (inner-ops (z .width) (row * z .width + (col - 16)) up order (replicate 16 0)) m) m
+
+-- ── What a run does ──
 
 -- The row's state at a point, where no word was missing.
 abbrev pub row-at : List ℕ → ℕ → Point → V0Row

@@ -12,6 +12,8 @@ use super::row::decode_row;
 use bits::held_sum;
 use rules::Size;
 use v0_cells::exchange::exchange_pairs;
+use v0_lanes::tables::fill_heads;
+use v0_lanes::tables::fill_lanes;
 
 // How many pairs of rows no row from this one on reads.
 pub fn freed_pairs(row: usize) -> usize
@@ -34,10 +36,14 @@ fn decode_freeing(
     ensures { λ _. ⌜ now (out .exit) ≡ rows-freed V0.sample-kind (now (src .entry)) (now (offsets .entry)) size count (now (out .entry)) ⌝ }
     ensures { λ _. ⌜ now (map .exit) ≡ rows-freed v0-marks (now (src .entry)) (now (offsets .entry)) size count (now (map .entry)) ⌝ }
 {
+    let mut lanes = [0u64; 96];
+    fill_lanes(&mut lanes);
+    let mut heads = [0u32; 1024];
+    fill_heads(&mut heads);
     let mut filler: u64 = 0;
     let mut row: usize = 0;
     while row < count {
-        let missing = decode_row(src, size, row, offsets[row], out, map);
+        let missing = decode_row(src, size, row, offsets[row], out, map, &lanes, &heads);
         filler = held_sum(filler, missing);
         exchange_pairs(out, map, size, freed_pairs(row), freed_pairs(row + 1));
         row += 1;

@@ -9,6 +9,7 @@ ghost use Rattle.rules.specs.Map.{with-filler, v0-marks};
 ghost use Rattle.v0_windows.specs.ByWindow.{Ahead, Ends, residuals-of};
 ghost use Rattle.v0_cells.specs.Inner.{inner-ops};
 ghost use Rattle.v0_cells.specs.Places.{InFrame, Inner};
+ghost use Rattle.v0_lanes.specs.Blocks.{Tables};
 ghost use Rattle.v0_direct.specs.Lent.{InRow, BlockLent, RunLent};
 ghost use Rattle.v0_direct.specs.Block.{Decoded, BlockRun};
 ghost use Rattle.v0_direct.specs.Run.{inner};
@@ -152,13 +153,22 @@ fn end_block(map: &mut [u8], place: usize, bits: Bits)
 }
 
 // A run of blocks from a column on, and the block after it, if the row has one more.
-fn decode_blocks(src: &[u8], at: Place, state: V0Row, out: &mut [u16], map: &mut [u8]) -> Run
+fn decode_blocks(
+    src: &[u8],
+    at: Place,
+    state: V0Row,
+    out: &mut [u16],
+    map: &mut [u8],
+    lanes: &[u64; 96],
+    heads: &[u32; 1024],
+) -> Run
     requires { ⌜ InFrame (at .size) (at .row) (at .col) × RunLent (at .size) (at .col) (state .lengths) (now out) (now map) ⌝ }
+    requires { ⌜ Tables (now lanes) (now heads) ⌝ }
     ensures { λ r. ⌜ (at .col < r .col) × BlockRun (now (src .entry)) (at .size) (at .row) (at .col) state (now (out .entry)) (now (map .entry)) (r .col) (r .state) (now (out .exit)) (now (map .exit)) ⌝ }
 {
     let size = at.size;
     let row = at.row;
-    let run = decode_run(src, at, state, out, map);
+    let run = decode_run(src, at, state, out, map, lanes, heads);
     let col = run.col;
     let before = run.state;
     let w = size.width;
@@ -182,8 +192,11 @@ pub fn decode_row(
     offset: u32,
     out: &mut [u16],
     map: &mut [u8],
+    lanes: &[u64; 96],
+    heads: &[u32; 1024],
 ) -> u64
     requires { ⌜ InRow size row (now out) (now map) ⌝ }
+    requires { ⌜ Tables (now lanes) (now heads) ⌝ }
     ensures { λ r. ⌜ r ≡ V0.row-blocks (now (src .entry)) size row offset .bits .filler ⌝ }
     ensures { λ _. ⌜ now (out .exit) ≡ V0.write-all V0.sample-kind (V0.row-blocks (now (src .entry)) size row offset .blocks) (now (out .entry)) ⌝ }
     ensures { λ _. ⌜ now (map .exit) ≡ V0.write-all v0-marks (V0.row-blocks (now (src .entry)) size row offset .blocks) (now (map .entry)) ⌝ }
@@ -192,7 +205,7 @@ pub fn decode_row(
     let mut state = V0Row::fresh(row, offset);
     let mut col: usize = 0;
     while col < w {
-        let blocks = decode_blocks(src, Place { size, row, col }, state, out, map);
+        let blocks = decode_blocks(src, Place { size, row, col }, state, out, map, lanes, heads);
         state = blocks.state;
         col = blocks.col;
     }

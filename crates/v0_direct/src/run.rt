@@ -10,30 +10,32 @@
 // for it.
 ghost use mathlib.Core.Bool.{true};
 ghost use mathlib.Core.Path.{_≡_};
-ghost use Prim.Native.Nat.{_+_, _-_, _*_, _/_};
+ghost use Prim.Native.Nat.{_+_, _-_, _*_, _/_, _<_};
 ghost use lib.ListN.{length};
-ghost use Rattle.rules.specs.V0 as V0;
 ghost use Rattle.rules.specs.Frame.{cells};
 ghost use Rattle.window.specs.Window.{Standing};
-ghost use Rattle.v0_windows.specs.ByWindow.{Ahead, last-start, Short, Ends, residuals-of};
+ghost use Rattle.v0_windows.specs.ByWindow.{Ahead, last-start, short};
 ghost use Rattle.v0_windows.specs.Run.{run-length};
-ghost use Rattle.v0_cells.specs.Inner.{inner-ops};
-ghost use Rattle.v0_cells.specs.Places.{InFrame, Inner};
+ghost use Rattle.v0_cells.specs.Places.{InFrame, Inner, Whole};
+ghost use Rattle.v0_lanes.specs.Blocks.{Tables};
 ghost use Rattle.v0_direct.specs.Lent.{RunLent};
 ghost use Rattle.v0_direct.specs.Block.{Ran};
-ghost use Rattle.v0_direct.specs.Run.{run-begins, run-end, row-at, RanAt};
+ghost use Rattle.v0_direct.specs.Run.{run-begins, run-end, row-at, RanAt, finished, finished-marks};
 use super::Place;
 use super::row::is_inner;
 use rules::V0Row;
 use v0_cells::inner::mark_block;
-use v0_cells::inner::put_four;
+use v0_lanes::blocks::head_at;
+use v0_lanes::blocks::store_block;
+use v0_lanes::lengths::all_fit;
+use v0_lanes::lengths::ends_of;
+use v0_lanes::lengths::lengths_after;
+use v0_lanes::lengths::packed;
+use v0_lanes::lengths::unpacked;
+use v0_lanes::predictions::predict;
 use v0_windows::BLOCK_BYTES;
-use v0_windows::WindowHead;
 use v0_windows::are_short;
-use v0_windows::four_at;
 use v0_windows::last_start;
-use v0_windows::plan_of;
-use v0_windows::window_head;
 use window::BACK_BITS;
 use window::BACK_BYTES;
 use window::stands_within;
@@ -52,29 +54,25 @@ pub struct Point {
     pub lengths: [i32; 4],
 }
 
-// The residuals after a head by position, all of them short: the bit after them.
-fn put_short(src: &[u8], base: usize, head: WindowHead, at: Place, out: &mut [u16]) -> usize
-    requires { ⌜ Short (head .lengths) × (Ahead (now src) base (head .q) 583 × (Inner (at .size) (at .row) (at .col) × (length (now out) ≡ cells (at .size)))) ⌝ }
-    ensures { λ r. ⌜ Ends (now (src .entry)) base head r ⌝ }
-    ensures { λ _. ⌜ now (out .exit) ≡ V0.apply V0.sample-kind (inner-ops (at .size .width) (at .row * at .size .width + at .col) (head .up) V0.order (residuals-of (now (src .entry)) base head)) (now (out .entry)) ⌝ }
+// What the block before a column waits for, where the run has one there: its predictions, and its marks.
+fn finish(out: &mut [u16], map: &mut [u8], at: Place, from: usize, up: bool)
+    requires { ⌜ (from < at .col → Inner (at .size) (at .row) (at .col - 16)) × ((length (now out) ≡ cells (at .size)) × Whole (at .size) (now map)) ⌝ }
+    ensures { λ _. ⌜ now (out .exit) ≡ finished (at .size) (at .row) from (at .col) up (now (out .entry)) ⌝ }
+    ensures { λ _. ⌜ now (map .exit) ≡ finished-marks (at .size) (at .row) from (at .col) up (now (map .entry)) ⌝ }
 {
+    if at.col <= from {
+        return;
+    }
     let size = at.size;
-    let plan = plan_of(head);
     let w = size.width;
-    let first = at.row * w + at.col;
-    let a = four_at(src, base, head.q, plan.n0);
-    put_four(out, w, first, head.up, 0, a);
-    let b = four_at(src, base, plan.q1, plan.n1);
-    put_four(out, w, first, head.up, 8, b);
-    let c = four_at(src, base, plan.q2, plan.n2);
-    put_four(out, w, first, head.up, 1, c);
-    let d = four_at(src, base, plan.q3, plan.n3);
-    put_four(out, w, first, head.up, 9, d);
-    plan.end
+    let col = at.col - V0Row::BLOCK;
+    predict(out, w, at.row * w + col, up);
+    mark_block(map, size, at.row, col, up);
 }
 
 // Blocks from an inner one on, where no word was missing, and the point after them: the next is not short, does not lie within the row
-// or has too little room.
+// or has too little room. A block's head is read before the residuals of the one before it, and its predictions wait until the next
+// one's residuals are stored: so neither the next place in the stream nor what was just stored is waited for.
 fn short_blocks(
     src: &[u8],
     base: usize,
@@ -82,30 +80,46 @@ fn short_blocks(
     start: Point,
     out: &mut [u16],
     map: &mut [u8],
+    lanes: &[u64; 96],
+    heads: &[u32; 1024],
 ) -> Point
     requires { ⌜ Inner (at .size) (at .row) (start .col) × (Ahead (now src) base (start .q) 608 × RunLent (at .size) (start .col) (start .lengths) (now out) (now map)) ⌝ }
+    requires { ⌜ (short (start .lengths) ≡ true) × Tables (now lanes) (now heads) ⌝ }
     ensures { λ r. ⌜ RanAt (now (src .entry)) base (at .size) (at .row) start (now (out .entry)) (now (map .entry)) r (now (out .exit)) (now (map .exit)) ⌝ }
     ensures { λ r. ⌜ r .col ≡ start .col + 16 * run-length (now (src .entry)) (base * 8 + last-start (length (now (src .entry)) - base)) ((at .size .width - start .col) / 16) (row-at (now (src .entry)) base start) ⌝ }
 {
     let size = at.size;
     let row = at.row;
+    let first = start.col;
     let last = last_start(src.len() - base);
     let w = size.width;
+    let before = start.lengths;
     let mut q = start.q;
-    let mut lengths = start.lengths;
-    let mut col = start.col;
+    let mut lengths = packed(before);
+    let mut col = first;
+    let mut up = false;
+    let mut head = head_at(src, base, q, lengths, heads);
     while col + V0Row::BLOCK <= w && q <= last {
-        let head = window_head(src, base, q, lengths);
-        let after = head.lengths;
-        if !are_short(after) {
+        if !all_fit(head.sums) {
             break;
         }
-        q = put_short(src, base, head, Place { size, row, col }, out);
-        mark_block(map, size, row, col, head.up);
-        lengths = after;
+        let from = q + head.size;
+        let next = head.up;
+        lengths = lengths_after(head.sums);
+        let ends = ends_of(from, lengths);
+        q = ends.fourth;
+        head = head_at(src, base, q, lengths, heads);
+        store_block(src, base, from, lengths, out, row * w + col, lanes);
+        finish(out, map, Place { size, row, col }, first, up);
+        up = next;
         col += V0Row::BLOCK;
     }
-    Point { col, q, lengths }
+    finish(out, map, Place { size, row, col }, first, up);
+    Point {
+        col,
+        q,
+        lengths: unpacked(lengths),
+    }
 }
 
 // Whether a run begins at a block: at an inner one, after short lengths, where the record stands in the stream and no word was missing.
@@ -129,8 +143,17 @@ fn begins(src: &[u8], at: Place, state: V0Row) -> bool
 }
 
 // The run from a block on, of which there may be none. The record is made again after its last block.
-pub fn decode_run(src: &[u8], at: Place, state: V0Row, out: &mut [u16], map: &mut [u8]) -> Run
+pub fn decode_run(
+    src: &[u8],
+    at: Place,
+    state: V0Row,
+    out: &mut [u16],
+    map: &mut [u8],
+    lanes: &[u64; 96],
+    heads: &[u32; 1024],
+) -> Run
     requires { ⌜ InFrame (at .size) (at .row) (at .col) × RunLent (at .size) (at .col) (state .lengths) (now out) (now map) ⌝ }
+    requires { ⌜ Tables (now lanes) (now heads) ⌝ }
     ensures { λ r. ⌜ Ran (now (src .entry)) (at .size) (at .row) (at .col) state (now (out .entry)) (now (map .entry)) (r .col) (r .state) (now (out .exit)) (now (map .exit)) ⌝ }
     ensures { λ r. ⌜ r .col ≡ run-end (now (src .entry)) (at .size) (at .row) (at .col) state ⌝ }
 {
@@ -145,7 +168,7 @@ pub fn decode_run(src: &[u8], at: Place, state: V0Row, out: &mut [u16], map: &mu
         q: BACK_BITS - bits.count as usize,
         lengths,
     };
-    let end = short_blocks(src, base, at, start, out, map);
+    let end = short_blocks(src, base, at, start, out, map, lanes, heads);
     let after = end.lengths;
     let next = V0Row {
         lengths: after,

@@ -1,19 +1,19 @@
 // Phase two: the prediction of each sample from row 2 on, added to the residual that phase one left in its place.
 ghost use mathlib.Core.Path.{_≡_};
-ghost use mathlib.Core.Bool.{true, false, cond};
+ghost use mathlib.Core.Bool.{true, false};
 ghost use mathlib.Core.List.{[], _∷_};
 ghost use Prim.Native.Nat.{_+_, _-_, _*_, _%_, _≤_, _<_};
-ghost use lib.Dec.{eqb};
-ghost use lib.ListN.{length, getD, take, drop};
-ghost use Rattle.rules.specs.V0.{order, blocks-in, sample-kind};
+ghost use lib.ListN.{length, take, drop};
+ghost use Rattle.rules.specs.V0.{order, blocks-in};
 ghost use Rattle.rules.specs.Phases.{late-predictor, predict-samples, predict-blocks, sample-stage};
 ghost use Rattle.v0_cells.specs.Places.{Inside, Low};
-ghost use Rattle.v0_cells.specs.Inner.{Replaced};
 ghost use Rattle.v0_predictions.specs.Inner.{predict-inner};
 ghost use Rattle.v0_predictions.specs.Lent.{LateSample, LateRow};
 use rules::Predictor;
 use rules::V0Row;
 use v0_cells::cells::put;
+use v0_cells::inner::sample_of;
+use v0_cells::inner::store_samples;
 use v0_stream::order::stream_column;
 
 // How many rows up sample c looks.
@@ -62,25 +62,6 @@ fn add_edge(out: &mut [u16], w: usize, row: usize, col: usize, up: bool)
         let c = stream_column(k);
         add_sample(out, w, row, col, up, c);
         k += 1;
-    }
-}
-
-// Of two samples the one for a column: even columns take the first, odd ones the second.
-fn sample_of(c: usize, even: u16, odd: u16) -> u16
-    ensures { λ r. ⌜ r ≡ cond (eqb (c % 2) 0) even odd ⌝ }
-{
-    if c % 2 == 0 { even } else { odd }
-}
-
-// The samples of a block, once all are known.
-fn store_samples(out: &mut [u16], base: usize, values: [u16; V0Row::BLOCK])
-    requires { ⌜ (base + 16 ≤ length (now out)) × Low base ⌝ }
-    ensures { λ _. ⌜ Replaced sample-kind base 16 (λ c. getD values c 0) (now (out .entry)) (now (out .exit)) ⌝ }
-{
-    let mut c: usize = 0;
-    while c < V0Row::BLOCK {
-        out[base + c] = values[c];
-        c += 1;
     }
 }
 

@@ -87,9 +87,9 @@ counted l n fits e = rw (toZ-ofZ w32 l (record { sfits = fits })) at e
 
 -- ── Short ones ──
 
-short-bits : (l : ℤ) → leZ l (pos 16) ≡ true → length-bits l ≤ 16
+short-bits : (l : ℤ) → leZ l (pos 15) ≡ true → length-bits l ≤ 16
 unfolding length-bits
-short-bits (pos n) e = let few : n ≤ 16 = leb-true n 16 e in omega arith
+short-bits (pos n) e = let few : n ≤ 15 = leb-true n 15 e in omega arith
 short-bits (negsuc n) e = omega arith
 
 -- What the two tests of a length decide.
@@ -97,7 +97,7 @@ pub short-below : (l : ℤ) → leZ (pos 0) l ≡ false → false ≡ short-leng
 unfolding short-length
 short-below l e = rw e
 
-pub short-from-0 : (l : ℤ) → leZ (pos 0) l ≡ true → leZ l (pos 16) ≡ short-length l
+pub short-from-0 : (l : ℤ) → leZ (pos 0) l ≡ true → leZ l (pos 15) ≡ short-length l
 unfolding short-length
 short-from-0 l e = rw e
 
@@ -132,8 +132,8 @@ short-is ls e =
     let c = both (short-length (getD ls 2 (pos 0))) (short-length (getD ls 3 (pos 0))) (b .1) in
     record { first = few _ (a .0); second = few _ (b .0); third = few _ (c .0); fourth = few _ (c .1) }
   where
-    few : (l : ℤ) → leZ (pos 0) l && leZ l (pos 16) ≡ true → length-bits l ≤ 16
-    few l t = short-bits l (both (leZ (pos 0) l) (leZ l (pos 16)) t .1)
+    few : (l : ℤ) → leZ (pos 0) l && leZ l (pos 15) ≡ true → length-bits l ≤ 16
+    few l t = short-bits l (both (leZ (pos 0) l) (leZ l (pos 15)) t .1)
 
 -- ── Room ──
 

@@ -82,9 +82,9 @@ pub record Short (ls : List ℤ) : Type 0 where
   pub third : length-bits (getD ls 2 (pos 0)) ≤ 16
   pub fourth : length-bits (getD ls 3 (pos 0)) ≤ 16
 
--- Whether a length is the number of its residuals' bits, and they are at most 16; and whether each of four is.
+-- Whether a length is the number of its residuals' bits, and they are at most 15; and whether each of four is.
 unfoldable pub short-length : ℤ → Bool
-short-length l = leZ (pos 0) l && leZ l (pos 16)
+short-length l = leZ (pos 0) l && leZ l (pos 15)
 
 unfoldable pub short : List ℤ → Bool
 short ls =

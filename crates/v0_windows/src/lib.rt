@@ -12,7 +12,6 @@ use fields::field;
 use fields::power;
 use v0_stream::block::residual_length;
 use v0_stream::head::step;
-use window::SHORT_BITS;
 use window::window;
 
 // The bytes that have to be there from the word fetched last on: a block ends at most 569 bits after that word's start, in the
@@ -122,8 +121,8 @@ pub fn plan_of(head: WindowHead) -> Plan
     }
 }
 
-// The most bits of a short residual, as a length.
-const SHORT: i32 = SHORT_BITS as i32;
+// The longest of short lengths: four bits hold each, and with one more bit what an operation makes of it.
+const SHORT: i32 = 15;
 
 // Whether a length is the number of its residuals' bits, and four of them lie in one window; where it isn't, another way reads them.
 fn is_short(length: i32) -> bool

@@ -9,10 +9,10 @@ use Rattle.v0_direct.proofs.row.decode_row.Statement.{statement}
 use Rattle.v0_direct.proofs.row.decode_row.Tie as tie
 
 abbrev Inv-loop : tie.InvT-loop
-Inv-loop src size row offset out₀ map₀ w state₀ col₀ out map state col = Rowing src size row offset out₀ out map₀ map state col
+Inv-loop src size row offset out₀ map₀ lanes heads w state₀ col₀ out map state col = Rowing src size row offset out₀ out map₀ map state col
 
 abbrev μ-loop : tie.MeasureT-loop
-μ-loop src size row offset out₀ map₀ w state₀ col₀ out map state col = size .width + 16 - col
+μ-loop src size row offset out₀ map₀ lanes heads w state₀ col₀ out map state col = size .width + 16 - col
 
 -- Places that the answers look back at.
 abbrev at-start : tie.At-loop Inv-loop μ-loop → tie.Start Inv-loop μ-loop
@@ -30,7 +30,7 @@ loop-holds c = rowing-begun _ (c .before .before .before .before .args .size) _ 
 decode-blocks-requires : tie.Need-decode-blocks-requires Inv-loop μ-loop
 decode-blocks-requires c κs =
     let p = c .before .before .before in let a = at-start p in let l = p .loop in
-    row-block (a .args .src .now) (a .args .size) (a .args .row) (a .args .offset) (a .args .out .now) (a .args .map .now) (l .out) (l .map) (l .state) (l .col) (omega arith) (a .pre) (l .inv)
+    (row-block (a .args .src .now) (a .args .size) (a .args .row) (a .args .offset) (a .args .out .now) (a .args .map .now) (l .out) (l .map) (l .state) (l .col) (omega arith) (a .pre .0) (l .inv), a .pre .1)
 
 loop-less : tie.Need-loop-less Inv-loop μ-loop
 loop-less c = let on = decoded (c .before) .decode-blocks .ensures .0 in omega arith

@@ -9,7 +9,7 @@ use Rattle.window.specs.Window.{Standing}
 use Rattle.v0_windows.proofs.GroupLaws.{standing-ahead}
 use Rattle.v0_direct.specs.Run.{run-begins}
 use Rattle.v0_direct.proofs.RowLaws.{none-ran}
-use Rattle.v0_direct.proofs.RunLaws.{begins-is, begun, run-done, run-ended, run-none}
+use Rattle.v0_direct.proofs.RunLaws.{begins-is, begins-short, begun, run-done, run-ended, run-none}
 use Rattle.v0_direct.proofs.run.decode_run.Statement.{statement}
 use Rattle.v0_direct.proofs.run.decode_run.Tie as tie
 
@@ -33,21 +33,21 @@ begins-requires c κs = search needs
 returns : tie.Need-returns
 returns c =
     let b = c .before in let a = start b in
-    (none-ran (now (a .args .src)) (a .pre .0) (a .pre .1), run-none _ _ _ _ _ (sym (b .begins .ensures .0) ∙ not-true _ (c .if1 .taken)))
+    (none-ran (now (a .args .src)) (a .pre .0 .0) (a .pre .0 .1), run-none _ _ _ _ _ (sym (b .begins .ensures .0) ∙ not-true _ (c .if1 .taken)))
 
 sub-base : tie.Need-sub-base
 sub-base c = stood (c .before .before) .fetched
 
-cast-t15 : tie.Need-cast-t15
-cast-t15 c = search needs
+cast-t17 : tie.Need-cast-t17
+cast-t17 c = search needs
 
-sub-t16 : tie.Need-sub-t16
-sub-t16 c = let few = stood (c .before .before .before) .few in omega arith
+sub-t18 : tie.Need-sub-t18
+sub-t18 c = let few = stood (c .before .before .before) .few in omega arith
 
 short-blocks-requires : tie.Need-short-blocks-requires
 short-blocks-requires c κs =
     let e = c .before .before .before .before .before in let a = start (e .before) in
-    (begins-is _ _ _ _ _ (a .pre .0) (does e) .0, (standing-ahead (stood e), a .pre .1))
+    ((begins-is _ _ _ _ _ (a .pre .0 .0) (does e) .0, (standing-ahead (stood e), a .pre .0 .1)), (begins-short _ _ _ _ _ (does e), a .pre .1))
 
 state-at-requires : tie.Need-state-at-requires
 state-at-requires c κs = search needs
@@ -61,7 +61,7 @@ same-length-2 c = search needs
 returns-2 : tie.Need-returns-2
 returns-2 c =
     let r = c .before .before .before .before .before .before in let e = ran r in let a = start (e .before) in
-    let at = begun (a .args .at .col) (stood e) (begins-is _ _ _ _ _ (a .pre .0) (does e) .1) in
+    let at = begun (a .args .at .col) (stood e) (begins-is _ _ _ _ _ (a .pre .0 .0) (does e) .1) in
     (run-done at (c .state-at .ensures) (r .short-blocks .ensures .0), r .short-blocks .ensures .1 ∙ run-ended _ _ _ _ _ (does e) _ refl at)
 
 pub decode-run-spec : {M : Type 1} → statement M
@@ -71,8 +71,8 @@ decode-run-spec =
     begins-requires
     returns
     sub-base
-    cast-t15
-    sub-t16
+    cast-t17
+    sub-t18
     short-blocks-requires
     state-at-requires
     same-length

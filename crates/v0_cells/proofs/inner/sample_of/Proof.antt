@@ -1,7 +1,7 @@
 -- The two ways of the test.
 use borrow.Author.Tests.{ne-eqb}
-use Rattle.v0_predictions.proofs.sample_of.Statement.{statement}
-use Rattle.v0_predictions.proofs.sample_of.Tie as tie
+use Rattle.v0_cells.proofs.inner.sample_of.Statement.{statement}
+use Rattle.v0_cells.proofs.inner.sample_of.Tie as tie
 
 returns : tie.Need-returns
 returns c = rw (c .if1 .taken)

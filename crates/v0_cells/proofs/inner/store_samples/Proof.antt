@@ -5,9 +5,9 @@ use native.Mathlib.Omega.{arith}
 use lib.ListN.{getD}
 use borrow.Author.Needs.{needs}
 use Rattle.rules.specs.V0.{sample-kind}
 use Rattle.v0_cells.proofs.StagedLaws.{Storing, storing-begun, storing-on, storing-done}
-use Rattle.v0_predictions.proofs.store_samples.Statement.{statement}
-use Rattle.v0_predictions.proofs.store_samples.Tie as tie
+use Rattle.v0_cells.proofs.inner.store_samples.Statement.{statement}
+use Rattle.v0_cells.proofs.inner.store_samples.Tie as tie
 
 abbrev Inv-loop : tie.InvT-loop
 Inv-loop out₀ base values c₀ out c = Storing sample-kind base (λ i. getD values i 0) out₀ out c

@@ -1,0 +1,6 @@
+pub mod BlockLaws
+pub mod HeadLaws
+pub mod LaneLaws
+pub mod LengthLaws
+pub mod StoredLaws
+pub mod TableLaws

@@ -1,0 +1,4 @@
+pub mod Blocks
+pub mod Lanes
+pub mod Lengths
+pub mod Tables
