@@ -1,4 +1,4 @@
-.PHONY: tool install-tool install-libraries run test archive container install dist wheel bench-python refuse mutate compare compare-long bench memcheck fuzz fuzz-srw frames picture sheet bench-tool soak fmt fuzz-container hour
+.PHONY: tool install-tool install-libraries run test archive container install dist wheel bench-python queue-faults load refuse mutate compare compare-long bench memcheck fuzz fuzz-srw frames picture sheet bench-tool soak fmt fuzz-container hour
 
 archive = target/staticlib/librazvolk.a
 shared = target/staticlib/librazvolk.so.0
@@ -82,6 +82,15 @@ wheel: $(shared) $(container)
 # The wheel in a fresh environment: what a call takes beside C's own, and two threads beside one.
 bench-python: wheel
 	PYTHON=$(PYTHON) python/bench/run $(made)/bench-python target/wheel/razvolk-*.whl
+
+# The queue under faults with a broker of its own (docs/QUEUE.md): 3,000 jobs, a cluster of three, and wrong workers that must be
+# found. Some thirteen minutes, and root, or a system that lets users have namespaces.
+queue-faults: wheel
+	PYTHON=$(PYTHON) tests/queue $(made)/queue-faults long cluster controls
+
+# The queue under load: frames a second and latency by 1 and 2 workers, and a simulation that is held to them (docs/SCALE.md).
+load: wheel
+	PYTHON=$(PYTHON) python/load/run $(made)/load
 
 # Every wrong edit that the proofs must refuse, also those of crates/*/must-fail/more, which cost too much for the gate
 # (docs/TESTING.md, "Wrong edits").

@@ -60,7 +60,7 @@ def say(text: str) -> None:
     print(f"{time.monotonic() - _began:6.1f} s  {text}", flush=True)
 
 
-def one(name: str, plan: Plan, folder: Path) -> "collections.Counter[str]":
+def one(name: str, plan: Plan, folder: Path) -> collections.Counter[str]:
     """A run and its faults. The folder is removed with it."""
     shutil.rmtree(folder, ignore_errors=True)
     out = folder / "out"
@@ -83,7 +83,7 @@ def one(name: str, plan: Plan, folder: Path) -> "collections.Counter[str]":
     return faults
 
 
-def tell(run: Run, faults: "collections.Counter[str]") -> None:
+def tell(run: Run, faults: collections.Counter[str]) -> None:
     seen = run.seen
     say(", ".join(f"{count} {name}" for name, count in sorted(seen.counts.items())))
     took = sorted(seen.took) or [0.0]
@@ -100,11 +100,10 @@ def tell(run: Run, faults: "collections.Counter[str]") -> None:
 
 
 def main() -> int:
-    folder, *names = sys.argv[1:]
+    folder, *words = sys.argv[1:]
     signal.signal(signal.SIGTERM, lambda *_: sys.exit(1))
     wrong = 0
-    if names == ["controls"]:
-        names = list(CONTROLS)
+    names = [name for word in words for name in (CONTROLS if word == "controls" else [word])]
     for name in names:
         control = name in CONTROL_PLANS
         plan = replace(CONTROL_PLANS[name], control=name) if control else PLANS[name]
@@ -118,6 +117,7 @@ def main() -> int:
             f"{name}: {'passed' if good else 'FAILED'}"
             + (f", found: {found[0]}" if control and found else "")
         )
+    say(f"{len(names) - wrong} runs passed, {wrong} failed")
     return int(wrong > 0)
 
 

@@ -16,7 +16,7 @@ from razvolk.queue._store import Store
 from razvolk.queue._worker import Worker
 from run import JUNK, Run
 
-Faults = "collections.Counter[str]"
+Faults = collections.Counter[str]
 
 
 def judge(run: Run) -> Faults:

@@ -67,7 +67,7 @@ class Seen:
     ends: dict[str, bytes] = field(default_factory=dict)
     again: int = 0
     other_end: list[str] = field(default_factory=list)
-    counts: "collections.Counter[str]" = field(default_factory=collections.Counter)
+    counts: collections.Counter[str] = field(default_factory=collections.Counter)
     memory: dict[int, list[int]] = field(default_factory=dict)
     sent_at: dict[str, float] = field(default_factory=dict)
     took: list[float] = field(default_factory=list)
@@ -115,7 +115,7 @@ def jobs_of(
 class Slot:
     """A supervisor's part: a worker is started again when it is gone."""
 
-    def __init__(self, run: "Run", number: int) -> None:
+    def __init__(self, run: Run, number: int) -> None:
         self._run, self._number = run, number
         self.starts = 0
         self.start()
@@ -164,7 +164,7 @@ class Run:
 
     def spawn(
         self, command: list[Any], log: str, stdin: Any = subprocess.DEVNULL, stdout: Any = None
-    ) -> "subprocess.Popen[bytes]":
+    ) -> subprocess.Popen[bytes]:
         """Starts a process that ends with this one."""
         with open(self.folder / log, "ab") as output:
             process = subprocess.Popen(
@@ -209,7 +209,7 @@ class Run:
             broker.channel().queue_declare(JOBS, durable=True, arguments=classic)
         _broker.declare(broker)
 
-    def _start_submitter(self) -> "subprocess.Popen[bytes]":
+    def _start_submitter(self) -> subprocess.Popen[bytes]:
         words = ["submit", "--jobs", "--patience", "300"]
         process = self.spawn(
             [*COMMAND, *words], "submit.log", stdin=subprocess.PIPE, stdout=subprocess.PIPE

@@ -15,6 +15,7 @@ from collections.abc import Iterable, Iterator
 from pathlib import Path
 from typing import Any, Callable
 
+from razvolk import _calls
 from razvolk.queue import _broker, _command, _look, _store, _worker
 from razvolk.queue._job import Job
 
@@ -91,9 +92,11 @@ def before(owner: Any, name: str, do: Callable[..., Any]) -> None:
 def with_hooks() -> None:
     """Puts the steps into the worker."""
     before(_worker.Worker, "_done", lambda _, job: begin(job))
-    _store.os = DyingSystem()  # type: ignore[assignment]
-    staged, publish, job = _store.Store._staged, _worker.publish, _worker.Worker.job
-    _store.Store._staged = lambda self, name, parts: staged(self, name, halved(parts))  # type: ignore
+    setattr(_store, "os", DyingSystem())
+    staged, publish, job = _store.Store._staged, _broker.publish, _worker.Worker.job
+
+    def in_pieces(self: _store.Store, name: str, parts: Iterable[_store.Part]) -> Any:
+        return staged(self, name, halved(parts))
 
     def published(channel: Any, queue: str, body: bytes) -> None:
         publish(channel, queue, body)
@@ -104,8 +107,9 @@ def with_hooks() -> None:
         job(*words)
         step("acked")
 
-    _worker.publish = published  # type: ignore[attr-defined]
-    _worker.Worker.job = done  # type: ignore[method-assign, assignment]
+    setattr(_store.Store, "_staged", in_pieces)
+    setattr(_worker, "publish", published)
+    setattr(_worker.Worker, "job", done)
 
 
 def acknowledges_first() -> None:
@@ -125,7 +129,7 @@ def acknowledges_first() -> None:
         channel.basic_ack(how.delivery_tag)
         job(self, Acknowledged(channel), how, properties, body)
 
-    _worker.Worker.job = first  # type: ignore[method-assign]
+    setattr(_worker.Worker, "job", first)
 
 
 def nacks_for_later() -> None:
@@ -133,7 +137,7 @@ def nacks_for_later() -> None:
         channel.basic_nack(how.delivery_tag)
         time.sleep(_worker.PAUSE_S)
 
-    _worker.Worker._put_off = put_off  # type: ignore[method-assign]
+    setattr(_worker.Worker, "_put_off", put_off)
 
 
 def takes_ten() -> None:
@@ -147,19 +151,18 @@ def writes_in_place() -> None:
                 file.write(part)
                 time.sleep(0.002)
 
-    _store.Store.put = put  # type: ignore[method-assign]
+    setattr(_store.Store, "put", put)
 
 
 def blanks_nothing() -> None:
     class Calls:
         def __getattr__(self, name: str) -> Any:
-            return getattr(calls, name)
+            return getattr(_calls, name)
 
         def blank(self, *_: object) -> None:
             pass
 
-    calls = _look._calls
-    _look._calls = Calls()  # type: ignore[assignment]
+    setattr(_look, "_calls", Calls())
 
 
 CONTROLS: dict[str, Callable[[], None]] = {
