@@ -89,8 +89,10 @@ queue-faults: wheel
 	PYTHON=$(PYTHON) tests/queue $(made)/queue-faults long cluster controls
 
 # The queue under load: frames a second and latency by 1 and 2 workers, and a simulation that is held to them (docs/SCALE.md).
+# LOAD is a folder on the disk that is measured with it.
+LOAD = $(made)/load
 load: wheel
-	PYTHON=$(PYTHON) python/load/run $(made)/load
+	PYTHON=$(PYTHON) python/load/run $(LOAD)
 
 # Every wrong edit that the proofs must refuse, also those of crates/*/must-fail/more, which cost too much for the gate
 # (docs/TESTING.md, "Wrong edits").

@@ -12,7 +12,7 @@ import socket
 import subprocess
 import time
 from pathlib import Path
-from typing import Any, Optional
+from typing import Optional
 
 import pika
 from pika.exceptions import AMQPError
@@ -158,19 +158,10 @@ class Node:
         run = subprocess.run(command, env=self._environment, capture_output=True, text=True)
         return run.stdout
 
-    def memory(self) -> int:
-        """The bytes of memory that the node's processes take."""
+    @property
+    def pid(self) -> int:
         assert self._process is not None
-        import psutil
-
-        total = 0
-        try:
-            root: Any = psutil.Process(self._process.pid)
-            for process in [root, *root.children(recursive=True)]:
-                total += process.memory_info().rss
-        except psutil.Error:
-            pass
-        return total
+        return self._process.pid
 
 
 class Brokers:

@@ -1,4 +1,4 @@
-"""faults FOLDER short|long|cluster|controls|CONTROL...: runs the queue under faults, and prints what was wrong.
+"""faults.py FOLDER short|long|cluster|controls|CONTROL...: runs the queue under faults, and prints what was wrong.
 
 The exit status is 0 if nothing was wrong, or for controls if the harness found each of them; else 1.
 """
