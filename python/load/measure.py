@@ -156,9 +156,9 @@ class Bench:
             before = self._cpu(workers)
             ends.wait(size.saturated - tenth)
             after = self._cpu(workers)
+            ends.wait(size.saturated)
         finally:
             _stop(workers)
-        ends.wait(size.saturated)
         times = sorted(ends.stop().values())[tenth : size.saturated - tenth]
         used = [(b - a) / len(times) for a, b in zip(before, after)]
         gaps = [b - a for a, b in zip(times, times[1:])]
