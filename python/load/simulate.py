@@ -6,6 +6,7 @@ measured there; `site` is a site of any size.
 
 from __future__ import annotations
 
+import math
 import random
 from collections.abc import Generator
 from dataclasses import dataclass
@@ -27,13 +28,12 @@ WORKER_LIFE_S = 24 * 3_600.0
 WORKER_START_S = 1.5
 REDELIVERY_S = 0.01
 HOST_CORES = 8
-HOST_AWAY_S = 300.0
+HOST_AWAY_S = 120.0
 HEARTBEAT_S = 120.0
 """After so long the jobs of a host that is gone are delivered again: twice the heartbeat."""
 ELECTION_S = 2.0
 """How long a queue waits for a new leader when a node of three is gone."""
 BUSIEST_HOUR = max(DAY.values()) / 100
-SIMULATED_S = 1_200.0
 
 
 def machine(
@@ -90,24 +90,28 @@ class Site:
         """Frames a second in the busiest hour."""
         return self.frames_a_day * BUSIEST_HOUR / 3_600
 
+    @property
+    def length(self) -> float:
+        """How many seconds are simulated: 10 minutes, and 20,000 frames at least."""
+        return max(600.0, 20_000 / self.rate)
+
 
 def site(plan: Site) -> list[float]:
     """Latencies while workers die now and then, one host of workers is gone for a while, and a node of the broker, too."""
     env, rnd = simpy.Environment(), random.Random(plan.seed)
-    free = simpy.PriorityResource(env, plan.workers)
+    free, drowned = simpy.Resource(env, plan.workers), env.event()
     latencies: list[float] = []
-    away_at = SIMULATED_S / 3
+    away_at, node_gone_at = plan.length / 3, plan.length * 2 / 3
     lost = min(HOST_CORES, plan.workers - 1)
     # The jobs that the host has in hand when it goes.
     in_hand = [0]
 
     def job() -> Process:
         came = env.now
-        waits = _elected(came)
-        if waits:
-            yield env.timeout(waits)
+        if node_gone_at <= came < node_gone_at + ELECTION_S:
+            yield env.timeout(node_gone_at + ELECTION_S - came)
         while True:
-            with free.request(priority=1) as worker:
+            with free.request() as worker:
                 yield worker
                 took = rnd.choice(plan.service)
                 if env.now < away_at <= env.now + took and in_hand[0] < lost:
@@ -124,26 +128,25 @@ def site(plan: Site) -> list[float]:
 
     def host_away() -> Process:
         yield env.timeout(away_at)
-        held = [free.request(priority=0) for _ in range(lost)]
+        held = [free.request() for _ in range(lost)]
         for request in held:
             yield request
         yield env.timeout(HOST_AWAY_S)
         for request in held:
             free.release(request)
 
-    env.process(host_away())
-    env.process(_uploads(env, rnd, plan.rate, job))
-    env.run(SIMULATED_S + 300)
-    return latencies
+    def watch() -> Process:
+        while len(free.queue) < 20 * plan.rate + 50:
+            yield env.timeout(5)
+        drowned.succeed()
+
+    for process in (host_away(), watch(), _uploads(env, rnd, plan, job)):
+        env.process(process)
+    env.run(drowned | env.timeout(plan.length + 300))
+    return [math.inf] if drowned.triggered else latencies
 
 
-def _elected(now: float) -> float:
-    """How long a job waits that comes while a queue has no leader."""
-    gone = SIMULATED_S * 2 / 3
-    return gone + ELECTION_S - now if gone <= now < gone + ELECTION_S else 0.0
-
-
-def _uploads(env: Any, rnd: random.Random, rate: float, job: Any) -> Process:
+def _uploads(env: Any, rnd: random.Random, plan: Site, job: Any) -> Process:
     """Sittings come at random, and each is uploaded frame by frame."""
 
     def sitting() -> Process:
@@ -152,20 +155,20 @@ def _uploads(env: Any, rnd: random.Random, rate: float, job: Any) -> Process:
             yield env.timeout(rnd.expovariate(1 / UPLOAD_S))
 
     # Those that began before are under way.
-    for _ in range(round(rate * UPLOAD_S)):
+    for _ in range(round(plan.rate * UPLOAD_S)):
         env.process(sitting())
-    while env.now < SIMULATED_S:
-        yield env.timeout(rnd.expovariate(rate / SITTING))
+    while env.now < plan.length:
+        yield env.timeout(rnd.expovariate(plan.rate / SITTING))
         env.process(sitting())
 
 
 def workers_for(
     frames_a_day: float, service: list[float], most_s: float = 5.0
 ) -> tuple[int, float]:
-    """The least number of workers that hold a 99th percentile, and what it is then. A host is spare: two at least."""
-    mean = sum(service) / len(service)
-    needed = Site(frames_a_day, 1, service).rate * mean
-    workers = max(2, int(needed))
+    """The least number of workers that hold a 99th percentile, and what it is then. Two at least, and beyond one host's a spare
+    host's; of many it is told to one of twenty."""
+    needed = int(Site(frames_a_day, 1, service).rate * sum(service) / len(service))
+    workers = max(2, needed if needed < HOST_CORES else needed + HOST_CORES)
     while True:
         late = percentile(site(Site(frames_a_day, workers, service)), 0.99)
         if late <= most_s:
