@@ -105,6 +105,13 @@ def publish(channel: Any, queue: str, body: bytes) -> None:
     channel.basic_publish("", queue, body, KEPT, mandatory=True)
 
 
+def wait_for_room(channel: Any) -> None:
+    """Returns when the broker takes messages, which it doesn't while its disk or memory is short. A worker that took a job then
+    could not tell its end, and the job would count as tried. The message goes nowhere, and is confirmed.
+    """
+    channel.basic_publish("", "razvolk.nowhere", b"")
+
+
 def declare(broker: Broker, most_jobs: int = MOST_JOBS, delay_ms: int = DELAY_MS) -> bool:
     """Declares what isn't there. Returns whether something was new, and waits until that is safe."""
     new = False

@@ -52,7 +52,8 @@ class Caller:
             except UnroutableError:
                 self._again(until, f"there is no queue {queue} (razvolk-queue declare makes it)")
             except (AMQPError, OSError) as fault:
-                self._open = None
+                # To close the connection in order could hang as the confirm did.
+                self._open = self._broker.connection = None
                 self._again(until, _broker.why(fault))
 
     def _again(self, until: float, why: str) -> None:

@@ -19,7 +19,7 @@ from typing import Any
 from pika.exceptions import AMQPError
 
 from . import _broker, _store
-from ._broker import ASIDE_ENDS, ENDS, JOBS, LATER, Announcer, Broker, publish
+from ._broker import ASIDE_ENDS, ENDS, JOBS, LATER, Announcer, Broker, publish, wait_for_room
 from ._job import Job, NotAJob, parse
 from ._look import Fields, Look, begun, text, unreadable
 from ._metrics import Metrics
@@ -70,6 +70,7 @@ class Worker:
     def _consume(self) -> None:
         with self._watched():
             channel = self._broker.channel()
+            wait_for_room(channel)
             channel.basic_qos(prefetch_count=PREFETCH)
             self._consumers = [
                 channel.basic_consume(JOBS, self.job),
