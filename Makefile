@@ -1,4 +1,4 @@
-.PHONY: tool install-tool install-libraries run test archive container install dist wheel bench-python refuse mutate compare compare-long bench memcheck fuzz frames picture sheet bench-tool soak fmt fuzz-container hour landings site
+.PHONY: tool install-tool install-libraries run test archive container install dist wheel bench-python queue-faults load refuse mutate compare compare-long bench memcheck fuzz frames picture sheet bench-tool soak fmt fuzz-container hour landings site
 
 archive = target/staticlib/librazvolk.a
 shared = target/staticlib/librazvolk.so.0
@@ -88,6 +88,17 @@ wheel: $(shared) $(container)
 # The wheel in a fresh environment: what a call takes beside C's own, and two threads beside one.
 bench-python: wheel
 	PYTHON=$(PYTHON) python/bench/run $(made)/bench-python target/wheel/razvolk-*.whl
+
+# The queue under faults with a broker of its own (docs/QUEUE.md): 3,000 jobs, a cluster of three, and wrong workers that must be
+# found. Some thirteen minutes, and root, or a system that lets users have namespaces.
+queue-faults: $(shared) $(container)
+	PYTHON=$(PYTHON) tests/queue $(made)/queue-faults long cluster controls
+
+# The queue under load: frames a second and latency by 1 and 2 workers, and a simulation that is held to them (docs/SCALE.md).
+# LOAD is a folder on the disk that is measured with it.
+LOAD = $(made)/load
+load: wheel
+	PYTHON=$(PYTHON) python/load/run $(LOAD)
 
 # Every wrong edit that the proofs must refuse, also those of crates/*/must-fail/more, which cost too much for the gate
 # (docs/TESTING.md, "Wrong edits").

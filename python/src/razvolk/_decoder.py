@@ -73,7 +73,10 @@ class Decoder:
         self, path: Union[str, os.PathLike[str]], out: Optional[LentSamples] = None
     ) -> Frame:
         """Decodes the frame of a camera's file: see `imread`."""
-        coded = _file.read(path)
+        return self.decode(_file.read(path), out)
+
+    def decode(self, coded: _file.Coded, out: Optional[LentSamples] = None) -> Frame:
+        """Decodes a frame that `find` found: see `Coded.decode`."""
         return coded.decode(out, self._marks(coded.width, coded.height))
 
     def _marks(self, width: SupportsIndex, height: SupportsIndex) -> Bytes:

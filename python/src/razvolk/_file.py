@@ -168,20 +168,30 @@ def imwrite(
     _told_within("orientation", orientation, 8)
     stream, offsets = _calls.write_v0(samples)
     height, width = np.shape(samples)  # type: ignore[arg-type]
-    name = ctypes.create_string_buffer((model or "").encode("ascii", "replace"))
-    found = _library.Found(0, bits or 0, width, height, address(stream), stream.size, 0, height)
+    coded = Coded(0, width, height, stream, offsets, 0, bits, model, colours, orientation)
+    _put(path, contained(coded, 0, stream, offsets))
+
+
+def contained(
+    coded: Coded, version: int, stream: Bytes, offsets: Optional[Numbers] = None
+) -> bytes:
+    """A camera's file of a stream, which tells what is told of the frame that it is made of."""
+    rows = np.empty(0, U32) if offsets is None else offsets
+    name = ctypes.create_string_buffer((coded.model or "").encode("ascii", "replace"))
+    found = _library.Found(version, coded.bits or 0, coded.width, coded.height)
+    found.stream, found.stream_len, found.offsets = address(stream), stream.size, rows.size
     found.model, found.model_len = ctypes.addressof(name), len(name) - 1
-    found.colours = (ctypes.c_uint8 * 4)(*_numbered(colours))
-    found.orientation = orientation or 0
-    file = np.empty(stream.nbytes + offsets.nbytes + len(name) + 1_024, U8)
+    found.colours = (ctypes.c_uint8 * 4)(*_numbered(coded.colours))
+    found.orientation = coded.orientation or 0
+    file = np.empty(stream.nbytes + rows.nbytes + len(name) + 1_024, U8)
     length = _library.srw.razvolk_srw_write(
-        ctypes.byref(found), address(offsets), address(file), file.size
+        ctypes.byref(found), address(rows), address(file), file.size
     )
     if length == 0:
         raise ValueError(
-            f"model {model!r} is no plain text, or the file would have 2^32 bytes or more"
+            f"model {coded.model!r} is no plain text, or the file would have 2^32 bytes or more"
         )
-    _put(path, file[:length].tobytes())
+    return file[:length].tobytes()
 
 
 def _told_within(name: str, number: Optional[int], most: int) -> None:
