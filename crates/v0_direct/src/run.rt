@@ -6,7 +6,7 @@
 //   col      the block's first column
 //   lengths  the row's four lengths before the block
 //
-// A run goes on while the next block lies within its row, its lengths are short (0 to 16 bits a residual) and the stream has room
+// A run goes on while the next block lies within its row, its lengths are short (0 to 15 bits a residual) and the stream has room
 // for it.
 ghost use mathlib.Core.Bool.{true};
 ghost use mathlib.Core.Path.{_≡_};
