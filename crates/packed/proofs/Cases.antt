@@ -5,7 +5,7 @@ use Rattle.rules.specs.Reader as Reader
 use Rattle.rules.specs.Frame as Frame
 use Rattle.rules.specs.V0 as V0
 use Rattle.rules.specs.Answer as Answer
-use Rattle.profile.specs.Profile as Profile
+use Rattle.rules_clean.specs.Profile as Profile
 use Rattle.writers.specs.Calls as Calls
 use Rattle.writers.specs.Writer as Writer
 use Rattle.packed.specs.Proposal as Proposal

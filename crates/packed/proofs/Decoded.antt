@@ -19,9 +19,9 @@ use Rattle.rules.proofs.Origins.{unmarked-same}
 use Rattle.rules.proofs.Refusals.{samples-enough}
 use Rattle.rules.proofs.TwoPhase.{two-phase-direct}
 use Rattle.rules.proofs.V0Cells.{decoded-length}
-use Rattle.profile.specs.Clean as Profile
-use Rattle.profile.proofs.Calls.{taken-done}
-use Rattle.profile.proofs.Verdicts.{Clean, clean-map}
+use Rattle.rules_clean.specs.Clean as Profile
+use Rattle.rules_clean.proofs.Calls.{taken-done}
+use Rattle.rules_clean.proofs.Verdicts.{Clean, clean-map}
 use Rattle.packed.specs.Proposal.{Proposal, frame-of, asked, before, answer}
 use Rattle.packed.proofs.Exactly.{Begun, begun, Accepted, frame-is}
 use Rattle.rules.proofs.Tests.{by-test}

@@ -19,8 +19,8 @@ use Rattle.rules.specs.Answer.{done, refused, too-large, short-samples, short-o
 use Rattle.rules.proofs.Cells.{All, nil, more}
 use Rattle.rules.proofs.Tests.{clash, neither, both, by-test}
 use Rattle.rules.proofs.V0Cells.{decoded-length}
-use Rattle.profile.specs.Profile.{verdict}
-use Rattle.profile.proofs.Verdicts.{Clean, accepted-clean, clean-accepted}
+use Rattle.rules_clean.specs.Profile.{verdict}
+use Rattle.rules_clean.proofs.Verdicts.{Clean, accepted-clean, clean-accepted}
 use Rattle.writers.specs.Calls.{any-above, too-bright}
 use Rattle.writers.specs.Writer.{stream-for}
 use Rattle.writers.proofs.CallLaws.{not-bright}

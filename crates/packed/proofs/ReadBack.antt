@@ -13,9 +13,9 @@ use Rattle.rules.specs.Answer as Plain
 use Rattle.rules.specs.Answer.{Decoder, direct, two-phase, done}
 use Rattle.rules.proofs.Cells.{All}
 use Rattle.rules.proofs.Isolation.{Returned, IsV0, is-direct, is-two-phase}
-use Rattle.profile.proofs.Calls.{taken-done}
-use Rattle.profile.proofs.Lists as Clean-lists
-use Rattle.profile.proofs.Verdicts.{Clean, clean-map}
+use Rattle.rules_clean.proofs.Calls.{taken-done}
+use Rattle.rules_clean.proofs.Lists as Clean-lists
+use Rattle.rules_clean.proofs.Verdicts.{Clean, clean-map}
 use Rattle.writers.specs.Calls as Writers
 use Rattle.writers.proofs.CallLaws.{table-length}
 use Rattle.writers.proofs.Decoded.{again, back, done-passed, answered-done, samples-back, no-marks-back}

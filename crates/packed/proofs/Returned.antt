@@ -13,7 +13,7 @@ use Rattle.rules.specs.Frame.{cells}
 use Rattle.rules.specs.Answer as Plain
 use Rattle.rules.specs.Answer.{Decoder, done}
 use Rattle.rules.proofs.Isolation.{Returned, Samples, Step, IsV0, left-below}
-use Rattle.profile.proofs.Lists as Clean-lists
+use Rattle.rules_clean.proofs.Lists as Clean-lists
 use Rattle.writers.specs.declared.Written.{Written}
 use Rattle.writers.specs.Calls as Writers
 use Rattle.writers.proofs.CallLaws.{passed, table-length}

@@ -18,7 +18,7 @@ use Rattle.rules.specs.Answer.{done}
 use Rattle.rules.proofs.Cells.{All, all-map}
 use Rattle.rules.proofs.Missing.{frame-none}
 use Rattle.rules.proofs.V0Blocks.{EachInRow, each-block-map}
-use Rattle.profile.proofs.Verdicts.{Clean}
+use Rattle.rules_clean.proofs.Verdicts.{Clean}
 use Rattle.writers.specs.Writer.{residuals, stream-for, offsets-for}
 use Rattle.writers.proofs.Rows.{offsets-length}
 use Rattle.writers.proofs.V0Written.{UpTo16, WrittenBlock}

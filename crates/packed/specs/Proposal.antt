@@ -13,7 +13,7 @@ use Rattle.rules.specs.declared.answer.Size.{Size}
 use Rattle.rules.specs.Frame.{cells}
 use Rattle.rules.specs.Answer as Plain
 use Rattle.rules.specs.Answer.{done, refused, too-large, short-samples, lent}
-use Rattle.profile.specs.Profile.{verdict}
+use Rattle.rules_clean.specs.Profile.{verdict}
 use Rattle.writers.specs.Calls.{too-bright}
 use Rattle.writers.specs.Writer.{stream-for}
 

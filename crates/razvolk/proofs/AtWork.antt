@@ -19,10 +19,10 @@ use Rattle.rules.specs.Frame as Frame
 use Rattle.rules.specs.V0 as V0
 use Rattle.rules.specs.Phases as Phases
 use Rattle.rules.specs.Map as Map
-use Rattle.bands.specs.Call as Bands
-use Rattle.bands.proofs.Lists as Bands-lists
-use Rattle.profile.specs.Clean as Profile
-use Rattle.profile.proofs.Lists as Clean-lists
+use Rattle.rules_bands.specs.Call as Bands
+use Rattle.rules_bands.proofs.Lists as Bands-lists
+use Rattle.rules_clean.specs.Clean as Profile
+use Rattle.rules_clean.proofs.Lists as Clean-lists
 use Rattle.rules.proofs.Cells.{nil, more}
 use Rattle.rules.proofs.Isolation.{Step, Calls, start, call, Samples, Same, is-direct, position-of, amount-of}
 use Rattle.samsung.proofs.Isolation.{Made, Banded, Cleaned, Entry, returned, checked, plain, in-bands, for-clean, step, last, last-in-bands, last-clean, ended, isolation}

@@ -11,10 +11,10 @@ use Rattle.rules.specs.declared.v0.V0Row.{V0Row}
 use Rattle.rules.specs.Frame.{cells}
 use Rattle.rules.specs.V0.{head, samples, predictor, order, blocks-in, fresh-row}
 use Rattle.rules.specs.Answer as Plain
-use Rattle.bands.specs.Bands as Cut
-use Rattle.bands.specs.Call as Bands
-use Rattle.profile.specs.Profile as Profile
-use Rattle.profile.specs.Clean as Clean
+use Rattle.rules_bands.specs.Bands as Cut
+use Rattle.rules_bands.specs.Call as Bands
+use Rattle.rules_clean.specs.Profile as Profile
+use Rattle.rules_clean.specs.Clean as Clean
 use Rattle.writers.specs.V2Writer as V2Writer
 use Rattle.writers.specs.Calls as Writers
 use Rattle.blanking.specs.Blanking as Blanking

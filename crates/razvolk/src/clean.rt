@@ -1,7 +1,7 @@
 // The direct V0 decoder for clean frames.
 ghost use mathlib.Core.Option.{none, some};
 ghost use Rattle.rules.specs.Answer.{direct, ask, buffers};
-ghost use Rattle.profile.specs.Clean.{Yields};
+ghost use Rattle.rules_clean.specs.Clean.{Yields};
 use rules::Answer;
 
 // Decodes a clean V0 frame over what `samples` holds. Refusals 1, 3 and 17 to 19.

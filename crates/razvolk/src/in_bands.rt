@@ -1,5 +1,5 @@
 // The V0 decoder in bands.
-ghost use Rattle.bands.specs.Call.{call, Yields};
+ghost use Rattle.rules_bands.specs.Call.{call, Yields};
 use rules::Answer;
 
 // Decodes a V0 frame over what `samples` holds, its directions in `scratch`, phase two in the sequence of `steps`. Refusals 1, 3,

@@ -10,10 +10,10 @@ use lib.ListN.{drop, replicate}
 use Rattle.rules.specs.Frame.{cells}
 use Rattle.rules.specs.Answer as Answer
 use Rattle.rules.proofs.Isolation.{Returned}
-use Rattle.profile.specs.Clean as Clean
-use Rattle.profile.proofs.Calls.{Taken, done-taken, taken-done, samples-kept, map-kept, lent-kept}
-use Rattle.profile.proofs.Lists.{Checked, done-answer, done-map}
-use Rattle.bands.proofs.Lists.{same-answer, same-samples}
+use Rattle.rules_clean.specs.Clean as Clean
+use Rattle.rules_clean.proofs.Calls.{Taken, done-taken, taken-done, samples-kept, map-kept, lent-kept}
+use Rattle.rules_clean.proofs.Lists.{Checked, done-answer, done-map}
+use Rattle.rules_bands.proofs.Lists.{same-answer, same-samples}
 use Rattle.samsung.proofs.Isolation.{Call, Cleaned, checked, returned, last-clean, ended}
 
 -- ── The claim ──

@@ -13,10 +13,10 @@ use Rattle.rules.specs.Frame.{cells}
 use Rattle.rules.specs.Answer.{refused, Ask, Lent, Buffers, lengths, Yields, refusal, answer, stream-answer, frame-samples, marks, frame-scratch, unless-refused, samples-after, map-after, scratch-after}
 use Rattle.rules.proofs.Tests.{by-test}
 use Rattle.rules.proofs.Refusals.{answer-refused, answer-passed, samples-kept, map-kept, scratch-kept}
-use Rattle.bands.specs.Call as Bands
-use Rattle.bands.proofs.Calls as Bands-calls
-use Rattle.profile.specs.Clean as Clean
-use Rattle.profile.proofs.Calls as Clean-calls
+use Rattle.rules_bands.specs.Call as Bands
+use Rattle.rules_bands.proofs.Calls as Bands-calls
+use Rattle.rules_clean.specs.Clean as Clean
+use Rattle.rules_clean.proofs.Calls as Clean-calls
 use Rattle.samsung.proofs.Opening.{Tested, Opened}
 
 -- A refusal of 1 to 4 is answered by its number, and leaves every buffer as it was.

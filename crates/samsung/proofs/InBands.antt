@@ -5,9 +5,9 @@ use Prim.Native.Nat.{ℕ}
 use mathlib.Core.Path.{_≡_, sym, ap, _∙_}
 use mathlib.Core.Logic.{_≢_}
 use denote.Ref.{now}
-use Rattle.bands.specs.Call as Bands
-use Rattle.bands.proofs.Calls.{Passed, passed, refusal-list, samples-kept, scratch-kept}
-use Rattle.bands.proofs.Lists.{done-passed, same-answer, same-samples, same-scratch}
+use Rattle.rules_bands.specs.Call as Bands
+use Rattle.rules_bands.proofs.Calls.{Passed, passed, refusal-list, samples-kept, scratch-kept}
+use Rattle.rules_bands.proofs.Lists.{done-passed, same-answer, same-samples, same-scratch}
 use Rattle.rules.proofs.Isolation.{Returned}
 use Rattle.samsung.proofs.Isolation.{Call, Banded, called, yielded, returned, last-in-bands, ended}
 

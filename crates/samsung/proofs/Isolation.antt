@@ -35,11 +35,11 @@ use Rattle.samsung.proofs.direct.decode_v0_reference_map.Kinds as direc
 use Rattle.samsung.proofs.direct.decode_v0_reference_map.Reads as direct-map-reads
 use Rattle.samsung.proofs.two_phase.decode_v0.Kinds as phases-kinds
 use Rattle.samsung.proofs.two_phase.decode_v0.Reads as phases-reads
-use Rattle.bands.specs.Call as Bands
-use Rattle.bands.proofs.Lists as Bands-lists
+use Rattle.rules_bands.specs.Call as Bands
+use Rattle.rules_bands.proofs.Lists as Bands-lists
 use Rattle.samsung.proofs.in_bands.decode_v0_bands.Kinds as bands-kinds
 use Rattle.samsung.proofs.in_bands.decode_v0_bands.Reads as bands-reads
-use Rattle.profile.proofs.Lists as Clean-lists
+use Rattle.rules_clean.proofs.Lists as Clean-lists
 use Rattle.samsung.proofs.clean.decode_v0_clean.Kinds as clean-kinds
 use Rattle.samsung.proofs.clean.decode_v0_clean.Reads as clean-reads
 use Rattle.samsung.proofs.clean.decode_v0_clean_map.Kinds as clean-map-kinds

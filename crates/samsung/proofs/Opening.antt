@@ -18,7 +18,7 @@ use Rattle.refusals.specs.declared.Lending.{Lending}
 use Rattle.refusals.specs.declared.Lending.the-variants.{Nothing, Length}
 use Rattle.refusals.specs.Lending.{short}
 use Rattle.refusals.proofs.RefusalLaws.{cells-most}
-use Rattle.bands.specs.Bands.{sized}
+use Rattle.rules_bands.specs.Bands.{sized}
 use Rattle.v0_direct.specs.Lent.{Lends}
 
 -- ── The test ──

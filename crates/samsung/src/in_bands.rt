@@ -1,10 +1,10 @@
 // The V0 decoder in bands: the two-phase decoder, with phase two done block by block in the sequence of a list of steps.
-ghost use Rattle.bands.specs.Call.{call, Yields};
-use bands::refuse_steps;
+ghost use Rattle.rules_bands.specs.Call.{call, Yields};
 use refusals::refuse_two_phase;
 use refusals::refused;
 use rules::Answer;
 use rules::Size;
+use rules_bands::refuse_steps;
 use v0_bands::decode_frame;
 
 // Decodes a V0 frame over what `out` holds, its directions in `scratch`. Refusals 1, 3, 4, 11 and 12, each before anything is

@@ -11,10 +11,10 @@ use borrow.Author.Tests.{eq-eqb, ne-eqb}
 use Rattle.rules.specs.Limits.{most-side}
 use Rattle.rules.specs.V0.{exchange-columns, sample-kind}
 use Rattle.v0_cells.specs.Places.{InColumns}
-use Rattle.bands.specs.Bands.{Cut, cut, sized, blocks-per-band}
-use Rattle.bands.proofs.AnySequence.{Fitting, fitting, reach}
-use Rattle.bands.proofs.CheckLaws.{bands-most}
-use Rattle.bands.proofs.Counters.{some-block}
+use Rattle.rules_bands.specs.Bands.{Cut, cut, sized, blocks-per-band}
+use Rattle.rules_bands.proofs.AnySequence.{Fitting, fitting, reach}
+use Rattle.rules_bands.proofs.CheckLaws.{bands-most}
+use Rattle.rules_bands.proofs.Counters.{some-block}
 use Rattle.v0_bands.specs.Freed.{exchange-part, freed-rows, freed-columns, exchange-freed}
 use Rattle.v0_bands.specs.Lent.{PartLent, RowLent, ColumnLent, StepLent}
 use Rattle.v0_bands.proofs.PartLaws.{columns-length}

@@ -14,10 +14,10 @@ use borrow.Author.Tests.{lt-ltb, le-ltb, eq-eqb, ne-eqb}
 use Rattle.rules.specs.V0.{blocks-in, exchange, sample-kind}
 use Rattle.rules.specs.Phases.{sample-stage}
 use Rattle.rules.proofs.V0Cells.{exchange-length}
-use Rattle.bands.specs.Bands.{Cut, late-rows, fits, band-start, blocks-per-band, step-count, step-band, step-block, after, in-turn, none-done, good, do-step, do-steps}
-use Rattle.bands.proofs.Finished.{still}
-use Rattle.bands.proofs.Counters.{zeros, Stands, stands, Counts, after-own, after-other, done-after, Turns, end, next, turns, good-full}
-use Rattle.bands.proofs.AnySequence.{column-of, same-cells, Fitting, fitting, start-zero, start-last, start-up, step-from, step-to, Of-step, Bands-done, Step-ready, Step-left, step-left, elsewhere, step-ready, step-done, none-done-yet, reach, good-done}
+use Rattle.rules_bands.specs.Bands.{Cut, late-rows, fits, band-start, blocks-per-band, step-count, step-band, step-block, after, in-turn, none-done, good, do-step, do-steps}
+use Rattle.rules_bands.proofs.Finished.{still}
+use Rattle.rules_bands.proofs.Counters.{zeros, Stands, stands, Counts, after-own, after-other, done-after, Turns, end, next, turns, good-full}
+use Rattle.rules_bands.proofs.AnySequence.{column-of, same-cells, Fitting, fitting, start-zero, start-last, start-up, step-from, step-to, Of-step, Bands-done, Step-ready, Step-left, step-left, elsewhere, step-ready, step-done, none-done-yet, reach, good-done}
 use Rattle.v0_bands.specs.Freed.{freed-rows, freed-columns, exchange-freed, steps-freed}
 use Rattle.v0_bands.proofs.PartLaws.{Partner, near, at, Exchanged, part-exchanged, whole-exchanged}
 use Rattle.v0_bands.proofs.PartLaws as Part

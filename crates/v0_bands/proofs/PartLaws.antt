@@ -12,7 +12,7 @@ use lib.Seq.{getD-set-same, getD-set-other}
 use Rattle.rules.specs.declared.answer.Size.{Size}
 use Rattle.rules.specs.V0.{swap, exchange-columns, exchange-rows, exchange, sample-kind}
 use Rattle.rules.proofs.Spill.{cell}
-use Rattle.bands.proofs.AnySequence.{one-row, one-column}
+use Rattle.rules_bands.proofs.AnySequence.{one-row, one-column}
 use Rattle.v0_bands.specs.Freed.{exchange-part}
 
 -- The place whose cell comes to a place: of an even row and odd column the one below and before it, of an odd row and even

@@ -11,10 +11,10 @@ use lib.ListN.{length, getD, take, drop, length-take, length-drop, drop-of-lengt
 use lib.Seq.{drop-cons, getD-take, getD-drop, ext-getD}
 use Rattle.rules.specs.V0.{blocks-in}
 use Rattle.rules.specs.Phases.{Stage, sample-stage, predict-blocks}
-use Rattle.bands.specs.Bands.{Cut, cut, sized, late-rows, blocks-per-band, step-count, in-turn, none-done, good, block-directions, predict-band, do-step}
-use Rattle.bands.proofs.AnySequence.{column-of, Fitting, fitting, start-up, start-last}
-use Rattle.bands.proofs.CheckLaws.{bands-most}
-use Rattle.bands.proofs.Counters.{some-block, stands, Turns, end, next, turns}
+use Rattle.rules_bands.specs.Bands.{Cut, cut, sized, late-rows, blocks-per-band, step-count, in-turn, none-done, good, block-directions, predict-band, do-step}
+use Rattle.rules_bands.proofs.AnySequence.{column-of, Fitting, fitting, start-up, start-last}
+use Rattle.rules_bands.proofs.CheckLaws.{bands-most}
+use Rattle.rules_bands.proofs.Counters.{some-block, stands, Turns, end, next, turns}
 use Rattle.v0_predictions.specs.Lent.{LateRow}
 use Rattle.v0_bands.specs.Freed.{exchange-freed, steps-freed}
 use Rattle.v0_bands.specs.Lent.{BandLent, StepLent, StepsLent}

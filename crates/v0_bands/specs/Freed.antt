@@ -6,7 +6,7 @@ use mathlib.Core.List.{List, [], _∷_}
 use lib.Dec.{ltb, eqb}
 use Rattle.rules.specs.V0.{exchange-columns, sample-kind}
 use Rattle.rules.specs.Phases.{sample-stage}
-use Rattle.bands.specs.Bands.{Cut, band-start, step-band, step-block, do-step}
+use Rattle.rules_bands.specs.Bands.{Cut, band-start, step-band, step-block, do-step}
 
 -- m pairs of columns from a column on, in n pairs of rows from a row on.
 unfoldable pub exchange-part : ℕ → ℕ → ℕ → ℕ → ℕ → List ℕ → List ℕ

@@ -9,7 +9,7 @@ use Rattle.rules.specs.declared.answer.Size.{Size}
 use Rattle.rules.specs.Frame.{cells}
 use Rattle.rules.specs.Answer.{scratch-bytes}
 use Rattle.rules.specs.V0.{blocks-in}
-use Rattle.bands.specs.Bands.{Cut, sized, cut, fits, blocks-per-band, step-count, good}
+use Rattle.rules_bands.specs.Bands.{Cut, sized, cut, fits, blocks-per-band, step-count, good}
 
 -- n late rows from a row on, of w cells, with their direction bytes; and a block of b columns that begins within a row.
 pub record BandLent (w b block row n : ℕ) (f dirs : List ℕ) : Type 0 where

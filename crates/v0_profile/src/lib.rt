@@ -7,7 +7,7 @@ ghost use lib.Dec.{ltb};
 ghost use Rattle.v0_cells.specs.Places.{InFrame};
 ghost use Rattle.v0_stream.specs.Block.{whole-block};
 ghost use Rattle.v0_stream.specs.Lengths.{Within, furthest};
-ghost use Rattle.profile.specs.Profile.{fits, all-fit, block-fault, row-fault, verdict};
+ghost use Rattle.rules_clean.specs.Profile.{fits, all-fit, block-fault, row-fault, verdict};
 ghost use Rattle.v0_profile.specs.Lent.{Lends, InRow};
 ghost use Rattle.v0_profile.specs.Block.{seen};
 use rules::Answer;

@@ -4,8 +4,8 @@ use mathlib.Core.Path.{_∙_}
 use native.Mathlib.Omega.{arith}
 use borrow.Author.Needs.{needs}
 use lib.ListN.{length}
-use Rattle.bands.specs.Bands.{cut, sized}
-use Rattle.bands.proofs.CheckLaws.{some-column, bands-most}
+use Rattle.rules_bands.specs.Bands.{cut, sized}
+use Rattle.rules_bands.proofs.CheckLaws.{some-column, bands-most}
 use Rattle.v0_bands.proofs.StepLaws.{bands-some, blocks-some, band-low, start-end, end-low, band-lent, step-lent, rows-most, first-most, Steps, steps-begun, steps-on, steps-done}
 use Rattle.v0_bands.proofs.add_steps.Statement.{statement}
 use Rattle.v0_bands.proofs.add_steps.Tie as tie

@@ -7,7 +7,7 @@ use native.Mathlib.Omega.{arith}
 use lib.Seq.{length-take-le}
 use Rattle.rules.specs.Answer.{direct, ask, buffers}
 use Rattle.samsung.proofs.Opening.{Opened, opened, direct-tested, direct-v0, v0-lends}
-use Rattle.profile.proofs.Calls.{checked-answer, checked-samples, fault-map, taken-map}
+use Rattle.rules_clean.proofs.Calls.{checked-answer, checked-samples, fault-map, taken-map}
 use Rattle.samsung.proofs.EntryLaws.{clean-refused}
 use borrow.Author.Needs.{needs}
 use Rattle.samsung.proofs.clean.decode_v0_clean_map.Statement.{statement}

@@ -7,7 +7,7 @@ use borrow.Author.Needs.{needs}
 use lib.Seq.{length-take-le}
 use Rattle.rules.specs.Answer.{two-phase, ask, buffers}
 use Rattle.samsung.proofs.Opening.{Opened, opened, two-phase-tested, two-phase-v0}
-use Rattle.bands.proofs.Calls.{list-passed, refusal-list, refused-yields, done-yields}
+use Rattle.rules_bands.proofs.Calls.{list-passed, refusal-list, refused-yields, done-yields}
 use Rattle.samsung.proofs.EntryLaws.{bands-refused}
 use Rattle.samsung.proofs.in_bands.decode_v0_bands.Statement.{statement}
 use Rattle.samsung.proofs.in_bands.decode_v0_bands.Tie as tie
