@@ -45,7 +45,7 @@ pub(crate) fn read_offsets(input: &[u8], offsets: &mut [u32], height: usize)
     let mut row = 0;
     while row < height {
         let at = 9 + 4 * row;
-        let word = bits::fetch(input, at as u64);
+        let word = read_bits::fetch(input, at as u64);
         offsets[row] = word.value;
         row += 1;
     }

@@ -61,9 +61,9 @@ use Rattle.transcode.proofs.convert.v0_to_v2 as convert-entry
 use Rattle.razvolk.proofs.proposal.razvolk_check_packed as check
 use Rattle.transcode.proofs.proposal.check_packed as check-entry
 use Rattle.razvolk.proofs.reader.razvolk_get as get
-use Rattle.bits.proofs.get as get-entry
+use Rattle.read_bits.proofs.get as get-entry
 use Rattle.razvolk.proofs.reader.razvolk_reset_at as reset-at
-use Rattle.bits.proofs.reset_at as reset-at-entry
+use Rattle.read_bits.proofs.reset_at as reset-at-entry
 
 -- ── Beside every export ──
 

@@ -9,7 +9,7 @@ use rules::Got;
 pub extern "C" fn razvolk_get(src: &[u8], state: Bits, n: u32) -> Got
     ensures { λ r. ⌜ r ≡ read (now (src .entry)) state n ⌝ }
 {
-    bits::get(src, state, n)
+    read_bits::get(src, state, n)
 }
 
 // Drops the buffered bits and goes to `pos`; the count of missing words stays.
@@ -17,5 +17,5 @@ pub extern "C" fn razvolk_get(src: &[u8], state: Bits, n: u32) -> Got
 pub extern "C" fn razvolk_reset_at(state: Bits, pos: u64) -> Bits
     ensures { λ r. ⌜ r ≡ reset-at state pos ⌝ }
 {
-    bits::reset_at(state, pos)
+    read_bits::reset_at(state, pos)
 }

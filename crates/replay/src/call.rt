@@ -33,14 +33,14 @@ pub(crate) fn least(a: usize, b: usize) -> usize
 
 // The number whose four bytes start at `at`.
 fn number(bytes: &[u8], at: usize) -> u32 {
-    let word = bits::fetch(bytes, at as u64);
+    let word = read_bits::fetch(bytes, at as u64);
     word.value
 }
 
 pub(crate) fn word(bytes: &[u8], at: usize) -> usize
     ensures { λ r. ⌜ r < 4_294_967_296 ⌝ }
 {
-    let word = bits::fetch(bytes, at as u64);
+    let word = read_bits::fetch(bytes, at as u64);
     word.value as usize
 }
 
@@ -89,7 +89,7 @@ fn sample_count(call: &[u8], samples: &[u16]) -> usize
 fn read_offsets(call: &[u8], offsets: &mut [u32]) {
     let mut i: usize = 0;
     while i < offsets.len() {
-        let word = bits::fetch(call, std::num::wrapping_add_u64(16, 4 * i as u64));
+        let word = read_bits::fetch(call, std::num::wrapping_add_u64(16, 4 * i as u64));
         offsets[i] = word.value;
         i += 1;
     }

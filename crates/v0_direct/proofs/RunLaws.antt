@@ -17,7 +17,7 @@ use Rattle.rules.specs.Map.{v0-marks}
 use Rattle.rules.specs.declared.answer.Size.{Size}
 use Rattle.rules.specs.declared.reader.Bits.{Bits}
 use Rattle.rules.specs.declared.v0.V0Row.{V0Row}
-use Rattle.window.specs.Window.{state-at, Standing, standing-in}
+use Rattle.read_window.specs.Window.{state-at, Standing, standing-in}
 use Rattle.v0_stream.specs.Lengths.{Within, furthest}
 use Rattle.v0_stream.proofs.HeadLaws.{within-more, head-within}
 use Rattle.v0_windows.specs.ByWindow.{Room, Ahead, HeadAt, last-start, short, Ends, residuals-of}

@@ -9,7 +9,7 @@ use Rattle.rules.specs.V0.{apply, order}
 use Rattle.rules.specs.Map.{v0-marks}
 use Rattle.rules.specs.declared.answer.Size.{Size}
 use Rattle.rules.specs.declared.v0.V0Row.{V0Row}
-use Rattle.window.specs.Window.{state-at, standing-in}
+use Rattle.read_window.specs.Window.{state-at, standing-in}
 use Rattle.v0_stream.specs.Lengths.{Within}
 use Rattle.v0_windows.specs.ByWindow.{Ahead, short}
 use Rattle.v0_windows.specs.Run.{last-bit, run-length}

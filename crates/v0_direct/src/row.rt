@@ -18,6 +18,11 @@ use super::run::Run;
 use super::run::decode_run;
 use super::sample::decode_samples;
 use maps::fill_block;
+use read_window::BACK_BITS;
+use read_window::BACK_BYTES;
+use read_window::SHORT_BITS;
+use read_window::stands_within;
+use read_window::state_at;
 use rules::Bits;
 use rules::Size;
 use rules::V0Row;
@@ -32,11 +37,6 @@ use v0_windows::four_at;
 use v0_windows::four_long_at;
 use v0_windows::plan_of;
 use v0_windows::window_head;
-use window::BACK_BITS;
-use window::BACK_BYTES;
-use window::SHORT_BITS;
-use window::stands_within;
-use window::state_at;
 
 // Whether a block is an inner one: from row 2 on, after column 0 and inside its row.
 pub fn is_inner(size: Size, row: usize, col: usize) -> bool

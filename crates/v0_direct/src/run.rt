@@ -13,7 +13,7 @@ ghost use mathlib.Core.Path.{_≡_};
 ghost use Prim.Native.Nat.{_+_, _-_, _*_, _/_, _<_};
 ghost use lib.ListN.{length};
 ghost use Rattle.rules.specs.Frame.{cells};
-ghost use Rattle.window.specs.Window.{Standing};
+ghost use Rattle.read_window.specs.Window.{Standing};
 ghost use Rattle.v0_windows.specs.ByWindow.{Ahead, last-start, short};
 ghost use Rattle.v0_windows.specs.Run.{run-length};
 ghost use Rattle.v0_cells.specs.Places.{InFrame, Inner, Whole};
@@ -23,6 +23,10 @@ ghost use Rattle.v0_direct.specs.Block.{Ran};
 ghost use Rattle.v0_direct.specs.Run.{run-begins, run-end, row-at, RanAt, finished, finished-marks};
 use super::Place;
 use super::row::is_inner;
+use read_window::BACK_BITS;
+use read_window::BACK_BYTES;
+use read_window::stands_within;
+use read_window::state_at;
 use rules::V0Row;
 use v0_cells::inner::mark_block;
 use v0_lanes::blocks::head_at;
@@ -36,10 +40,6 @@ use v0_lanes::predictions::predict;
 use v0_windows::BLOCK_BYTES;
 use v0_windows::are_short;
 use v0_windows::last_start;
-use window::BACK_BITS;
-use window::BACK_BYTES;
-use window::stands_within;
-use window::state_at;
 
 // Where a run ends: the column after its last block, and the row's state there.
 pub struct Run {

@@ -8,7 +8,7 @@ ghost use Rattle.rules.specs.Map.{v0-marks};
 ghost use Rattle.v0_cells.specs.Places.{InFrame};
 ghost use Rattle.v0_direct.specs.Block.{samples-of, Applied};
 use super::Place;
-use bits::read_residual;
+use read_bits::read_residual;
 use rules::Bits;
 use rules::V0Head;
 use rules::V0Row;

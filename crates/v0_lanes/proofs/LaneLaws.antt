@@ -12,8 +12,8 @@ use borrow.Author.Tests.{ltb-true, ltb-false}
 use Rattle.rules.specs.Reader.{signed, modulo}
 use Rattle.rules.proofs.ReaderLaws.{signed-low, signed-high, modulo-below}
 use Rattle.rules.proofs.Tests.{by-test}
-use Rattle.window.specs.Window.{Window}
-use Rattle.window.proofs.WindowLaws.{four-made}
+use Rattle.read_window.specs.Window.{Window}
+use Rattle.read_window.proofs.WindowLaws.{four-made}
 use Rattle.v0_windows.specs.ByWindow.{residual, Group}
 use Rattle.v0_lanes.specs.Lanes.{lanes, lanes-of, residual-lanes, LanesBelow}
 

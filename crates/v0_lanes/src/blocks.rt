@@ -12,7 +12,7 @@ use super::lengths::PackedHead;
 use super::lengths::ends_of;
 use super::lengths::packed_head;
 use super::residuals::lanes_at;
-use window::window;
+use read_window::window;
 
 // The head that begins at bit q, after lengths of 0 to 15.
 pub fn head_at(src: &[u8], base: usize, q: usize, l: u32, t: &[u32; 1024]) -> PackedHead

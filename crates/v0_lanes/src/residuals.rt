@@ -6,7 +6,7 @@ ghost use lib.ListN.{length};
 ghost use Rattle.v0_windows.specs.ByWindow.{residual, Group};
 ghost use Rattle.v0_lanes.specs.Lanes.{lanes, lanes-of, residual-lanes, LanesBelow};
 ghost use Rattle.v0_lanes.specs.Tables.{Holds, shapes};
-use window::window;
+use read_window::window;
 
 // Four fields of n bits as two halves of 32.
 fn halved(d: u64, n: u32, whole: u64, gap: u64) -> u64

@@ -6,7 +6,7 @@ ghost use lib.ListN.{length};
 ghost use Rattle.v0_lanes.specs.Lanes.{lanes};
 ghost use Rattle.v0_lanes.specs.Lengths.{keep, step, reads, shift, action, actions};
 ghost use Rattle.v0_lanes.specs.Tables.{Holds, shape, shapes};
-use fields::power;
+use read_fields::power;
 
 // What four residuals of n bits are made with, by its number k.
 fn shape_of(n: u32, k: usize) -> u64

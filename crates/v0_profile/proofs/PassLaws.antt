@@ -12,8 +12,8 @@ use Rattle.rules.specs.declared.reader.Bits.{Bits}
 use Rattle.rules.specs.declared.v0.V0Row.{V0Row}
 use Rattle.rules.specs.declared.v0.V0Head.{V0Head}
 use Rattle.rules.proofs.ReaderLaws.{read-residual-is}
-use Rattle.window.specs.Window.{state-at}
-use Rattle.window.proofs.WindowLaws.{leaves}
+use Rattle.read_window.specs.Window.{state-at}
+use Rattle.read_window.proofs.WindowLaws.{leaves}
 use Rattle.v0_stream.specs.Block.{with-residuals, whole-block}
 use Rattle.v0_windows.specs.ByWindow.{HeadAt, head-of, Ahead, Plans}
 use Rattle.v0_windows.specs.declared.WindowHead.{WindowHead}

@@ -10,6 +10,10 @@ ghost use Rattle.v0_stream.specs.Lengths.{Within, furthest};
 ghost use Rattle.rules_clean.specs.Profile.{fits, all-fit, block-fault, row-fault, verdict};
 ghost use Rattle.v0_profile.specs.Lent.{Lends, InRow};
 ghost use Rattle.v0_profile.specs.Block.{seen};
+use read_window::BACK_BITS;
+use read_window::BACK_BYTES;
+use read_window::stands_within;
+use read_window::state_at;
 use rules::Answer;
 use rules::Size;
 use rules::V0Head;
@@ -22,10 +26,6 @@ use v0_stream::block::read_block_head;
 use v0_windows::BLOCK_BYTES;
 use v0_windows::plan_of;
 use v0_windows::window_head;
-use window::BACK_BITS;
-use window::BACK_BYTES;
-use window::stands_within;
-use window::state_at;
 
 // A block of which nothing is skipped. Where the record stands in the stream, its residuals are passed over: the head tells how many
 // bits they have.

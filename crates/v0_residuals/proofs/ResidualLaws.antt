@@ -15,7 +15,7 @@ use Rattle.rules.specs.Phases.{BlockRecord, block-records, row-records, store-s
 use Rattle.rules.specs.declared.reader.Bits.{Bits}
 use Rattle.rules.specs.declared.v0.V0Row.{V0Row}
 use Rattle.v0_stream.specs.Block.{with-residuals, whole-block}
-use Rattle.window.specs.Window.{state-at}
+use Rattle.read_window.specs.Window.{state-at}
 use Rattle.v0_windows.specs.ByWindow.{HeadAt, Ends, residuals-of}
 use Rattle.v0_windows.specs.declared.WindowHead.{WindowHead}
 use Rattle.v0_windows.specs.declared.Plan.{Plan}

@@ -9,7 +9,7 @@ use Rattle.rules.specs.V0.{order, blocks-in}
 use Rattle.rules.specs.Phases.{store-samples}
 use Rattle.rules.specs.declared.reader.Bits.{Bits}
 use Rattle.rules.specs.declared.v0.V0Row.{V0Row}
-use Rattle.window.specs.Window.{state-at, Standing, standing-in}
+use Rattle.read_window.specs.Window.{state-at, Standing, standing-in}
 use Rattle.v0_stream.specs.Lengths.{Within}
 use Rattle.v0_stream.proofs.BlockLaws.{block-within}
 use Rattle.v0_windows.specs.ByWindow.{Ahead, HeadAt, last-start, short, Ends, residuals-of}

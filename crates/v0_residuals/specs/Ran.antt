@@ -5,7 +5,7 @@ use mathlib.Core.List.{List}
 use lib.ListN.{length}
 use Rattle.rules.specs.V0.{blocks-in}
 use Rattle.rules.specs.declared.v0.V0Row.{V0Row}
-use Rattle.window.specs.Window.{state-at}
+use Rattle.read_window.specs.Window.{state-at}
 use Rattle.v0_windows.specs.ByWindow.{Ahead}
 use Rattle.v0_residuals.specs.Parsed.{Parsed}
 use Rattle.v0_residuals.specs.declared.run.Point.{Point}

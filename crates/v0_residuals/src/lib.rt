@@ -15,6 +15,11 @@ ghost use Rattle.v0_cells.specs.Places.{PhaseLent};
 ghost use Rattle.v0_residuals.specs.Lent.{RowLent, BlockLent, RunLent};
 ghost use Rattle.v0_residuals.specs.Parsed.{Parsed};
 ghost use Rattle.v0_residuals.specs.Ran.{Ran};
+use read_window::BACK_BITS;
+use read_window::BACK_BYTES;
+use read_window::SHORT_BITS;
+use read_window::stands_within;
+use read_window::state_at;
 use rules::Size;
 use rules::V0Row;
 use run::Run;
@@ -27,11 +32,6 @@ use v0_windows::four_at;
 use v0_windows::four_long_at;
 use v0_windows::plan_of;
 use v0_windows::window_head;
-use window::BACK_BITS;
-use window::BACK_BYTES;
-use window::SHORT_BITS;
-use window::stands_within;
-use window::state_at;
 
 // A block's direction as a byte.
 fn direction_byte(up: bool) -> u8

@@ -12,13 +12,17 @@ ghost use Prim.Native.Nat.{ℕ, _+_, _-_, _*_, _/_, _≤_};
 ghost use lib.ListN.{length};
 ghost use Rattle.rules.specs.V0.{order};
 ghost use Rattle.rules.specs.Phases.{store-samples};
-ghost use Rattle.window.specs.Window.{Standing, standing-in};
+ghost use Rattle.read_window.specs.Window.{Standing, standing-in};
 ghost use Rattle.v0_windows.specs.ByWindow.{Ahead, last-start, Short, short, Ends, residuals-of};
 ghost use Rattle.v0_windows.specs.Run.{run-length, blocks-of-run};
 ghost use Rattle.v0_residuals.specs.Lent.{RunLent};
 ghost use Rattle.v0_residuals.specs.Ran.{RanAt, Ran, row-at};
 use super::direction_byte;
 use super::store_four;
+use read_window::BACK_BITS;
+use read_window::BACK_BYTES;
+use read_window::stands_within;
+use read_window::state_at;
 use rules::V0Row;
 use v0_windows::BLOCK_BYTES;
 use v0_windows::WindowHead;
@@ -27,10 +31,6 @@ use v0_windows::four_at;
 use v0_windows::last_start;
 use v0_windows::plan_of;
 use v0_windows::window_head;
-use window::BACK_BITS;
-use window::BACK_BYTES;
-use window::stands_within;
-use window::state_at;
 
 // A point in a row: a block's number, the bit that it begins at, and the lengths before it.
 pub struct Point {

@@ -17,8 +17,8 @@ use borrow.Author.Tests.{ne-eqb}
 use Rattle.rules.specs.Reader.{read, four}
 use Rattle.rules.specs.V0.{operated, operate, head, fresh-row}
 use Rattle.rules.proofs.ReaderLaws.{read-below, fields-more, total, cut, four-fields}
-use Rattle.bits.specs.Refilled.{Whole}
-use Rattle.bits.proofs.WholeLaws.{fields-whole}
+use Rattle.read_bits.specs.Refilled.{Whole}
+use Rattle.read_bits.proofs.WholeLaws.{fields-whole}
 use Rattle.rules.specs.declared.reader.Bits.{Bits}
 use Rattle.rules.specs.declared.reader.Got.{Got}
 use Rattle.rules.specs.declared.reader.Four.{Four}

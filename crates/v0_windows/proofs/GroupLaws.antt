@@ -19,8 +19,8 @@ use Rattle.rules.specs.declared.reader.Bits.{Bits}
 use Rattle.rules.specs.declared.v0.V0Row.{V0Row}
 use Rattle.rules.proofs.ReaderLaws.{four-fields}
 use Rattle.rules.proofs.Tests.{both}
-use Rattle.window.specs.Window.{bits-from, state-at, values-at, span, none, also, Window, Standing}
-use Rattle.window.proofs.WindowLaws.{fields-at, window-words, pair-top}
+use Rattle.read_window.specs.Window.{bits-from, state-at, values-at, span, none, also, Window, Standing}
+use Rattle.read_window.proofs.WindowLaws.{fields-at, window-words, pair-top}
 use Rattle.v0_stream.specs.Block.{with-residuals, whole-block}
 use Rattle.v0_windows.specs.ByWindow.{residual, Room, HeadAt, head-of, Ahead, last-start, Plans, Short, short-length, short, Group, joined, residuals-of, Ends}
 use Rattle.v0_windows.specs.declared.WindowHead.{WindowHead}

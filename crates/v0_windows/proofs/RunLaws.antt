@@ -9,7 +9,7 @@ use lib.IntN.{ℤ}
 use borrow.Author.Tests.{le-leb, lt-leb}
 use Rattle.rules.specs.V0.{head}
 use Rattle.rules.specs.declared.v0.V0Row.{V0Row}
-use Rattle.window.specs.Window.{state-at}
+use Rattle.read_window.specs.Window.{state-at}
 use Rattle.v0_stream.specs.Block.{whole-block}
 use Rattle.v0_windows.specs.ByWindow.{HeadAt, Ends, short}
 use Rattle.v0_windows.specs.Run.{goes-on, run-length}

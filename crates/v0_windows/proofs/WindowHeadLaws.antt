@@ -16,8 +16,8 @@ use borrow.Author.Tests.{eqb-true, eqb-false}
 use Rattle.rules.specs.Reader.{read, four}
 use Rattle.rules.specs.V0.{operated, head}
 use Rattle.rules.specs.declared.v0.V0Length.{V0Length}
-use Rattle.window.specs.Window.{bits-from, state-at, Window}
-use Rattle.window.proofs.WindowLaws.{window-words, Reads, in-window, read-at}
+use Rattle.read_window.specs.Window.{bits-from, state-at, Window}
+use Rattle.read_window.proofs.WindowLaws.{window-words, Reads, in-window, read-at}
 use Rattle.v0_stream.specs.Lengths.{stepped, Within, furthest}
 use Rattle.v0_windows.specs.ByWindow.{Room, length-in, HeadAt}
 use Rattle.v0_windows.specs.declared.WindowLength.{WindowLength}

@@ -12,7 +12,7 @@ use lib.Signed.{leZ}
 use Rattle.rules.specs.Reader.{signed, modulo}
 use Rattle.rules.specs.V0.{head, length-bits}
 use Rattle.rules.specs.declared.v0.V0Head.{V0Head}
-use Rattle.window.specs.Window.{state-at, FourAt}
+use Rattle.read_window.specs.Window.{state-at, FourAt}
 use Rattle.v0_stream.specs.Block.{with-residuals}
 use Rattle.v0_stream.specs.Lengths.{stepped}
 use Rattle.v0_windows.specs.declared.WindowLength.{WindowLength}

@@ -7,7 +7,7 @@ use lib.ListN.{length}
 use Rattle.rules.specs.V0.{head}
 use Rattle.rules.specs.declared.reader.Bits.{Bits}
 use Rattle.rules.specs.declared.v0.V0Row.{V0Row}
-use Rattle.window.specs.Window.{standing-in}
+use Rattle.read_window.specs.Window.{standing-in}
 use Rattle.v0_stream.specs.Block.{whole-block}
 use Rattle.v0_windows.specs.ByWindow.{last-start, short}
 

@@ -8,11 +8,11 @@ ghost use lib.ListN.{length};
 ghost use lib.Signed.{mag};
 ghost use Rattle.v0_windows.specs.ByWindow.{residual, Room, length-in, HeadAt, last-start, Plans, short-length, short, Group};
 ghost use Rattle.v0_stream.specs.Lengths.{Within, furthest};
-use fields::field;
-use fields::power;
+use read_fields::field;
+use read_fields::power;
+use read_window::window;
 use v0_stream::block::residual_length;
 use v0_stream::head::step;
-use window::window;
 
 // The bytes that have to be there from the word fetched last on: a block ends at most 569 bits after that word's start, in the
 // eighteenth word, and a window may reach into the next but one.

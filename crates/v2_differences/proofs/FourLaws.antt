@@ -13,8 +13,8 @@ use Rattle.rules.specs.V2.{position, differences-from}
 use Rattle.rules.specs.declared.reader.Bits.{Bits}
 use Rattle.rules.proofs.ReaderLaws.{read-signed-is}
 use Rattle.rules.proofs.Tests.{both}
-use Rattle.window.specs.Window.{bits-from, state-at, FourAt, Standing}
-use Rattle.window.proofs.WindowLaws.{read-at}
+use Rattle.read_window.specs.Window.{bits-from, state-at, FourAt, Standing}
+use Rattle.read_window.proofs.WindowLaws.{read-at}
 use Rattle.v2_differences.specs.Four.{Short, short}
 use Rattle.v2_differences.specs.Positions.{row-positions, stored-four}
 use Rattle.v2_differences.proofs.DifferenceLaws.{difference-more, difference-end}

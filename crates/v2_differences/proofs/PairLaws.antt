@@ -11,8 +11,8 @@ use Rattle.rules.proofs.ReaderLaws.{fields-pair, read-signed-is}
 use Rattle.rules.specs.declared.reader.Bits.{Bits}
 use Rattle.rules.specs.declared.reader.Got.{Got}
 use Rattle.rules.specs.declared.reader.Signed.{Signed}
-use Rattle.bits.specs.Refilled.{Whole}
-use Rattle.bits.proofs.WholeLaws.{pair-whole}
+use Rattle.read_bits.specs.Refilled.{Whole}
+use Rattle.read_bits.proofs.WholeLaws.{pair-whole}
 use Rattle.v2_differences.specs.Pairs.{signed-pair}
 use Rattle.v2_differences.specs.declared.Pair.{Pair}
 use Rattle.v2_differences.proofs.DifferenceLaws.{difference-more}

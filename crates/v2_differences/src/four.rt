@@ -3,9 +3,9 @@ ghost use mathlib.Core.Path.{_≡_};
 ghost use Prim.Native.Nat.{_+_, _-_, _*_, _/_, _%_, _^_, _≤_, _<_};
 ghost use lib.ListN.{length};
 ghost use Rattle.rules.specs.Reader.{signed};
-ghost use Rattle.window.specs.Window.{FourAt};
-use fields::power;
-use window::window;
+ghost use Rattle.read_window.specs.Window.{FourAt};
+use read_fields::power;
+use read_window::window;
 
 // The number that the lowest n bits of x are in two's complement. A sum, a remainder and a difference, with no test of the sign.
 fn low(x: u64, n: u32) -> i32

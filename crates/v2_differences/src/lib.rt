@@ -3,25 +3,25 @@ ghost use mathlib.Core.Path.{_≡_};
 ghost use Prim.Native.Nat.{ℕ, _+_, _<_};
 ghost use lib.ListN.{getD};
 ghost use Rattle.rules.specs.V2.{differences-from};
-ghost use Rattle.window.specs.Window.{Standing};
+ghost use Rattle.read_window.specs.Window.{Standing};
 ghost use Rattle.v2_differences.specs.Four.{Short, short};
 ghost use Rattle.v2_differences.specs.Pairs.{signed-pair};
 ghost use Rattle.v2_differences.specs.Positions.{row-positions, positions, OfARow, stored-four};
 
 mod four;
 
-use bits::get_whole;
-use bits::read_signed;
-use fields::field;
-use fields::signed_of;
 use four::four_at;
+use read_bits::get_whole;
+use read_bits::read_signed;
+use read_fields::field;
+use read_fields::signed_of;
+use read_window::BACK_BITS;
+use read_window::BACK_BYTES;
+use read_window::SHORT_BITS;
+use read_window::stands_within;
+use read_window::state_at;
 use rules::Bits;
 use rules::V2Row;
-use window::BACK_BITS;
-use window::BACK_BYTES;
-use window::SHORT_BITS;
-use window::stands_within;
-use window::state_at;
 
 // Where the sixteen differences go in even rows, and in odd ones: docs/RULES.md, "V2", a block's differences.
 const POSITIONS: [[u8; 16]; 2] = [

@@ -4,7 +4,7 @@ ghost use Prim.Native.Nat.{_≤_, _<_};
 ghost use Rattle.rules.specs.V2.{lengths-bit, colour, read-length, flagged-lengths, read-lengths};
 ghost use Rattle.v2_stream.specs.Colours.{colours, moded};
 use super::header::skips_bit;
-use bits::four::read_flags;
+use read_bits::four::read_flags;
 use rules::Bits;
 use rules::Got;
 use rules::V2Hdr;
@@ -17,7 +17,7 @@ fn lengths_bit(src: &[u8], hdr: V2Hdr, bits: Bits) -> Got
     if skips_bit(hdr) {
         Got { value: 0, bits }
     } else {
-        bits::get(src, bits, 1)
+        read_bits::get(src, bits, 1)
     }
 }
 
@@ -37,7 +37,7 @@ fn next_length(src: &[u8], flag: u32, first: u32, bits: Bits) -> Got
     ensures { λ r. ⌜ r ≡ read-length (now (src .entry)) flag first bits ⌝ }
 {
     if flag == 3 {
-        return bits::get(src, bits, 4);
+        return read_bits::get(src, bits, 4);
     }
     let less = std::num::wrapping_sub_u32(flag / 2, flag % 2);
     Got {

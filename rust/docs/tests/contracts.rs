@@ -6,7 +6,7 @@ use docs::markdown::names;
 use docs::{hold, text, texts};
 
 /// What is interface besides the exports and what they call: the job, and the host's reader.
-const BESIDES: [&str; 3] = ["razvolk", "job", "ph1bits"];
+const BESIDES: [&str; 3] = ["razvolk", "job", "read_ph1bits"];
 
 /// The crates that the page names.
 fn interface() -> Vec<String> {

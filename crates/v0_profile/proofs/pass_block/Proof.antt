@@ -5,7 +5,7 @@ use Prim.Native.Nat.{_-_}
 use native.Mathlib.Omega.{arith}
 use denote.Ref.{now}
 use borrow.Author.Needs.{needs}
-use Rattle.window.specs.Window.{Standing}
+use Rattle.read_window.specs.Window.{Standing}
 use Rattle.v0_windows.specs.ByWindow.{Ahead}
 use Rattle.v0_windows.proofs.GroupLaws.{standing-ahead, ahead-room, after-head, end-room}
 use Rattle.v0_profile.proofs.PassLaws.{plan-ahead, passed}

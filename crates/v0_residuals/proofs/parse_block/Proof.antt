@@ -3,7 +3,7 @@ use Prim.Native.Nat.{_-_}
 use native.Mathlib.Omega.{arith}
 use denote.Ref.{now}
 use borrow.Author.Needs.{needs}
-use Rattle.window.specs.Window.{Standing}
+use Rattle.read_window.specs.Window.{Standing}
 use Rattle.v0_windows.specs.ByWindow.{Ahead}
 use Rattle.v0_windows.proofs.GroupLaws.{standing-ahead, ahead-room, after-head, ahead-end, end-room}
 use Rattle.v0_residuals.proofs.ResidualLaws.{position-parsed}

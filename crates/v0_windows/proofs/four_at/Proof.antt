@@ -1,7 +1,7 @@
 -- Four fields up to the end of a window: each is cut after those behind it are moved out.
 use lib.Pow.{pow-pos}
 use denote.Ref.{now}
-use Rattle.window.proofs.WindowLaws.{four-made}
+use Rattle.read_window.proofs.WindowLaws.{four-made}
 use Rattle.v0_windows.specs.ByWindow.{residual}
 use borrow.Author.Needs.{needs}
 use Rattle.v0_windows.proofs.four_at.Statement.{statement}

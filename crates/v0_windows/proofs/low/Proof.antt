@@ -2,7 +2,7 @@
 use mathlib.Core.Path.{sym, ap, _∙_}
 use native.Mathlib.Omega.{arith}
 use Rattle.rules.specs.Reader.{modulo}
-use Rattle.window.proofs.SignLaws.{Low, low-made, modulo-minus}
+use Rattle.read_window.proofs.SignLaws.{Low, low-made, modulo-minus}
 use borrow.Author.Needs.{needs}
 use Rattle.v0_windows.proofs.low.Statement.{statement}
 use Rattle.v0_windows.proofs.low.Tie as tie

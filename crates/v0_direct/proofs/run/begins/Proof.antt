@@ -9,7 +9,7 @@ use denote.Ref.{now}
 use borrow.Author.Needs.{needs}
 use borrow.Author.Tests.{not-true, not-false, eq-eqb, ne-eqb}
 use Rattle.rules.specs.declared.reader.Bits.{Bits}
-use Rattle.window.specs.Window.{Standing}
+use Rattle.read_window.specs.Window.{Standing}
 use Rattle.v0_windows.specs.ByWindow.{short}
 use Rattle.v0_direct.specs.Run.{inner}
 use Rattle.v0_direct.proofs.RunLaws.{begins-edge, begins-missing, begins-long, begins-if}

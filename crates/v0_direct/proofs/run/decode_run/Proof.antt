@@ -5,7 +5,7 @@ use native.Mathlib.Omega.{arith}
 use denote.Ref.{now}
 use borrow.Author.Needs.{needs}
 use borrow.Author.Tests.{not-true, not-false}
-use Rattle.window.specs.Window.{Standing}
+use Rattle.read_window.specs.Window.{Standing}
 use Rattle.v0_windows.proofs.GroupLaws.{standing-ahead}
 use Rattle.v0_direct.specs.Run.{run-begins}
 use Rattle.v0_direct.proofs.RowLaws.{none-ran}

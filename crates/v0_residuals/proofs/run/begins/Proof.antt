@@ -7,7 +7,7 @@ use native.Mathlib.Omega.{arith}
 use borrow.Author.Needs.{needs}
 use borrow.Author.Tests.{not-true, not-false}
 use Rattle.rules.specs.declared.reader.Bits.{Bits}
-use Rattle.window.specs.Window.{Standing}
+use Rattle.read_window.specs.Window.{Standing}
 use Rattle.v0_residuals.proofs.run.begins.Statement.{statement}
 use Rattle.v0_residuals.proofs.run.begins.Tie as tie
 

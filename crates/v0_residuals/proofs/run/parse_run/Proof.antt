@@ -7,7 +7,7 @@ use native.Mathlib.Omega.{arith}
 use denote.Ref.{now}
 use borrow.Author.Needs.{needs}
 use borrow.Author.Tests.{not-true, not-false}
-use Rattle.window.specs.Window.{Standing, standing-in}
+use Rattle.read_window.specs.Window.{Standing, standing-in}
 use Rattle.v0_windows.specs.ByWindow.{short}
 use Rattle.v0_windows.proofs.GroupLaws.{standing-ahead}
 use Rattle.v0_residuals.specs.Ran.{none}

@@ -5,7 +5,7 @@ use mir.ValLaws.{toZ-ofZ}
 use denote.Ref.{now}
 use borrow.Author.Needs.{needs}
 use Rattle.rules.specs.Reader.{signed}
-use Rattle.window.proofs.WindowLaws.{four-made}
+use Rattle.read_window.proofs.WindowLaws.{four-made}
 use Rattle.v2_differences.proofs.four.four_at.Statement.{statement}
 use Rattle.v2_differences.proofs.four.four_at.Tie as tie
 

@@ -12,7 +12,7 @@ use mir.ValLaws.{toZ-ofZ, toZ-pos}
 use borrow.Author.Needs.{needs}
 use Rattle.rules.specs.Reader.{signed}
 use Rattle.rules.proofs.ReaderLaws.{signed-mag}
-use Rattle.window.proofs.SignLaws.{Low, low-made}
+use Rattle.read_window.proofs.SignLaws.{Low, low-made}
 use Rattle.v2_differences.proofs.four.low.Statement.{statement}
 use Rattle.v2_differences.proofs.four.low.Tie as tie
 

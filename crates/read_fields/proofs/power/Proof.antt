@@ -1,0 +1,15 @@
+-- 1 moved up by less than 64 loses nothing.
+use native.Mathlib.Nat.{one-mul, mod-eq-of-lt}
+use lib.Pow.{pow-lt}
+use borrow.Author.Needs.{needs}
+use Rattle.read_fields.proofs.power.Statement.{statement}
+use Rattle.read_fields.proofs.power.Tie as tie
+
+shl-result : tie.Need-shl-result
+shl-result c = search needs
+
+returns : tie.Need-returns
+returns c = rw one-mul (mod-eq-of-lt (pow-lt (c .pre)))
+
+pub power-spec : {M : Type 1} → statement M
+power-spec = tie.close (tie.spec shl-result returns)
