@@ -15,8 +15,8 @@ use refusals::refuse_direct;
 use refusals::refused;
 use rules::Answer;
 use rules::Size;
+use v0_clean::check_frame;
 use v0_direct::frame::decode_frame;
-use v0_profile::check_frame;
 
 // Decodes a frame if it is clean; else returns its first fault, and changes nothing.
 fn decode_checked(src: &[u8], offsets: &[u32], size: Size, out: &mut [u16]) -> Answer

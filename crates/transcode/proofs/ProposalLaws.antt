@@ -18,7 +18,7 @@ use Rattle.refusals.specs.Lending.{short}
 use Rattle.refusals.specs.declared.Lending.the-variants.{Nothing, Length}
 use Rattle.refusals.proofs.RefusalLaws.{Room, room, long-enough}
 use Rattle.rules_clean.specs.Profile.{verdict}
-use Rattle.v0_profile.specs.Lent.{Lends}
+use Rattle.v0_clean.specs.Lent.{Lends}
 use Rattle.writers.specs.Writer.{stream-for}
 use Rattle.packed.specs.Proposal.{Proposal, frame-of, before, scratch-after, same, answer, Yields}
 use Rattle.packed.specs.Proposal as Proposals

@@ -12,7 +12,7 @@ use refusals::refused;
 use rules::Answer;
 use rules::Size;
 use samsung::decode_v0_reference;
-use v0_profile::check_frame;
+use v0_clean::check_frame;
 
 // What is answered before a sample is decoded: done, if nothing is wrong so far.
 fn check_before(

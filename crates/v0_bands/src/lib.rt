@@ -18,8 +18,8 @@ use rules_bands::late_rows;
 use v0_cells::exchange::exchange;
 use v0_cells::exchange::exchange_columns;
 use v0_direct::frame::decode_v0_head;
-use v0_predictions::add_part;
-use v0_residuals::parse_rows;
+use v0_phase1::parse_rows;
+use v0_phase2::add_part;
 
 // The smaller of two numbers.
 fn least(a: usize, b: usize) -> usize

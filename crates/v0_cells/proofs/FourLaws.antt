@@ -7,10 +7,10 @@ use native.Mathlib.Omega.{arith}
 use lib.ListN.{getD, set}
 use Rattle.rules.specs.V0.{Kind, put, apply, order, rows-up, columns-back}
 use Rattle.rules.specs.declared.v0.Predictor.the-variants.{Sample}
-use Rattle.v0_windows.specs.ByWindow.{residuals-of}
-use Rattle.v0_windows.specs.declared.WindowHead.{WindowHead}
-use Rattle.v0_windows.specs.declared.Plan.{Plan}
-use Rattle.v0_windows.proofs.GroupLaws.{ByPosition, groups-are}
+use Rattle.v0_parse_window.specs.ByWindow.{residuals-of}
+use Rattle.v0_parse_window.specs.declared.WindowHead.{WindowHead}
+use Rattle.v0_parse_window.specs.declared.Plan.{Plan}
+use Rattle.v0_parse_window.proofs.GroupLaws.{ByPosition, groups-are}
 use Rattle.v0_cells.specs.Inner.{source-of, inner-ops}
 use Rattle.v0_cells.proofs.InnerLaws.{rows-most}
 

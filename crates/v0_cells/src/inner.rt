@@ -12,7 +12,7 @@ ghost use Rattle.v0_cells.specs.Places.{Whole, Inner, Inside, Low};
 ghost use Rattle.v0_cells.specs.Inner.{source-of, inner-ops, Replaced};
 use rules::Size;
 use rules::V0Row;
-use v0_stream::order::stream_column;
+use v0_parse::order::stream_column;
 
 // Where sample c predicts from.
 fn source(w: usize, base: usize, up: bool, c: usize) -> usize

@@ -19,9 +19,9 @@ use Rattle.rules.specs.declared.v0.Predictor.{Predictor}
 use Rattle.rules.specs.declared.v0.Predictor.the-variants.{Sample}
 use Rattle.rules.specs.declared.v0.V0Row.{V0Row}
 use Rattle.v0_cells.specs.Places.{InFrame, Inner}
-use Rattle.v0_stream.specs.Block.{with-residuals, whole-block}
-use Rattle.v0_stream.specs.declared.block.ReadBlock.{ReadBlock}
-use Rattle.v0_stream.proofs.OrderLaws.{order-below}
+use Rattle.v0_parse.specs.Block.{with-residuals, whole-block}
+use Rattle.v0_parse.specs.declared.block.ReadBlock.{ReadBlock}
+use Rattle.v0_parse.proofs.OrderLaws.{order-below}
 use Rattle.v0_direct.specs.Block.{block-ops, after-block, Decoded}
 use Rattle.v0_direct.specs.Run.{inner}
 use Rattle.v0_cells.specs.Inner.{source-of, inner-ops}

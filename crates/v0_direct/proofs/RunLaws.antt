@@ -18,13 +18,13 @@ use Rattle.rules.specs.declared.answer.Size.{Size}
 use Rattle.rules.specs.declared.reader.Bits.{Bits}
 use Rattle.rules.specs.declared.v0.V0Row.{V0Row}
 use Rattle.read_window.specs.Window.{state-at, Standing, standing-in}
-use Rattle.v0_stream.specs.Lengths.{Within, furthest}
-use Rattle.v0_stream.proofs.HeadLaws.{within-more, head-within}
-use Rattle.v0_windows.specs.ByWindow.{Room, Ahead, HeadAt, last-start, short, Ends, residuals-of}
-use Rattle.v0_windows.specs.Run.{run-length}
-use Rattle.v0_windows.specs.declared.WindowHead.{WindowHead}
-use Rattle.v0_windows.proofs.GroupLaws.{ahead-end, block-read, after-head}
-use Rattle.v0_windows.proofs.RunLaws.{run-over, run-late, run-long, run-more}
+use Rattle.v0_parse.specs.Lengths.{Within, furthest}
+use Rattle.v0_parse.proofs.HeadLaws.{within-more, head-within}
+use Rattle.v0_parse_window.specs.ByWindow.{Room, Ahead, HeadAt, last-start, short, Ends, residuals-of}
+use Rattle.v0_parse_window.specs.Run.{run-length}
+use Rattle.v0_parse_window.specs.declared.WindowHead.{WindowHead}
+use Rattle.v0_parse_window.proofs.GroupLaws.{ahead-end, block-read, after-head}
+use Rattle.v0_parse_window.proofs.RunLaws.{run-over, run-late, run-long, run-more}
 use Rattle.v0_cells.specs.Inner.{inner-ops}
 use Rattle.v0_cells.specs.Places.{InFrame, Inner}
 use Rattle.v0_cells.proofs.InnerLaws.{inner-inside}

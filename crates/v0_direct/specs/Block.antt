@@ -10,7 +10,7 @@ use Rattle.rules.specs.declared.answer.Size.{Size}
 use Rattle.rules.specs.declared.reader.Bits.{Bits}
 use Rattle.rules.specs.declared.v0.V0Row.{V0Row}
 use Rattle.rules.specs.declared.v0.V0Head.{V0Head}
-use Rattle.v0_stream.specs.Lengths.{Within}
+use Rattle.v0_parse.specs.Lengths.{Within}
 
 -- The samples `cs` of the block at a column of a row, after the block's head.
 abbrev pub samples-of : List ℕ → Size → ℕ → ℕ → V0Head → List ℕ → Bits → Ops

@@ -7,7 +7,7 @@ use lib.ListN.{length}
 use Rattle.rules.specs.Frame.{cells}
 use Rattle.rules.specs.declared.answer.Size.{Size}
 use Rattle.v0_cells.specs.Places.{Whole}
-use Rattle.v0_stream.specs.Lengths.{Within, furthest}
+use Rattle.v0_parse.specs.Lengths.{Within, furthest}
 
 -- What a call of the decoder is lent, once refusals 1, 3 and 4 are passed.
 pub record Lends (z : Size) (offsets out map : List ℕ) : Type 0 where

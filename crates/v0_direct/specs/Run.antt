@@ -10,9 +10,9 @@ use Rattle.rules.specs.Map.{v0-marks}
 use Rattle.rules.specs.declared.answer.Size.{Size}
 use Rattle.rules.specs.declared.v0.V0Row.{V0Row}
 use Rattle.read_window.specs.Window.{state-at, standing-in}
-use Rattle.v0_stream.specs.Lengths.{Within}
-use Rattle.v0_windows.specs.ByWindow.{Ahead, short}
-use Rattle.v0_windows.specs.Run.{last-bit, run-length}
+use Rattle.v0_parse.specs.Lengths.{Within}
+use Rattle.v0_parse_window.specs.ByWindow.{Ahead, short}
+use Rattle.v0_parse_window.specs.Run.{last-bit, run-length}
 use Rattle.v0_cells.specs.Inner.{inner-ops}
 use Rattle.v0_lanes.specs.Blocks.{predict-lanes}
 use Rattle.v0_direct.specs.Block.{BlockRun}

@@ -6,7 +6,7 @@ ghost use Rattle.rules.specs.V0 as V0;
 ghost use Rattle.rules.specs.Reader.{has-filler};
 ghost use Rattle.rules.specs.Frame.{cells, ended};
 ghost use Rattle.rules.specs.Map.{with-filler, v0-marks};
-ghost use Rattle.v0_windows.specs.ByWindow.{Ahead, Ends, residuals-of};
+ghost use Rattle.v0_parse_window.specs.ByWindow.{Ahead, Ends, residuals-of};
 ghost use Rattle.v0_cells.specs.Inner.{inner-ops};
 ghost use Rattle.v0_cells.specs.Places.{InFrame, Inner};
 ghost use Rattle.v0_lanes.specs.Blocks.{Tables};
@@ -29,14 +29,14 @@ use rules::V0Row;
 use v0_cells::inner::mark_block;
 use v0_cells::inner::put_four;
 use v0_cells::inner::put_inner;
-use v0_stream::block::read_block;
-use v0_stream::block::read_block_head;
-use v0_windows::BLOCK_BYTES;
-use v0_windows::WindowHead;
-use v0_windows::four_at;
-use v0_windows::four_long_at;
-use v0_windows::plan_of;
-use v0_windows::window_head;
+use v0_parse::block::read_block;
+use v0_parse::block::read_block_head;
+use v0_parse_window::BLOCK_BYTES;
+use v0_parse_window::WindowHead;
+use v0_parse_window::four_at;
+use v0_parse_window::four_long_at;
+use v0_parse_window::plan_of;
+use v0_parse_window::window_head;
 
 // Whether a block is an inner one: from row 2 on, after column 0 and inside its row.
 pub fn is_inner(size: Size, row: usize, col: usize) -> bool

@@ -14,8 +14,8 @@ ghost use Prim.Native.Nat.{_+_, _-_, _*_, _/_, _<_};
 ghost use lib.ListN.{length};
 ghost use Rattle.rules.specs.Frame.{cells};
 ghost use Rattle.read_window.specs.Window.{Standing};
-ghost use Rattle.v0_windows.specs.ByWindow.{Ahead, last-start, short};
-ghost use Rattle.v0_windows.specs.Run.{run-length};
+ghost use Rattle.v0_parse_window.specs.ByWindow.{Ahead, last-start, short};
+ghost use Rattle.v0_parse_window.specs.Run.{run-length};
 ghost use Rattle.v0_cells.specs.Places.{InFrame, Inner, Whole};
 ghost use Rattle.v0_lanes.specs.Blocks.{Tables};
 ghost use Rattle.v0_direct.specs.Lent.{RunLent};
@@ -37,9 +37,9 @@ use v0_lanes::lengths::lengths_after;
 use v0_lanes::lengths::packed;
 use v0_lanes::lengths::unpacked;
 use v0_lanes::predictions::predict;
-use v0_windows::BLOCK_BYTES;
-use v0_windows::are_short;
-use v0_windows::last_start;
+use v0_parse_window::BLOCK_BYTES;
+use v0_parse_window::are_short;
+use v0_parse_window::last_start;
 
 // Where a run ends: the column after its last block, and the row's state there.
 pub struct Run {

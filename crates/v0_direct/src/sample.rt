@@ -15,8 +15,8 @@ use rules::V0Row;
 use v0_cells::cells::predict;
 use v0_cells::cells::put;
 use v0_cells::cells::put_mark;
-use v0_stream::block::residual_bits;
-use v0_stream::order::stream_column;
+use v0_parse::block::residual_bits;
+use v0_parse::order::stream_column;
 
 // Sample c of a block after its head.
 fn decode_sample(

@@ -6,9 +6,9 @@ use Prim.Native.Nat.{ℕ, _+_, _-_, _*_, _/_, _%_, _^_, _≤_, _<_}
 use native.Mathlib.Omega.{arith}
 use lib.ListN.{length}
 use Rattle.rules.specs.V0.{length-bits}
-use Rattle.v0_windows.specs.ByWindow.{Ahead, Plans, Group, Ends, residuals-of}
-use Rattle.v0_windows.specs.declared.Plan.{Plan}
-use Rattle.v0_windows.proofs.GroupLaws.{ByPosition, groups-are, groups-end}
+use Rattle.v0_parse_window.specs.ByWindow.{Ahead, Plans, Group, Ends, residuals-of}
+use Rattle.v0_parse_window.specs.declared.Plan.{Plan}
+use Rattle.v0_parse_window.proofs.GroupLaws.{ByPosition, groups-are, groups-end}
 use Rattle.v0_lanes.specs.Blocks.{four-set, stored, listed, head-before}
 use Rattle.v0_lanes.specs.Lanes.{lanes-of}
 use Rattle.v0_lanes.specs.Lengths.{byte0, byte1, byte2, byte3, Packed, lengths-of}

@@ -11,9 +11,9 @@ use mir.Syntax.{w32}
 use mir.Val.{SFits}
 use mir.ValLaws.{toZ-ofZ}
 use Rattle.rules.proofs.Tests.{by-test}
-use Rattle.v0_stream.specs.Lengths.{Within, furthest}
-use Rattle.v0_windows.specs.ByWindow.{Room, length-in, HeadAt}
-use Rattle.v0_windows.proofs.WindowHeadLaws.{head-made}
+use Rattle.v0_parse.specs.Lengths.{Within, furthest}
+use Rattle.v0_parse_window.specs.ByWindow.{Room, length-in, HeadAt}
+use Rattle.v0_parse_window.proofs.WindowHeadLaws.{head-made}
 use Rattle.read_window.specs.Window.{Window}
 use Rattle.v0_lanes.specs.Lengths.{byte0, byte1, byte2, byte3, Packed, lengths-of, lengths-after, left1, left2, left3, left4, HeadOf}
 use Rattle.v0_lanes.specs.declared.lengths.PackedHead.{PackedHead}

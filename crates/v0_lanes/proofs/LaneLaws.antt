@@ -14,7 +14,7 @@ use Rattle.rules.proofs.ReaderLaws.{signed-low, signed-high, modulo-below}
 use Rattle.rules.proofs.Tests.{by-test}
 use Rattle.read_window.specs.Window.{Window}
 use Rattle.read_window.proofs.WindowLaws.{four-made}
-use Rattle.v0_windows.specs.ByWindow.{residual, Group}
+use Rattle.v0_parse_window.specs.ByWindow.{residual, Group}
 use Rattle.v0_lanes.specs.Lanes.{lanes, lanes-of, residual-lanes, LanesBelow}
 
 -- ── Lanes of any width ──

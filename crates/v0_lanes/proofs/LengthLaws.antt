@@ -14,9 +14,9 @@ use lib.Signed.{leZ}
 use lib.Pow.{pow-pos, pow-mono, low, field, mod-mod-pow, shr-shr}
 use borrow.Author.Tests.{le-ltb, ltb-true, ltb-false, le-leb, leb-true, leb-false, eq-eqb, ne-eqb, eqb-true, eqb-false}
 use Rattle.rules.proofs.Tests.{by-test, clash, both}
-use Rattle.v0_stream.specs.Lengths.{stepped}
+use Rattle.v0_parse.specs.Lengths.{stepped}
 use Rattle.rules.specs.V0.{length-bits}
-use Rattle.v0_windows.specs.ByWindow.{length-in, short-length, short}
+use Rattle.v0_parse_window.specs.ByWindow.{length-in, short-length, short}
 use Rattle.v0_lanes.specs.Lanes.{lanes}
 use Rattle.v0_lanes.specs.Lengths.{byte0, byte1, byte2, byte3, Packed, lengths-of, lengths-after, keep, step, reads, shift, action, actions, left1, left2, left3, left4, HeadOf}
 use Rattle.v0_lanes.specs.Tables.{Holds}

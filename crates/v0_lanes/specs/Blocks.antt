@@ -6,7 +6,7 @@ use mathlib.Core.Path.{_≡_}
 use lib.ListN.{length, getD, set}
 use Rattle.rules.specs.V0.{apply, order, sample-kind}
 use Rattle.v0_cells.specs.Inner.{inner-ops}
-use Rattle.v0_windows.specs.declared.WindowHead.{WindowHead}
+use Rattle.v0_parse_window.specs.declared.WindowHead.{WindowHead}
 use Rattle.v0_lanes.specs.Lengths.{lengths-of, lengths-after, actions}
 use Rattle.v0_lanes.specs.Tables.{Holds, shapes}
 use Rattle.v0_lanes.specs.declared.lengths.PackedHead.{PackedHead}

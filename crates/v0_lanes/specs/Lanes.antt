@@ -1,7 +1,7 @@
 -- Four numbers side by side in one number: four residuals of one length in lanes of 16 bits, four lengths in bytes.
 use Prim.Native.Nat.{ℕ, _+_, _-_, _*_, _/_, _%_, _^_, _<_}
 use mathlib.Core.List.{List, [], _∷_}
-use Rattle.v0_windows.specs.ByWindow.{residual}
+use Rattle.v0_parse_window.specs.ByWindow.{residual}
 
 -- Four lanes of k bits, the last one lowest.
 abbrev pub lanes : ℕ → ℕ → ℕ → ℕ → ℕ → ℕ

@@ -6,7 +6,7 @@ use mathlib.Core.List.{List, [], _∷_}
 use mathlib.Core.Path.{_≡_}
 use lib.Dec.{eqb}
 use lib.IntN.{ℤ, pos, subℕ}
-use Rattle.v0_windows.specs.ByWindow.{length-in}
+use Rattle.v0_parse_window.specs.ByWindow.{length-in}
 use Rattle.v0_lanes.specs.Lanes.{lanes}
 use Rattle.v0_lanes.specs.declared.lengths.PackedHead.{PackedHead}
 

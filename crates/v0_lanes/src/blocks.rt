@@ -4,7 +4,7 @@ ghost use mathlib.Core.Bool.{Bool};
 ghost use mathlib.Core.Path.{_≡_};
 ghost use Prim.Native.Nat.{_+_, _/_, _%_, _^_, _≤_};
 ghost use lib.ListN.{length};
-ghost use Rattle.v0_windows.specs.ByWindow.{Room, HeadAt, Ahead, Ends, residuals-of};
+ghost use Rattle.v0_parse_window.specs.ByWindow.{Room, HeadAt, Ahead, Ends, residuals-of};
 ghost use Rattle.v0_lanes.specs.Blocks.{four-set, stored, listed, head-after, head-before};
 ghost use Rattle.v0_lanes.specs.Lengths.{Packed, actions, lengths-of, block-end};
 ghost use Rattle.v0_lanes.specs.Tables.{Holds, shapes};

@@ -3,11 +3,11 @@
 ghost use mathlib.Core.Bool.{true};
 ghost use mathlib.Core.Path.{_≡_};
 ghost use Prim.Native.Nat.{_+_, _-_, _*_, _/_, _%_, _^_, _<_};
-ghost use Rattle.v0_windows.specs.ByWindow.{short};
+ghost use Rattle.v0_parse_window.specs.ByWindow.{short};
 ghost use Rattle.v0_lanes.specs.Lanes.{lanes};
 ghost use Rattle.v0_lanes.specs.Lengths.{Packed, HeadOf, actions, lengths-of, lengths-after, block-end, byte0, byte1, byte2};
 ghost use Rattle.v0_lanes.specs.Tables.{Holds};
-use v0_stream::block::residual_length;
+use v0_parse::block::residual_length;
 
 // Four short lengths in one number, and the four of a number. The remainders say that each is below 16.
 pub fn packed(lengths: [i32; 4]) -> u32

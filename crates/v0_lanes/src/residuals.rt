@@ -3,7 +3,7 @@
 ghost use mathlib.Core.Path.{_≡_};
 ghost use Prim.Native.Nat.{_+_, _-_, _*_, _/_, _%_, _^_, _≤_, _<_};
 ghost use lib.ListN.{length};
-ghost use Rattle.v0_windows.specs.ByWindow.{residual, Group};
+ghost use Rattle.v0_parse_window.specs.ByWindow.{residual, Group};
 ghost use Rattle.v0_lanes.specs.Lanes.{lanes, lanes-of, residual-lanes, LanesBelow};
 ghost use Rattle.v0_lanes.specs.Tables.{Holds, shapes};
 use read_window::window;

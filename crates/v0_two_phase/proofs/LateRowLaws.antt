@@ -9,8 +9,8 @@ use borrow.Rule.Slice.PartMut.{midOf, putMid}
 use Rattle.rules.specs.V0.{blocks-in}
 use Rattle.rules.specs.Phases.{row-records, store-blocks, direction, predict-blocks, sample-stage}
 use Rattle.rules.proofs.TwoPhase.{row-directions-length}
-use Rattle.v0_residuals.proofs.RowsLaws.{row-stored, row-directed}
-use Rattle.v0_predictions.proofs.PredictionLaws.{whole-row}
+use Rattle.v0_phase1.proofs.RowsLaws.{row-stored, row-directed}
+use Rattle.v0_phase2.proofs.PredictionLaws.{whole-row}
 use Rattle.v0_two_phase.specs.LateRow.{late-row}
 
 module _ (s : List ℕ) (w r offset : ℕ) where

@@ -10,7 +10,7 @@ ghost use Rattle.rules.specs.Phases as Phases;
 ghost use Rattle.rules.specs.Phases.{direction, row-records, sample-stage};
 ghost use Rattle.v0_cells.specs.Places.{PhaseLent};
 ghost use Rattle.v0_direct.specs.Freed.{freed-pairs};
-ghost use Rattle.v0_predictions.specs.Lent.{LateRow};
+ghost use Rattle.v0_phase2.specs.Lent.{LateRow};
 ghost use Rattle.v0_two_phase.specs.Lent.{Lends};
 ghost use Rattle.v0_two_phase.specs.LateRow.{late-row};
 use rules::Size;
@@ -18,8 +18,8 @@ use rules::V0Row;
 use v0_cells::exchange::exchange_samples;
 use v0_direct::frame::decode_v0_head;
 use v0_direct::frame::freed_pairs;
-use v0_predictions::add_part;
-use v0_residuals::parse_v0_residuals;
+use v0_phase1::parse_v0_residuals;
+use v0_phase2::add_part;
 
 // Row r + 2: its residuals stored and its directions kept, then at once its predictions added, while its samples are in the cache.
 fn decode_late_row(src: &[u8], offset: u32, w: usize, r: usize, out: &mut [u16], scratch: &mut [u8])

@@ -4,8 +4,8 @@ use native.Mathlib.Omega.{arith}
 use denote.Ref.{now}
 use borrow.Author.Needs.{needs}
 use Rattle.read_window.specs.Window.{Standing}
-use Rattle.v0_windows.specs.ByWindow.{Ahead}
-use Rattle.v0_windows.proofs.GroupLaws.{standing-ahead, ahead-room, after-head, ahead-end, end-room, block-read}
+use Rattle.v0_parse_window.specs.ByWindow.{Ahead}
+use Rattle.v0_parse_window.proofs.GroupLaws.{standing-ahead, ahead-room, after-head, ahead-end, end-room, block-read}
 use Rattle.v0_direct.proofs.InnerLaws.{inner-decoded}
 use Rattle.v0_direct.proofs.row.decode_inner.Statement.{statement}
 use Rattle.v0_direct.proofs.row.decode_inner.Tie as tie

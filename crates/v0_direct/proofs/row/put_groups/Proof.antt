@@ -4,7 +4,7 @@ use native.Mathlib.Omega.{arith}
 use denote.Ref.{now}
 use borrow.Author.Needs.{needs}
 use Rattle.rules.specs.V0.{sample-kind}
-use Rattle.v0_windows.proofs.GroupLaws.{first-in, second-in, third-in, fourth-in, ByPosition, either-way, groups-end}
+use Rattle.v0_parse_window.proofs.GroupLaws.{first-in, second-in, third-in, fourth-in, ByPosition, either-way, groups-end}
 use Rattle.v0_cells.proofs.InnerLaws.{inner-fits, inner-inside}
 use Rattle.v0_cells.proofs.FourLaws.{groups-put}
 use Rattle.v0_direct.proofs.row.put_groups.Statement.{statement}

@@ -6,7 +6,7 @@ use denote.Ref.{now}
 use borrow.Author.Needs.{needs}
 use borrow.Author.Tests.{not-true, not-false}
 use Rattle.read_window.specs.Window.{Standing}
-use Rattle.v0_windows.proofs.GroupLaws.{standing-ahead}
+use Rattle.v0_parse_window.proofs.GroupLaws.{standing-ahead}
 use Rattle.v0_direct.specs.Run.{run-begins}
 use Rattle.v0_direct.proofs.RowLaws.{none-ran}
 use Rattle.v0_direct.proofs.RunLaws.{begins-is, begins-short, begun, run-done, run-ended, run-none}

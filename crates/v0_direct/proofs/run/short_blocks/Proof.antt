@@ -7,10 +7,10 @@ use native.Mathlib.Omega.{arith}
 use denote.Ref.{now}
 use borrow.Author.Needs.{needs}
 use borrow.Author.Tests.{not-false, not-true, leb-true, leb-false}
-use Rattle.v0_windows.specs.ByWindow.{Ahead, short}
+use Rattle.v0_parse_window.specs.ByWindow.{Ahead, short}
 use Rattle.v0_cells.specs.Places.{Inner}
 use Rattle.v0_cells.proofs.InnerLaws.{inner-fits, inner-inside}
-use Rattle.v0_windows.proofs.GroupLaws.{room-for, ahead-room}
+use Rattle.v0_parse_window.proofs.GroupLaws.{room-for, ahead-room}
 use Rattle.v0_lanes.specs.Lengths.{lengths-of, lengths-after}
 use Rattle.v0_direct.proofs.RunLaws.{inner-on, Going, going-begun, waiting-inner, going-done, going-ahead, going-room, going-on, ending, ends-narrow, ends-late, ends-long}
 use Rattle.v0_direct.proofs.run.short_blocks.Statement.{statement}

@@ -1,7 +1,7 @@
 -- Each group ends where the next begins, and is stored after the one before.
 use mathlib.Core.Path.{subst}
 use native.Mathlib.Omega.{arith}
-use Rattle.v0_windows.specs.ByWindow.{Ends}
+use Rattle.v0_parse_window.specs.ByWindow.{Ends}
 use Rattle.v0_lanes.specs.Lengths.{byte0, byte1, byte2, byte3}
 use Rattle.v0_lanes.proofs.BlockLaws.{Ending, group-room, block-ends, block-stored, block-listed}
 use borrow.Author.Needs.{needs}

@@ -1,6 +1,6 @@
 -- Each length is counted, and a short one is its count.
 use borrow.Author.Needs.{needs}
-use Rattle.v0_windows.proofs.GroupLaws.{counted}
+use Rattle.v0_parse_window.proofs.GroupLaws.{counted}
 use Rattle.v0_lanes.proofs.LengthLaws.{packed-are}
 use Rattle.v0_lanes.proofs.lengths.packed.Statement.{statement}
 use Rattle.v0_lanes.proofs.lengths.packed.Tie as tie

@@ -1,7 +1,7 @@
 -- Each step's ensures in the order of the rules.
 use mathlib.Core.Path.{refl}
 use borrow.Author.Needs.{needs}
-use Rattle.v0_residuals.proofs.RowsLaws.{directions-done}
+use Rattle.v0_phase1.proofs.RowsLaws.{directions-done}
 use Rattle.v0_two_phase.proofs.FrameLaws.{samples-done}
 use Rattle.v0_two_phase.proofs.frame.decode_frame.Statement.{statement}
 use Rattle.v0_two_phase.proofs.frame.decode_frame.Tie as tie

@@ -6,8 +6,8 @@ use lib.ListN.{length, length-drop}
 use denote.Ref.{now}
 use borrow.Rule.Slice.PartMut.{same-len-mid}
 use borrow.Author.Needs.{needs}
-use Rattle.v0_residuals.proofs.RowsLaws.{tail-lent}
-use Rattle.v0_predictions.proofs.PredictionLaws.{row-kept}
+use Rattle.v0_phase1.proofs.RowsLaws.{tail-lent}
+use Rattle.v0_phase2.proofs.PredictionLaws.{row-kept}
 use Rattle.v0_two_phase.proofs.LateRowLaws.{row-done}
 use Rattle.v0_two_phase.proofs.frame.decode_late_row.Statement.{statement}
 use Rattle.v0_two_phase.proofs.frame.decode_late_row.Tie as tie

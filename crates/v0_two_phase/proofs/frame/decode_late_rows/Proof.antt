@@ -8,7 +8,7 @@ use borrow.Author.Needs.{needs}
 use Rattle.rules.specs.Phases.{scratch}
 use Rattle.rules.specs.V0.{blocks-in}
 use Rattle.v0_cells.proofs.RoomLaws.{row-within, directions-within}
-use Rattle.v0_residuals.proofs.RowsLaws.{Rows, rows-begun, rows-on, rows-done}
+use Rattle.v0_phase1.proofs.RowsLaws.{Rows, rows-begun, rows-on, rows-done}
 use Rattle.v0_two_phase.proofs.RowByRow.{freeing, freeing-first, freeing-none, freeing-all}
 use Rattle.v0_two_phase.proofs.frame.decode_late_rows.Statement.{statement}
 use Rattle.v0_two_phase.proofs.frame.decode_late_rows.Tie as tie
