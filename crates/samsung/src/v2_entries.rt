@@ -8,7 +8,7 @@ use refusals::refuse_v2;
 use refusals::refused;
 use rules::Answer;
 use rules::Size;
-use v2::frame::decode_frame;
+use v2_frame::frame::decode_frame;
 
 // Decodes a V2 frame over what `out` holds. Refusals 1 to 3 and 5 to 8.
 pub fn decode_v2(src: &[u8], width: usize, height: usize, out: &mut [u16]) -> Answer
