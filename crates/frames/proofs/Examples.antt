@@ -8,8 +8,8 @@ use Rattle.rules.specs.Answer as Answer
 use Rattle.planes.specs.Planes as Planes
 use Rattle.blanking.specs.Blanking as Blanking
 use Rattle.blanking.specs.Calls as Blank
-use Rattle.writers.specs.Writer as Writer
-use Rattle.writers.specs.Calls as Write
+use Rattle.write_rules.specs.Writer as Writer
+use Rattle.write_rules.specs.Calls as Write
 use Rattle.frames.specs.Moved as Moved
 use Rattle.frames.specs.Export as Export
 use Rattle.frames.specs.Examples.{moved, moves, exported, examples}

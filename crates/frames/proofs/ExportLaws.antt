@@ -9,8 +9,8 @@ use borrow.Author.Tests.{ne-eqb, eqb-true}
 use Rattle.blanking.specs.declared.Blanked.{Blanked}
 use Rattle.blanking.specs.Blanking.{count}
 use Rattle.blanking.specs.Calls as Blank
-use Rattle.writers.specs.declared.Written.{Written}
-use Rattle.writers.specs.Calls as Write
+use Rattle.write_rules.specs.declared.Written.{Written}
+use Rattle.write_rules.specs.Calls as Write
 use Rattle.frames.specs.Export.{Export, export, write, if-blanked, export-answer, stream-after, offsets-after, Yields}
 use Rattle.rules.proofs.Tests.{by-test}
 

@@ -16,10 +16,10 @@ use Rattle.blanking.specs.Blanking.{stated}
 use Rattle.blanking.specs.Calls as Blank
 use Rattle.blanking.proofs.EachSample.{stated-clean}
 use Rattle.blanking.proofs.Isolation.{Blanks, Follows, Done, SameBlanked, blanked-isolation}
-use Rattle.writers.specs.Writer.{residuals, stream-for, offsets-for}
-use Rattle.writers.specs.Calls as Write
-use Rattle.writers.proofs.Decoded.{done-passed}
-use Rattle.writers.proofs.Rows.{offsets-length}
+use Rattle.write_rules.specs.Writer.{residuals, stream-for, offsets-for}
+use Rattle.write_rules.specs.Calls as Write
+use Rattle.write_rules.proofs.Decoded.{done-passed}
+use Rattle.write_rules.proofs.Rows.{offsets-length}
 use Rattle.frames.specs.declared.export.Exported.{Exported}
 use Rattle.frames.specs.Export.{Export, write, if-blanked, export-answer, stream-after, offsets-after, Yields}
 use Rattle.frames.proofs.ExportLaws.{number-is}

@@ -16,14 +16,14 @@ use Rattle.rules.specs.Answer.{too-large}
 use Rattle.rules.specs.V0.{sample-kind, exchange}
 use Rattle.rules.proofs.Cells.{all-get}
 use Rattle.refusals.proofs.RefusalLaws.{cells-most, size-most}
-use Rattle.writers.specs.declared.Written.{Written}
-use Rattle.writers.specs.Writer.{residuals, offsets-for}
-use Rattle.writers.specs.Calls.{Call, frame-of, stream-of, offsets-of, too-bright, short-output, write-refusal, refused, written, write-answer, unless-refused, stream-after, offsets-after, Yields}
-use Rattle.writers.proofs.CallLaws.{not-bright, passed}
-use Rattle.writers.proofs.Rows.{offsets-length}
-use Rattle.frame_writer.specs.declared.format.Format.the-variants.{V0}
-use Rattle.frame_writer.specs.Frames.{Writable}
-use Rattle.frame_writer.proofs.CodingLaws.{whole-v0}
+use Rattle.write_rules.specs.declared.Written.{Written}
+use Rattle.write_rules.specs.Writer.{residuals, offsets-for}
+use Rattle.write_rules.specs.Calls.{Call, frame-of, stream-of, offsets-of, too-bright, short-output, write-refusal, refused, written, write-answer, unless-refused, stream-after, offsets-after, Yields}
+use Rattle.write_rules.proofs.CallLaws.{not-bright, passed}
+use Rattle.write_rules.proofs.Rows.{offsets-length}
+use Rattle.write_frame.specs.declared.format.Format.the-variants.{V0}
+use Rattle.write_frame.specs.Frames.{Writable}
+use Rattle.write_frame.proofs.CodingLaws.{whole-v0}
 
 -- ── 1, 3 and 9 ──
 

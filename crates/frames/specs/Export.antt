@@ -6,7 +6,7 @@ use mathlib.Core.List.{List}
 use lib.Dec.{eqb}
 use Rattle.blanking.specs.Blanking.{stated}
 use Rattle.blanking.specs.Calls as Blank
-use Rattle.writers.specs.Calls as Write
+use Rattle.write_rules.specs.Calls as Write
 use Rattle.frames.specs.declared.export.Exported.{Exported}
 
 -- What is asked and lent: a frame to blank, and buffers for the stream and the offsets.

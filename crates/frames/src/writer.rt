@@ -5,15 +5,15 @@ ghost use lib.Dec.{ltb};
 ghost use lib.ListN.{length, take};
 ghost use Rattle.rules.specs.Answer.{too-large};
 ghost use Rattle.rules.specs.Frame.{cells};
-ghost use Rattle.writers.specs.Calls.{call, too-bright, Yields};
-use frame_writer::measure::v0_length;
-use frame_writer::write;
+ghost use Rattle.write_rules.specs.Calls.{call, too-bright, Yields};
 use refusals::Lending;
 use refusals::refuse_lent;
 use rules::Answer;
 use rules::Size;
-use writers::Written;
-use writers::is_too_bright;
+use write_frame::measure::v0_length;
+use write_frame::write;
+use write_rules::Written;
+use write_rules::is_too_bright;
 
 // The first of 1, 3 and 9 that holds of samples that are to be written, or 0.
 pub fn refuse_samples(samples: &[u16], size: Size) -> u32

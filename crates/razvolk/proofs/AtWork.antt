@@ -29,11 +29,11 @@ use Rattle.samsung.proofs.Isolation.{Made, Banded, Cleaned, Entry, returned, ch
 use Rattle.razvolk.proofs.direct.razvolk_decode_v0_reference.Kinds as direct-kinds
 use Rattle.razvolk.proofs.direct.razvolk_decode_v0_reference_map.Kinds as direct-map-kinds
 use Rattle.planes.specs.Planes.{to-planes, from-planes}
-use Rattle.writers.specs.Calls as Writers
+use Rattle.write_rules.specs.Calls as Writers
 use Rattle.blanking.proofs.Isolation.{blank-step}
 use Rattle.frames.specs.Moved as Moved
 use Rattle.frames.proofs.Moves.{to-step, from-step, moved-step}
-use Rattle.packed.proofs.Returned as Proposals
+use Rattle.write_packed.proofs.Returned as Proposals
 use Rattle.transcode.specs.Convert as Convert
 use Rattle.transcode.proofs.Converted as Conversions
 use Rattle.transcode.proofs.Proposed.{Checks, checks}

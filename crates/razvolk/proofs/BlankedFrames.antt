@@ -22,7 +22,7 @@ use Rattle.frames.specs.Export.{export}
 use Rattle.frames.proofs.ExportedFrames.{Exports, exported-isolation}
 use Rattle.frames.proofs.ExportedFrames as Exported
 use Rattle.frames.proofs.Moves.{to-step, from-step}
-use Rattle.packed.proofs.Returned.{step as packed-step}
+use Rattle.write_packed.proofs.Returned.{step as packed-step}
 use Rattle.transcode.proofs.Converted.{step as convert-step}
 use Rattle.transcode.proofs.Proposed.{Checks, checks}
 use Rattle.razvolk.proofs.ColourPlanes.{ToPlanes, FromPlanes, to, from}

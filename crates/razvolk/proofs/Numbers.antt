@@ -15,14 +15,14 @@ use Rattle.rules_bands.specs.Bands as Cut
 use Rattle.rules_bands.specs.Call as Bands
 use Rattle.rules_clean.specs.Profile as Profile
 use Rattle.rules_clean.specs.Clean as Clean
-use Rattle.writers.specs.V2Writer as V2Writer
-use Rattle.writers.specs.Calls as Writers
+use Rattle.write_rules.specs.V2Writer as V2Writer
+use Rattle.write_rules.specs.Calls as Writers
 use Rattle.blanking.specs.Blanking as Blanking
 use Rattle.blanking.specs.Calls as Blank
 use Rattle.frames.specs.Export as Export
 use Rattle.frames.specs.Moved as Moved
 use Rattle.transcode.specs.Convert as Convert
-use Rattle.packed.specs.Proposal as Packed
+use Rattle.write_packed.specs.Proposal as Packed
 
 -- ── A number of a list ──
 

@@ -16,7 +16,7 @@ use Rattle.samsung.proofs.TwoPhase.{Paired, SameFrame, entries-same}
 use Rattle.samsung.proofs.CutUpload.{CutFinal, cut-final}
 use Rattle.samsung.proofs.InBands.{InBands, in-bands}
 use Rattle.samsung.proofs.CleanFrames.{CleanFrames, clean-frames}
-use Rattle.writers.specs.Calls as Writers
+use Rattle.write_rules.specs.Calls as Writers
 use Rattle.blanking.proofs.Returned.{MarkedAlone, marked-alone}
 use Rattle.late.proofs.LateFault.{LateFault, late-fault}
 use Rattle.transcode.proofs.Proposed.{Checks, checks, Writes, writes, Packed, packed}

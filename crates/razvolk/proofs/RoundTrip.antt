@@ -6,8 +6,8 @@ use mathlib.Core.Path.{_≡_}
 use Rattle.samsung.proofs.Isolation.{checked, ended}
 use Rattle.frames.specs.Export.{write}
 use Rattle.frames.proofs.ExportedFrames as Exported
-use Rattle.packed.proofs.Returned.{Wrote}
-use Rattle.packed.proofs.ReadBack as Packed
+use Rattle.write_packed.proofs.Returned.{Wrote}
+use Rattle.write_packed.proofs.ReadBack as Packed
 use Rattle.transcode.proofs.Proposed.{Writes, writes}
 use Rattle.razvolk.proofs.BlankedFrames.{Exporting, exports}
 

@@ -1,7 +1,7 @@
 // V0 into V2.
 ghost use Rattle.transcode.specs.Convert.{call, Yields};
 use transcode::v0_to_v2;
-use writers::Written;
+use write_rules::Written;
 
 #[no_mangle]
 pub extern "C" fn razvolk_v0_to_v2(

@@ -1,5 +1,5 @@
 // Packed by an outside optimiser.
-ghost use Rattle.packed.specs.Proposal.{proposal, Yields};
+ghost use Rattle.write_packed.specs.Proposal.{proposal, Yields};
 use rules::Answer;
 
 // Takes a proposal or refuses it: 1, 3, 9, 17 to 19 and 21 change nothing; then the scratch holds the decoded frame, and 20 may come.

@@ -1,6 +1,6 @@
 // The V0 writer.
-ghost use Rattle.writers.specs.Calls.{call, Yields};
-use writers::Written;
+ghost use Rattle.write_rules.specs.Calls.{call, Yields};
+use write_rules::Written;
 
 // Writes samples as V0: the stream, and where each row begins. Refusals 1, 3, 9 and 10, which change nothing.
 #[no_mangle]

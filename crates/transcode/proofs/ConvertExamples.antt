@@ -7,9 +7,9 @@ use Rattle.rules.specs.Frame as Frame
 use Rattle.rules.specs.V0 as V0
 use Rattle.rules.specs.V2 as V2
 use Rattle.rules.specs.Map as Map
-use Rattle.writers.specs.Calls as Calls
-use Rattle.writers.specs.Writer as Writer
-use Rattle.writers.specs.V2Writer as V2Writer
+use Rattle.write_rules.specs.Calls as Calls
+use Rattle.write_rules.specs.Writer as Writer
+use Rattle.write_rules.specs.V2Writer as V2Writer
 use Rattle.transcode.specs.Convert as Convert
 use Rattle.transcode.specs.ConvertExamples.{defined, examples, early-numbers, called, wholes}
 

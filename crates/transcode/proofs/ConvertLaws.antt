@@ -23,12 +23,12 @@ use Rattle.rules.proofs.Tests.{by-test}
 use Rattle.refusals.specs.Lending.{short}
 use Rattle.refusals.specs.declared.Lending.the-variants.{Nothing, Length}
 use Rattle.refusals.proofs.RefusalLaws.{Room, room, long-enough}
-use Rattle.writers.specs.declared.Written.{Written}
-use Rattle.writers.specs.Calls.{too-bright, refused, written}
-use Rattle.writers.specs.V2Writer.{stream-for}
-use Rattle.writers.proofs.CallLaws.{not-bright}
-use Rattle.frame_writer.specs.declared.format.Format.the-variants.{V2}
-use Rattle.frame_writer.specs.Frames.{Writable}
+use Rattle.write_rules.specs.declared.Written.{Written}
+use Rattle.write_rules.specs.Calls.{too-bright, refused, written}
+use Rattle.write_rules.specs.V2Writer.{stream-for}
+use Rattle.write_rules.proofs.CallLaws.{not-bright}
+use Rattle.write_frame.specs.declared.format.Format.the-variants.{V2}
+use Rattle.write_frame.specs.Frames.{Writable}
 use Rattle.frames.specs.Moved.{size}
 use Rattle.transcode.specs.Convert.{Call, found, decoded-samples, decoded-map, frame-of, early, any-marked, late, Frame, late-answer, late-stream, if-decoded, Yields}
 

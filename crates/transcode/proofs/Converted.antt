@@ -18,11 +18,11 @@ use Rattle.rules.proofs.Cells.{All}
 use Rattle.rules.proofs.Isolation.{Returned, Samples, Step, left-below}
 use Rattle.rules.proofs.Refusals.{samples-enough, v2-size-least}
 use Rattle.rules.proofs.Tests.{by-test}
-use Rattle.writers.specs.declared.Written.{Written}
-use Rattle.writers.specs.Calls.{too-bright}
-use Rattle.writers.specs.V2Writer.{stream-for}
-use Rattle.writers.proofs.CallLaws.{not-bright, take-past, over-stream}
-use Rattle.writers.proofs.V2RoundTrip.{Holds, written-holds, stream-below}
+use Rattle.write_rules.specs.declared.Written.{Written}
+use Rattle.write_rules.specs.Calls.{too-bright}
+use Rattle.write_rules.specs.V2Writer.{stream-for}
+use Rattle.write_rules.proofs.CallLaws.{not-bright, take-past, over-stream}
+use Rattle.write_rules.proofs.V2RoundTrip.{Holds, written-holds, stream-below}
 use Rattle.frames.specs.Moved.{size}
 use Rattle.transcode.specs.Convert.{Call, call, found, decoded-samples, decoded-map, frame-of, marks-of, early, any-marked, late, late-answer, late-stream, if-decoded, Yields}
 use Rattle.transcode.proofs.ConvertLaws.{Lent as Early, early-passed, frame-whole}

@@ -19,10 +19,10 @@ use Rattle.refusals.specs.declared.Lending.the-variants.{Nothing, Length}
 use Rattle.refusals.proofs.RefusalLaws.{Room, room, long-enough}
 use Rattle.rules_clean.specs.Profile.{verdict}
 use Rattle.v0_clean.specs.Lent.{Lends}
-use Rattle.writers.specs.Writer.{stream-for}
-use Rattle.packed.specs.Proposal.{Proposal, frame-of, before, scratch-after, same, answer, Yields}
-use Rattle.packed.specs.Proposal as Proposals
-use Rattle.packed.proofs.Exactly.{Begun, begun, before-done, frame, scratch-is}
+use Rattle.write_rules.specs.Writer.{stream-for}
+use Rattle.write_packed.specs.Proposal.{Proposal, frame-of, before, scratch-after, same, answer, Yields}
+use Rattle.write_packed.specs.Proposal as Proposals
+use Rattle.write_packed.proofs.Exactly.{Begun, begun, before-done, frame, scratch-is}
 use Rattle.frames.proofs.WriterLaws as Writer
 use Rattle.rules.proofs.Tests.{by-test}
 

@@ -2,9 +2,9 @@
 -- proposals that are to be taken, and of what a call of `write_v0` made; what it took is decoded back by every V0 decoder's call.
 use denote.Ref.{now}
 use Rattle.samsung.proofs.Isolation.{Made, ended, checked}
-use Rattle.writers.specs.Calls.{call}
-use Rattle.packed.specs.Proposal.{proposal}
-use Rattle.packed.proofs.Returned.{Checked, Wrote, Claim, claim}
+use Rattle.write_rules.specs.Calls.{call}
+use Rattle.write_packed.specs.Proposal.{proposal}
+use Rattle.write_packed.proofs.Returned.{Checked, Wrote, Claim, claim}
 use Rattle.transcode.proofs.proposal.check_packed.Kinds as check-kinds
 use Rattle.transcode.proofs.proposal.check_packed.Reads as check-reads
 use Rattle.frames.proofs.writer.write_v0.Kinds as write-kinds

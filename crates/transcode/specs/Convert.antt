@@ -10,9 +10,9 @@ use Rattle.rules.specs.Limits.{most-side}
 use Rattle.rules.specs.declared.answer.Size.{Size}
 use Rattle.rules.specs.Frame.{cells}
 use Rattle.rules.specs.Answer.{direct, v2, Ask, ask, Buffers, buffers, lengths, too-large, too-small, short-samples, short-map, first-of, samples-after, map-after}
-use Rattle.writers.specs.declared.Written.{Written}
-use Rattle.writers.specs.Calls.{any-above, too-bright, refused, written}
-use Rattle.writers.specs.V2Writer.{stream-for}
+use Rattle.write_rules.specs.declared.Written.{Written}
+use Rattle.write_rules.specs.Calls.{any-above, too-bright, refused, written}
+use Rattle.write_rules.specs.V2Writer.{stream-for}
 use Rattle.frames.specs.Moved.{size}
 
 -- ── What is asked and lent ──

@@ -3,8 +3,8 @@
 use Prim.Native.Nat.{ℕ}
 use mathlib.Core.List.{List, [], _∷_, _++_}
 use lib.ListN.{length, replicate}
-use Rattle.writers.specs.declared.Written.{Written}
-use Rattle.writers.specs.Calls.{refused, written}
+use Rattle.write_rules.specs.declared.Written.{Written}
+use Rattle.write_rules.specs.Calls.{refused, written}
 use Rattle.transcode.specs.Convert.{Call, call, early, late-answer, late-stream, call-answer, call-samples, call-map, call-stream}
 
 pub record Example : Type 0 where

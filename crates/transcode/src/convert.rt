@@ -3,8 +3,6 @@ ghost use mathlib.Core.Path.{_≡_};
 ghost use Prim.Native.Nat.{_*_, _%_};
 ghost use lib.ListN.{length};
 ghost use Rattle.transcode.specs.Convert.{any-marked, Frame, late-answer, late-stream, call, Yields};
-use frame_writer::measure::v2_length;
-use frame_writer::write::write_v2;
 use maps::greatest_of;
 use refusals::Lending;
 use refusals::is_too_small;
@@ -13,8 +11,10 @@ use rules::Answer;
 use rules::Size;
 use rules::V2Row;
 use samsung::decode_v0_reference_map;
-use writers::Written;
-use writers::is_too_bright;
+use write_frame::measure::v2_length;
+use write_frame::write::write_v2;
+use write_rules::Written;
+use write_rules::is_too_bright;
 
 // 16: a map byte is not 0.
 fn is_marked(map: &[u8]) -> bool

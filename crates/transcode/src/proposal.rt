@@ -3,8 +3,7 @@ ghost use mathlib.Core.Path.{_≡_};
 ghost use mathlib.Core.Bool.{_&&_};
 ghost use lib.Dec.{eqb};
 ghost use lib.ListN.{length};
-ghost use Rattle.packed.specs.Proposal.{proposal, before, same, Yields};
-use frame_writer::measure::v0_length;
+ghost use Rattle.write_packed.specs.Proposal.{proposal, before, same, Yields};
 use frames::writer::refuse_samples;
 use refusals::Lending;
 use refusals::refuse_direct;
@@ -13,6 +12,7 @@ use rules::Answer;
 use rules::Size;
 use samsung::decode_v0_reference;
 use v0_clean::check_frame;
+use write_frame::measure::v0_length;
 
 // What is answered before a sample is decoded: done, if nothing is wrong so far.
 fn check_before(

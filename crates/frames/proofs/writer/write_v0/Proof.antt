@@ -3,7 +3,7 @@ use mathlib.Core.Path.{_≡_, sym}
 use native.Mathlib.Omega.{arith}
 use borrow.Author.Needs.{needs}
 use lib.Seq.{length-take-le}
-use Rattle.writers.specs.Calls.{Call, call, write-refusal}
+use Rattle.write_rules.specs.Calls.{Call, call, write-refusal}
 use Rattle.frames.proofs.WriterLaws.{Lent, lent, none-holds, early-yields, short-yields, stream-room, done-yields}
 use Rattle.frames.proofs.writer.write_v0.Statement.{statement}
 use Rattle.frames.proofs.writer.write_v0.Tie as tie

@@ -2,7 +2,7 @@
 use mathlib.Core.Path.{ap, _∙_}
 use lib.Dec.{ltb}
 use borrow.Author.Needs.{needs}
-use Rattle.writers.proofs.CallLaws.{above-is}
+use Rattle.write_rules.proofs.CallLaws.{above-is}
 use Rattle.transcode.proofs.convert.is_marked.Statement.{statement}
 use Rattle.transcode.proofs.convert.is_marked.Tie as tie
 

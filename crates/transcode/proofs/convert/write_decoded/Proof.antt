@@ -2,7 +2,7 @@
 use mathlib.Core.Bool.{false}
 use mathlib.Core.Path.{_≡_, sym, _∙_}
 use native.Mathlib.Omega.{arith}
-use Rattle.writers.specs.Calls.{too-bright}
+use Rattle.write_rules.specs.Calls.{too-bright}
 use Rattle.transcode.specs.Convert.{any-marked}
 use Rattle.transcode.proofs.ConvertLaws.{marked-wrote, bright-wrote, writable, short-wrote, done-wrote}
 use borrow.Author.Needs.{needs}

@@ -4,7 +4,7 @@ use Prim.Native.Nat.{ℕ}
 use native.Mathlib.Omega.{arith}
 use lib.Seq.{length-take-le}
 use borrow.Author.Needs.{needs}
-use Rattle.packed.specs.Proposal.{Proposal, proposal}
+use Rattle.write_packed.specs.Proposal.{Proposal, proposal}
 use Rattle.transcode.proofs.ProposalLaws.{MeantLent, meant-lent, AllLent, all-lent, Clean, clean, early-before, short-before, checkable, fault-before, long-before, done-before}
 use Rattle.transcode.proofs.proposal.check_before.Statement.{statement}
 use Rattle.transcode.proofs.proposal.check_before.Tie as tie

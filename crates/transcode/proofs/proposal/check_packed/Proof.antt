@@ -5,8 +5,8 @@ use lib.ListN.{length}
 use lib.Seq.{length-take-le}
 use borrow.Author.Needs.{needs}
 use Rattle.refusals.proofs.RefusalLaws.{cells-most}
-use Rattle.packed.specs.Proposal.{Proposal, proposal}
-use Rattle.packed.proofs.Exactly.{Begun}
+use Rattle.write_packed.specs.Proposal.{Proposal, proposal}
+use Rattle.write_packed.proofs.Exactly.{Begun}
 use Rattle.transcode.proofs.ProposalLaws.{kept-yields, ready, Decoded, frame-decoded, scratch-room, as-long, other-yields, taken-yields}
 use Rattle.transcode.proofs.proposal.check_packed.Statement.{statement}
 use Rattle.transcode.proofs.proposal.check_packed.Tie as tie

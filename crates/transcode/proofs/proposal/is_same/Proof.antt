@@ -5,7 +5,7 @@ use mathlib.Core.Path.{_≡_, refl, sym, _∙_}
 use native.Mathlib.Omega.{arith}
 use lib.ListN.{length, drop}
 use borrow.Author.Needs.{needs}
-use Rattle.packed.specs.Proposal.{same}
+use Rattle.write_packed.specs.Proposal.{same}
 use Rattle.transcode.proofs.ProposalLaws.{same-on, same-gone}
 use Rattle.transcode.proofs.proposal.is_same.Statement.{statement}
 use Rattle.transcode.proofs.proposal.is_same.Tie as tie

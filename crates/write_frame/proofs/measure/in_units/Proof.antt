@@ -1,0 +1,42 @@
+-- Rounded up to words or to 16 bytes.
+use borrow.Author.Needs.{needs}
+use Rattle.write_frame.proofs.CodingLaws.{in-words, in-lines}
+use Rattle.write_frame.proofs.measure.in_units.Statement.{statement}
+use Rattle.write_frame.proofs.measure.in_units.Tie as tie
+
+enum-told : tie.Need-enum-told
+enum-told c = search needs
+
+add-result : tie.Need-add-result
+add-result c = search needs
+
+mul-result : tie.Need-mul-result
+mul-result c = search needs
+
+enum-told-2 : tie.Need-enum-told-2
+enum-told-2 c = search needs
+
+add-result-2 : tie.Need-add-result-2
+add-result-2 c = search needs
+
+mul-result-2 : tie.Need-mul-result-2
+mul-result-2 c = search needs
+
+returns : tie.Need-returns
+returns c = in-words _ _ (c .enum-told .given .1)
+
+returns-2 : tie.Need-returns-2
+returns-2 c = in-lines _ _ (c .enum-told2 .given .1)
+
+pub in-units-spec : {M : Type 1} → statement M
+in-units-spec =
+    tie.close
+    (tie.spec
+    enum-told
+    add-result
+    mul-result
+    enum-told-2
+    add-result-2
+    mul-result-2
+    returns
+    returns-2)
