@@ -12,12 +12,12 @@ use Rattle.rules.specs.Frame.{cells}
 use Rattle.refusals.specs.Lending.{short}
 use Rattle.refusals.specs.declared.Lending.the-variants.{Nothing, Length}
 use Rattle.refusals.proofs.RefusalLaws.{Room, room, long-enough}
-use Rattle.blanking.specs.declared.Blanked.{Blanked}
-use Rattle.blanking.specs.declared.Tally.{Tally}
-use Rattle.blanking.specs.Blanking.{bad-map, blanked, numbers}
-use Rattle.blanking.specs.Calls.{Call, frame-of, marks-of, found, short-runs, refusal, refused, blanked-done, blank-answer, unless-refused, samples-after, runs-after, Yields}
-use Rattle.blanking.specs.Lent.{tally, MapLent, FrameLent}
-use Rattle.blanking.proofs.RunLaws.{numbers-length, rows-most}
+use Rattle.frame_blank.specs.declared.Blanked.{Blanked}
+use Rattle.frame_blank.specs.declared.Tally.{Tally}
+use Rattle.frame_blank.specs.Blanking.{bad-map, blanked, numbers}
+use Rattle.frame_blank.specs.Calls.{Call, frame-of, marks-of, found, short-runs, refusal, refused, blanked-done, blank-answer, unless-refused, samples-after, runs-after, Yields}
+use Rattle.frame_blank.specs.Lent.{tally, MapLent, FrameLent}
+use Rattle.frame_blank.proofs.RunLaws.{numbers-length, rows-most}
 use Rattle.frames.proofs.EarlyLaws.{early, early-then}
 
 -- What is known once tests 1, 3 and 4 are passed.

@@ -5,9 +5,9 @@ use Rattle.rules.specs.Reader as Reader
 use Rattle.rules.specs.Frame as Frame
 use Rattle.rules.specs.V0 as V0
 use Rattle.rules.specs.Answer as Answer
-use Rattle.planes.specs.Planes as Planes
-use Rattle.blanking.specs.Blanking as Blanking
-use Rattle.blanking.specs.Calls as Blank
+use Rattle.frame_planes.specs.Planes as Planes
+use Rattle.frame_blank.specs.Blanking as Blanking
+use Rattle.frame_blank.specs.Calls as Blank
 use Rattle.write_rules.specs.Writer as Writer
 use Rattle.write_rules.specs.Calls as Write
 use Rattle.frames.specs.Moved as Moved

@@ -6,9 +6,9 @@ use Prim.Native.Nat.{ℕ}
 use lib.Dec.{eqb}
 use lib.ListN.{length}
 use borrow.Author.Tests.{ne-eqb, eqb-true}
-use Rattle.blanking.specs.declared.Blanked.{Blanked}
-use Rattle.blanking.specs.Blanking.{count}
-use Rattle.blanking.specs.Calls as Blank
+use Rattle.frame_blank.specs.declared.Blanked.{Blanked}
+use Rattle.frame_blank.specs.Blanking.{count}
+use Rattle.frame_blank.specs.Calls as Blank
 use Rattle.write_rules.specs.declared.Written.{Written}
 use Rattle.write_rules.specs.Calls as Write
 use Rattle.frames.specs.Export.{Export, export, write, if-blanked, export-answer, stream-after, offsets-after, Yields}

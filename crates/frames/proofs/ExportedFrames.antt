@@ -12,10 +12,10 @@ use Rattle.rules.specs.Frame.{cells}
 use Rattle.rules.specs.Answer as Rules
 use Rattle.rules.specs.V0.{sample-kind, exchange}
 use Rattle.rules.proofs.Isolation.{Returned, Samples, Step, Calls, Alike, Ran}
-use Rattle.blanking.specs.Blanking.{stated}
-use Rattle.blanking.specs.Calls as Blank
-use Rattle.blanking.proofs.EachSample.{stated-clean}
-use Rattle.blanking.proofs.Isolation.{Blanks, Follows, Done, SameBlanked, blanked-isolation}
+use Rattle.frame_blank.specs.Blanking.{stated}
+use Rattle.frame_blank.specs.Calls as Blank
+use Rattle.frame_blank.proofs.EachSample.{stated-clean}
+use Rattle.frame_blank.proofs.Isolation.{Blanks, Follows, Done, SameBlanked, blanked-isolation}
 use Rattle.write_rules.specs.Writer.{residuals, stream-for, offsets-for}
 use Rattle.write_rules.specs.Calls as Write
 use Rattle.write_rules.proofs.Decoded.{done-passed}

@@ -12,7 +12,7 @@ use Rattle.rules.specs.declared.answer.Size.{Size}
 use Rattle.rules.specs.Answer.{done, refused, first-of}
 use Rattle.rules.proofs.Tests.{neither}
 use Rattle.refusals.proofs.RefusalLaws.{cells-most, size-most}
-use Rattle.planes.specs.Lent.{Within, Lends}
+use Rattle.frame_planes.specs.Lent.{Within, Lends}
 use Rattle.frames.specs.Moved.{size, refusal, answer, after}
 
 -- What a call that is not refused may count on.

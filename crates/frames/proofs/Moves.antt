@@ -12,9 +12,9 @@ use Rattle.rules.specs.Frame.{cells}
 use Rattle.rules.proofs.Cells.{all-append, all-take, all-drop}
 use Rattle.rules.proofs.Isolation.{Samples, Step}
 use Rattle.rules.proofs.Tests.{by-test}
-use Rattle.planes.specs.Planes.{to-planes, from-planes}
-use Rattle.planes.proofs.Kept.{to-length, from-length, all-to, all-from}
-use Rattle.planes.proofs.Undone.{from-to-planes, to-from-planes}
+use Rattle.frame_planes.specs.Planes.{to-planes, from-planes}
+use Rattle.frame_planes.proofs.Kept.{to-length, from-length, all-to, all-from}
+use Rattle.frame_planes.proofs.Undone.{from-to-planes, to-from-planes}
 use Rattle.frames.specs.Moved.{size, refusal, answer, after}
 use Rattle.frames.proofs.MovedLaws.{Room, room}
 

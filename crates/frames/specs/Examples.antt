@@ -6,8 +6,8 @@ use mathlib.Core.List.{List, [], _∷_, _++_}
 use lib.ListN.{replicate}
 use Rattle.rules.specs.declared.answer.Answer.{Answer}
 use Rattle.rules.specs.Answer.{done, refused}
-use Rattle.planes.specs.Planes.{to-planes, from-planes}
-use Rattle.blanking.specs.Calls as Blank
+use Rattle.frame_planes.specs.Planes.{to-planes, from-planes}
+use Rattle.frame_blank.specs.Calls as Blank
 use Rattle.frames.specs.declared.export.Exported.{Exported}
 use Rattle.frames.specs.Moved as Moved
 use Rattle.frames.specs.Export.{Export, export, export-answer, stream-after, offsets-after}

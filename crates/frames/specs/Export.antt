@@ -4,8 +4,8 @@ use mathlib.Core.Bool.{cond}
 use mathlib.Core.Path.{_≡_}
 use mathlib.Core.List.{List}
 use lib.Dec.{eqb}
-use Rattle.blanking.specs.Blanking.{stated}
-use Rattle.blanking.specs.Calls as Blank
+use Rattle.frame_blank.specs.Blanking.{stated}
+use Rattle.frame_blank.specs.Calls as Blank
 use Rattle.write_rules.specs.Calls as Write
 use Rattle.frames.specs.declared.export.Exported.{Exported}
 

@@ -1,8 +1,8 @@
 // A frame into its colour planes, and the way back: out of one lent buffer into another.
 ghost use mathlib.Core.Bool.{cond};
 ghost use mathlib.Core.Path.{_≡_};
-ghost use Rattle.planes.specs.Lent.{Lends};
-ghost use Rattle.planes.specs.Planes.{to-planes, from-planes};
+ghost use Rattle.frame_planes.specs.Lent.{Lends};
+ghost use Rattle.frame_planes.specs.Planes.{to-planes, from-planes};
 ghost use Rattle.frames.specs.Moved.{refusal, answer, after};
 use refusals::is_too_large;
 use refusals::refused;
@@ -32,10 +32,10 @@ fn carry(read: &[u16], size: Size, written: &mut [u16], back: bool)
     ensures { λ _. ⌜ now (written .exit) ≡ cond back from-planes to-planes size (now (read .entry)) ⌝ }
 {
     if back {
-        planes::from_planes(read, size, written);
+        frame_planes::from_planes(read, size, written);
         return;
     }
-    planes::to_planes(read, size, written);
+    frame_planes::to_planes(read, size, written);
 }
 
 // A frame's first N samples out of one lent buffer into the first N of another: into planes, or back. Refusals 1 and 3.

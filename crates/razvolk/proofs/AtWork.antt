@@ -28,9 +28,9 @@ use Rattle.rules.proofs.Isolation.{Step, Calls, start, call, Samples, Same, is-
 use Rattle.samsung.proofs.Isolation.{Made, Banded, Cleaned, Entry, returned, checked, plain, in-bands, for-clean, step, last, last-in-bands, last-clean, ended, isolation}
 use Rattle.razvolk.proofs.direct.razvolk_decode_v0_reference.Kinds as direct-kinds
 use Rattle.razvolk.proofs.direct.razvolk_decode_v0_reference_map.Kinds as direct-map-kinds
-use Rattle.planes.specs.Planes.{to-planes, from-planes}
+use Rattle.frame_planes.specs.Planes.{to-planes, from-planes}
 use Rattle.write_rules.specs.Calls as Writers
-use Rattle.blanking.proofs.Isolation.{blank-step}
+use Rattle.frame_blank.proofs.Isolation.{blank-step}
 use Rattle.frames.specs.Moved as Moved
 use Rattle.frames.proofs.Moves.{to-step, from-step, moved-step}
 use Rattle.write_packed.proofs.Returned as Proposals

@@ -13,11 +13,11 @@ use lib.Dec.{lit<}
 use Rattle.rules.proofs.Isolation.{Step, Samples}
 use Rattle.rules.proofs.Isolation as Rules
 use Rattle.samsung.proofs.Isolation.{Made, Entry, step, ended}
-use Rattle.blanking.specs.Blanking.{stated, unstated}
-use Rattle.blanking.specs.Calls.{call}
-use Rattle.blanking.proofs.EachSample.{Clean, Fits, stated-clean, unstated-clean, stated-fits, unstated-fits}
-use Rattle.blanking.proofs.Isolation.{Blanks, blank-step, blanked-isolation}
-use Rattle.blanking.proofs.Isolation as Blanked
+use Rattle.frame_blank.specs.Blanking.{stated, unstated}
+use Rattle.frame_blank.specs.Calls.{call}
+use Rattle.frame_blank.proofs.EachSample.{Clean, Fits, stated-clean, unstated-clean, stated-fits, unstated-fits}
+use Rattle.frame_blank.proofs.Isolation.{Blanks, blank-step, blanked-isolation}
+use Rattle.frame_blank.proofs.Isolation as Blanked
 use Rattle.frames.specs.Export.{export}
 use Rattle.frames.proofs.ExportedFrames.{Exports, exported-isolation}
 use Rattle.frames.proofs.ExportedFrames as Exported

@@ -2,7 +2,7 @@
 -- leaves the first N samples as they were; and so do they the other way round.
 use denote.Ref.{now}
 use Rattle.samsung.proofs.Isolation.{Made}
-use Rattle.planes.specs.Planes.{to-planes, from-planes}
+use Rattle.frame_planes.specs.Planes.{to-planes, from-planes}
 use Rattle.frames.proofs.Moves.{Moved}
 use Rattle.frames.proofs.Moves as Moves
 use Rattle.razvolk.proofs.colour.razvolk_to_planes.Kinds as to-kinds

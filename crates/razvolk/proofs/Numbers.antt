@@ -17,8 +17,8 @@ use Rattle.rules_clean.specs.Profile as Profile
 use Rattle.rules_clean.specs.Clean as Clean
 use Rattle.write_rules.specs.V2Writer as V2Writer
 use Rattle.write_rules.specs.Calls as Writers
-use Rattle.blanking.specs.Blanking as Blanking
-use Rattle.blanking.specs.Calls as Blank
+use Rattle.frame_blank.specs.Blanking as Blanking
+use Rattle.frame_blank.specs.Calls as Blank
 use Rattle.frames.specs.Export as Export
 use Rattle.frames.specs.Moved as Moved
 use Rattle.transcode.specs.Convert as Convert

@@ -1,9 +1,9 @@
 // Blanking, and the archive export.
-ghost use Rattle.blanking.specs.Blanking.{stated, unstated};
-ghost use Rattle.blanking.specs.Calls.{call, Yields};
+ghost use Rattle.frame_blank.specs.Blanking.{stated, unstated};
+ghost use Rattle.frame_blank.specs.Calls.{call, Yields};
 ghost use Rattle.frames.specs.Export.{export};
 ghost use Rattle.frames.specs.Export as Export;
-use blanking::Blanked;
+use frame_blank::Blanked;
 use frames::Exported;
 
 // Sets the samples that a map marks to a stated fill, and lists their runs. Refusals 1, 3, 4, 14 and 13, which change nothing.

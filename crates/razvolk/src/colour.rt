@@ -1,6 +1,6 @@
 // The exports of the colour planes.
 ghost use mathlib.Core.Path.{_≡_};
-ghost use Rattle.planes.specs.Planes.{to-planes, from-planes};
+ghost use Rattle.frame_planes.specs.Planes.{to-planes, from-planes};
 ghost use Rattle.frames.specs.Moved.{answer, after};
 use rules::Answer;
 

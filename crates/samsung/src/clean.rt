@@ -9,7 +9,7 @@ ghost use Rattle.rules.specs.Answer.{direct, ask, buffers};
 ghost use Rattle.v0_direct.specs.Lent.{Lends};
 ghost use Rattle.rules_clean.specs.Profile.{verdict};
 ghost use Rattle.rules_clean.specs.Clean.{Yields};
-use maps::mark_all;
+use frame_map::mark_all;
 use refusals::Lending;
 use refusals::refuse_direct;
 use refusals::refused;

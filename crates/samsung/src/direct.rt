@@ -1,7 +1,7 @@
 // The direct V0 decoder's entries.
 ghost use mathlib.Core.Option.{none, some};
 ghost use Rattle.rules.specs.Answer.{direct, ask, buffers, Yields};
-use maps::mark_old;
+use frame_map::mark_old;
 use refusals::Lending;
 use refusals::refuse_direct;
 use refusals::refused;

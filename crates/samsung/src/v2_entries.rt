@@ -2,7 +2,7 @@
 ghost use mathlib.Core.List.{[]};
 ghost use mathlib.Core.Option.{none, some};
 ghost use Rattle.rules.specs.Answer.{v2, ask, buffers, Yields};
-use maps::mark_old;
+use frame_map::mark_old;
 use refusals::Lending;
 use refusals::refuse_v2;
 use refusals::refused;

@@ -3,7 +3,7 @@ ghost use mathlib.Core.Path.{_≡_};
 ghost use Prim.Native.Nat.{_*_, _%_};
 ghost use lib.ListN.{length};
 ghost use Rattle.transcode.specs.Convert.{any-marked, Frame, late-answer, late-stream, call, Yields};
-use maps::greatest_of;
+use frame_map::greatest_of;
 use refusals::Lending;
 use refusals::is_too_small;
 use refusals::refuse;

@@ -17,7 +17,7 @@ use super::Place;
 use super::run::Run;
 use super::run::decode_run;
 use super::sample::decode_samples;
-use maps::fill_block;
+use frame_map::fill_block;
 use read_window::BACK_BITS;
 use read_window::BACK_BYTES;
 use read_window::SHORT_BITS;

@@ -14,8 +14,8 @@ use super::Place;
 use super::base::References;
 use super::base::along_from;
 use super::base::references_of;
-use maps::either_part;
-use maps::fill_block;
+use frame_map::either_part;
+use frame_map::fill_block;
 use rules::Bits;
 use rules::V2Row;
 

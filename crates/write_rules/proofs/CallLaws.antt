@@ -14,8 +14,8 @@ use Rattle.rules.specs.V0.{sample-kind, exchange}
 use Rattle.rules.specs.Answer.{too-large}
 use Rattle.rules.proofs.Cells.{All, nil, more, all-map, all-append, all-take, all-drop, all-get}
 use Rattle.rules.proofs.Tests.{neither}
-use Rattle.maps.specs.Greatest.{greatest}
-use Rattle.maps.proofs.GreatestLaws.{above-either}
+use Rattle.frame_map.specs.Greatest.{greatest}
+use Rattle.frame_map.proofs.GreatestLaws.{above-either}
 use Rattle.write_rules.specs.Writer.{residuals, offsets-for}
 use Rattle.write_rules.specs.Calls.{Call, frame-of, stream-of, offsets-of, any-above, too-bright, short-output, write-refusal, unless-refused, stream-after, offsets-after}
 use Rattle.write_rules.proofs.Ahead.{Stream}

@@ -5,8 +5,8 @@ use native.Mathlib.Omega.{arith}
 use lib.Dec.{ltb}
 use lib.ListN.{length, drop}
 use borrow.Author.Needs.{needs}
-use Rattle.maps.specs.Greatest.{greatest}
-use Rattle.maps.proofs.GreatestLaws.{greatest-on, greatest-gone}
+use Rattle.frame_map.specs.Greatest.{greatest}
+use Rattle.frame_map.proofs.GreatestLaws.{greatest-on, greatest-gone}
 use Rattle.write_rules.proofs.CallLaws.{above-is}
 use Rattle.write_rules.proofs.is_too_bright.Statement.{statement}
 use Rattle.write_rules.proofs.is_too_bright.Tie as tie

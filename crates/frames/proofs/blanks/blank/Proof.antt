@@ -1,6 +1,6 @@
 -- The fill is none that is stated.
 use borrow.Author.Needs.{needs}
-use Rattle.blanking.specs.Lent.{meant}
+use Rattle.frame_blank.specs.Lent.{meant}
 use Rattle.frames.proofs.blanks.blank.Statement.{statement}
 use Rattle.frames.proofs.blanks.blank.Tie as tie
 

@@ -3,8 +3,8 @@ use mathlib.Core.Path.{sym}
 use native.Mathlib.Omega.{arith}
 use lib.Seq.{length-take-le}
 use borrow.Author.Needs.{needs}
-use Rattle.blanking.specs.Calls.{Call, call}
-use Rattle.blanking.specs.Lent.{meant}
+use Rattle.frame_blank.specs.Calls.{Call, call}
+use Rattle.frame_blank.specs.Lent.{meant}
 use Rattle.frames.proofs.BlankLaws.{Lent, lent, Good, good, Fits, fits, map-there, map-lent, runs-few, frame-lent, early-yields, bad-yields, short-yields, done-yields}
 use Rattle.frames.proofs.blanks.blank_by.Statement.{statement}
 use Rattle.frames.proofs.blanks.blank_by.Tie as tie

@@ -1,7 +1,7 @@
 -- Without filler the map stays, with filler the block's bytes gain 2.
 use mathlib.Core.Path.{refl}
 use borrow.Author.Needs.{needs}
-use Rattle.maps.proofs.MapLaws.{ended-clear, ended-filled}
+use Rattle.frame_map.proofs.MapLaws.{ended-clear, ended-filled}
 use Rattle.v0_direct.proofs.row.end_block.Statement.{statement}
 use Rattle.v0_direct.proofs.row.end_block.Tie as tie
 

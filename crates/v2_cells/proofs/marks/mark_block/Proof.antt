@@ -1,7 +1,7 @@
 -- The marks of the base, and then the block's end.
 use native.Mathlib.Omega.{arith}
 use borrow.Author.Needs.{needs}
-use Rattle.maps.proofs.MapLaws.{ended-clear, ended-filled}
+use Rattle.frame_map.proofs.MapLaws.{ended-clear, ended-filled}
 use Rattle.v2_cells.proofs.BaseLaws.{rows-room}
 use Rattle.v2_cells.proofs.marks.mark_block.Statement.{statement}
 use Rattle.v2_cells.proofs.marks.mark_block.Tie as tie
