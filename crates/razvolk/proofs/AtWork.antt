@@ -31,12 +31,12 @@ use Rattle.razvolk.proofs.direct.razvolk_decode_v0_reference_map.Kinds 
 use Rattle.frame_planes.specs.Planes.{to-planes, from-planes}
 use Rattle.write_rules.specs.Calls as Writers
 use Rattle.frame_blank.proofs.Isolation.{blank-step}
-use Rattle.frames.specs.Moved as Moved
-use Rattle.frames.proofs.Moves.{to-step, from-step, moved-step}
+use Rattle.entry_frames.specs.Moved as Moved
+use Rattle.entry_frames.proofs.Moves.{to-step, from-step, moved-step}
 use Rattle.write_packed.proofs.Returned as Proposals
-use Rattle.transcode.specs.Convert as Convert
-use Rattle.transcode.proofs.Converted as Conversions
-use Rattle.transcode.proofs.Proposed.{Checks, checks}
+use Rattle.entry_convert.specs.Convert as Convert
+use Rattle.entry_convert.proofs.Converted as Conversions
+use Rattle.entry_convert.proofs.Proposed.{Checks, checks}
 use Rattle.razvolk.proofs.BlankedFrames.{Blanking, blanks, Exporting, exports, steps, blanking, exporting, converting, moving-to-planes, moving-back, checking}
 use Rattle.razvolk.proofs.ColourPlanes.{ToPlanes, FromPlanes, to, from}
 use Rattle.razvolk.proofs.Converted.{Converts, converts}

@@ -18,13 +18,13 @@ use Rattle.frame_blank.specs.Calls.{call}
 use Rattle.frame_blank.proofs.EachSample.{Clean, Fits, stated-clean, unstated-clean, stated-fits, unstated-fits}
 use Rattle.frame_blank.proofs.Isolation.{Blanks, blank-step, blanked-isolation}
 use Rattle.frame_blank.proofs.Isolation as Blanked
-use Rattle.frames.specs.Export.{export}
-use Rattle.frames.proofs.ExportedFrames.{Exports, exported-isolation}
-use Rattle.frames.proofs.ExportedFrames as Exported
-use Rattle.frames.proofs.Moves.{to-step, from-step}
+use Rattle.entry_frames.specs.Export.{export}
+use Rattle.entry_frames.proofs.ExportedFrames.{Exports, exported-isolation}
+use Rattle.entry_frames.proofs.ExportedFrames as Exported
+use Rattle.entry_frames.proofs.Moves.{to-step, from-step}
 use Rattle.write_packed.proofs.Returned.{step as packed-step}
-use Rattle.transcode.proofs.Converted.{step as convert-step}
-use Rattle.transcode.proofs.Proposed.{Checks, checks}
+use Rattle.entry_convert.proofs.Converted.{step as convert-step}
+use Rattle.entry_convert.proofs.Proposed.{Checks, checks}
 use Rattle.razvolk.proofs.ColourPlanes.{ToPlanes, FromPlanes, to, from}
 use Rattle.razvolk.proofs.Converted.{Converts, converts}
 use Rattle.razvolk.proofs.blanks.razvolk_blank_with.Kinds as with-kinds

@@ -3,8 +3,8 @@
 use denote.Ref.{now}
 use Rattle.samsung.proofs.Isolation.{Made}
 use Rattle.frame_planes.specs.Planes.{to-planes, from-planes}
-use Rattle.frames.proofs.Moves.{Moved}
-use Rattle.frames.proofs.Moves as Moves
+use Rattle.entry_frames.proofs.Moves.{Moved}
+use Rattle.entry_frames.proofs.Moves as Moves
 use Rattle.razvolk.proofs.colour.razvolk_to_planes.Kinds as to-kinds
 use Rattle.razvolk.proofs.colour.razvolk_to_planes.Reads as to-reads
 use Rattle.razvolk.proofs.colour.razvolk_from_planes.Kinds as from-kinds

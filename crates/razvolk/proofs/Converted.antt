@@ -3,8 +3,8 @@
 -- what was written, and is lent enough, is done and leaves the samples that the converter left, with no map byte other than 0.
 use denote.Ref.{now}
 use Rattle.samsung.proofs.Isolation.{Made, ended}
-use Rattle.transcode.proofs.Converted.{Conversion}
-use Rattle.transcode.proofs.Converted as Converted
+use Rattle.entry_convert.proofs.Converted.{Conversion}
+use Rattle.entry_convert.proofs.Converted as Converted
 use Rattle.razvolk.proofs.convert.razvolk_v0_to_v2.Kinds as convert-kinds
 use Rattle.razvolk.proofs.convert.razvolk_v0_to_v2.Reads as convert-reads
 

@@ -19,9 +19,9 @@ use Rattle.write_rules.specs.V2Writer as V2Writer
 use Rattle.write_rules.specs.Calls as Writers
 use Rattle.frame_blank.specs.Blanking as Blanking
 use Rattle.frame_blank.specs.Calls as Blank
-use Rattle.frames.specs.Export as Export
-use Rattle.frames.specs.Moved as Moved
-use Rattle.transcode.specs.Convert as Convert
+use Rattle.entry_frames.specs.Export as Export
+use Rattle.entry_frames.specs.Moved as Moved
+use Rattle.entry_convert.specs.Convert as Convert
 use Rattle.write_packed.specs.Proposal as Packed
 
 -- ── A number of a list ──

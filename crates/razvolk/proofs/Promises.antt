@@ -18,8 +18,8 @@ use Rattle.samsung.proofs.InBands.{InBands, in-bands}
 use Rattle.samsung.proofs.CleanFrames.{CleanFrames, clean-frames}
 use Rattle.write_rules.specs.Calls as Writers
 use Rattle.frame_blank.proofs.Returned.{MarkedAlone, marked-alone}
-use Rattle.late.proofs.LateFault.{LateFault, late-fault}
-use Rattle.transcode.proofs.Proposed.{Checks, checks, Writes, writes, Packed, packed}
+use Rattle.entry_late.proofs.LateFault.{LateFault, late-fault}
+use Rattle.entry_convert.proofs.Proposed.{Checks, checks, Writes, writes, Packed, packed}
 use Rattle.razvolk.proofs.Isolation.{Export}
 use Rattle.razvolk.proofs.BlankedFrames.{Blanking, blanks, Exporting, exports as exports-of, Isolation, isolation, BlankedFrames, blanked-frames, ExportedFrames, exported-frames}
 use Rattle.razvolk.proofs.RoundTrip.{Writing, wrote, ReadBack, read-back}
@@ -45,21 +45,21 @@ use Rattle.samsung.proofs.v2_entries.decode_v2 as v2-entry
 use Rattle.razvolk.proofs.v2.razvolk_decode_v2_map as v2-map
 use Rattle.samsung.proofs.v2_entries.decode_v2_map as v2-map-entry
 use Rattle.razvolk.proofs.writer.razvolk_write_v0 as writer
-use Rattle.frames.proofs.writer.write_v0 as writer-entry
+use Rattle.entry_frames.proofs.writer.write_v0 as writer-entry
 use Rattle.razvolk.proofs.blanks.razvolk_blank_with as blank-with
-use Rattle.frames.proofs.blanks.blank_with as blank-with-entry
+use Rattle.entry_frames.proofs.blanks.blank_with as blank-with-entry
 use Rattle.razvolk.proofs.blanks.razvolk_blank as blank
-use Rattle.frames.proofs.blanks.blank as blank-entry
+use Rattle.entry_frames.proofs.blanks.blank as blank-entry
 use Rattle.razvolk.proofs.blanks.razvolk_export_v0 as export
-use Rattle.frames.proofs.export.export_v0 as export-entry
+use Rattle.entry_frames.proofs.export.export_v0 as export-entry
 use Rattle.razvolk.proofs.colour.razvolk_to_planes as to-planes
-use Rattle.frames.proofs.colour.to_planes as to-planes-entry
+use Rattle.entry_frames.proofs.colour.to_planes as to-planes-entry
 use Rattle.razvolk.proofs.colour.razvolk_from_planes as from-planes
-use Rattle.frames.proofs.colour.from_planes as from-planes-entry
+use Rattle.entry_frames.proofs.colour.from_planes as from-planes-entry
 use Rattle.razvolk.proofs.convert.razvolk_v0_to_v2 as convert
-use Rattle.transcode.proofs.convert.v0_to_v2 as convert-entry
+use Rattle.entry_convert.proofs.convert.v0_to_v2 as convert-entry
 use Rattle.razvolk.proofs.proposal.razvolk_check_packed as check
-use Rattle.transcode.proofs.proposal.check_packed as check-entry
+use Rattle.entry_convert.proofs.proposal.check_packed as check-entry
 use Rattle.razvolk.proofs.reader.razvolk_get as get
 use Rattle.read_bits.proofs.get as get-entry
 use Rattle.razvolk.proofs.reader.razvolk_reset_at as reset-at

@@ -4,11 +4,11 @@
 -- samples that were written, and a map that is all 0. A call for clean frames that is lent enough takes it.
 use mathlib.Core.Path.{_≡_}
 use Rattle.samsung.proofs.Isolation.{checked, ended}
-use Rattle.frames.specs.Export.{write}
-use Rattle.frames.proofs.ExportedFrames as Exported
+use Rattle.entry_frames.specs.Export.{write}
+use Rattle.entry_frames.proofs.ExportedFrames as Exported
 use Rattle.write_packed.proofs.Returned.{Wrote}
 use Rattle.write_packed.proofs.ReadBack as Packed
-use Rattle.transcode.proofs.Proposed.{Writes, writes}
+use Rattle.entry_convert.proofs.Proposed.{Writes, writes}
 use Rattle.razvolk.proofs.BlankedFrames.{Exporting, exports}
 
 -- A call that writes V0: the writer's, or one of the archive export that is done, which writes the samples that it blanked.

@@ -1,7 +1,7 @@
 // The exports of the colour planes.
 ghost use mathlib.Core.Path.{_≡_};
 ghost use Rattle.frame_planes.specs.Planes.{to-planes, from-planes};
-ghost use Rattle.frames.specs.Moved.{answer, after};
+ghost use Rattle.entry_frames.specs.Moved.{answer, after};
 use rules::Answer;
 
 #[no_mangle]
@@ -14,7 +14,7 @@ pub extern "C" fn razvolk_to_planes(
     ensures answered { λ r. ⌜ r ≡ answer width height (now (samples .entry)) (now (planes .entry)) ⌝ }
     ensures planes { λ _. ⌜ now (planes .exit) ≡ after to-planes width height (now (samples .entry)) (now (planes .entry)) ⌝ }
 {
-    frames::to_planes(samples, width, height, planes)
+    entry_frames::to_planes(samples, width, height, planes)
 }
 
 #[no_mangle]
@@ -27,5 +27,5 @@ pub extern "C" fn razvolk_from_planes(
     ensures answered { λ r. ⌜ r ≡ answer width height (now (planes .entry)) (now (samples .entry)) ⌝ }
     ensures samples { λ _. ⌜ now (samples .exit) ≡ after from-planes width height (now (planes .entry)) (now (samples .entry)) ⌝ }
 {
-    frames::from_planes(planes, width, height, samples)
+    entry_frames::from_planes(planes, width, height, samples)
 }

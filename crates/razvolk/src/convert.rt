@@ -1,6 +1,6 @@
 // V0 into V2.
-ghost use Rattle.transcode.specs.Convert.{call, Yields};
-use transcode::v0_to_v2;
+ghost use Rattle.entry_convert.specs.Convert.{call, Yields};
+use entry_convert::v0_to_v2;
 use write_rules::Written;
 
 #[no_mangle]

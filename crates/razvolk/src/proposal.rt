@@ -15,5 +15,5 @@ pub extern "C" fn razvolk_check_packed(
     ensures { λ r. ⌜ Yields (proposal (now (src .entry)) (now (offsets .entry)) width height (now (meant .entry)))
         (now (scratch .entry)) r (now (scratch .exit)) ⌝ }
 {
-    transcode::check_packed(src, offsets, width, height, meant, scratch)
+    entry_convert::check_packed(src, offsets, width, height, meant, scratch)
 }

@@ -14,5 +14,5 @@ pub extern "C" fn razvolk_write_v0(
     ensures { λ r. ⌜ Yields (call (now (samples .entry)) width height (now (stream .entry)) (now (offsets .entry)))
         r (now (stream .exit)) (now (offsets .exit)) ⌝ }
 {
-    frames::write_v0(samples, width, height, stream, offsets)
+    entry_frames::write_v0(samples, width, height, stream, offsets)
 }

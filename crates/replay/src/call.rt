@@ -155,7 +155,7 @@ fn differs_written(call: &[u8], samples: &[u16]) -> bool {
     let mut offsets = [9u32; OFFSETS];
     let width = word(call, 4);
     let height = word(call, 8);
-    let written = frames::write_v0(samples, width, height, &mut stream, &mut offsets);
+    let written = entry_frames::write_v0(samples, width, height, &mut stream, &mut offsets);
     if is_other(call, written.answer) {
         return true;
     }

@@ -14,10 +14,10 @@ use Rattle.rules.specs.declared.answer.Size.{Size}
 use Rattle.rules.specs.Frame.{cells}
 use Rattle.rules.specs.Answer.{direct, two-phase, v2, Ask, ask, Buffers, buffers, lengths, too-large, too-small, short-samples, short-offsets, short-map, short-scratch, scratch-bytes, first-of, refusal}
 use Rattle.rules.proofs.Refusals.{size-most, samples-enough, offsets-enough, map-enough, scratch-enough}
-use Rattle.refusals.specs.declared.Lending.{Lending}
-use Rattle.refusals.specs.declared.Lending.the-variants.{Nothing, Length}
-use Rattle.refusals.specs.Lending.{short}
-use Rattle.refusals.proofs.RefusalLaws.{cells-most}
+use Rattle.entry_refusals.specs.declared.Lending.{Lending}
+use Rattle.entry_refusals.specs.declared.Lending.the-variants.{Nothing, Length}
+use Rattle.entry_refusals.specs.Lending.{short}
+use Rattle.entry_refusals.proofs.RefusalLaws.{cells-most}
 use Rattle.rules_bands.specs.Bands.{sized}
 use Rattle.v0_direct.specs.Lent.{Lends}
 

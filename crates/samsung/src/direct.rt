@@ -1,10 +1,10 @@
 // The direct V0 decoder's entries.
 ghost use mathlib.Core.Option.{none, some};
 ghost use Rattle.rules.specs.Answer.{direct, ask, buffers, Yields};
+use entry_refusals::Lending;
+use entry_refusals::refuse_direct;
+use entry_refusals::refused;
 use frame_map::mark_old;
-use refusals::Lending;
-use refusals::refuse_direct;
-use refusals::refused;
 use rules::Answer;
 use rules::Size;
 use v0_direct::frame::decode_frame;

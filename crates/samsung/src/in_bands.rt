@@ -1,7 +1,7 @@
 // The V0 decoder in bands: the two-phase decoder, with phase two done block by block in the sequence of a list of steps.
 ghost use Rattle.rules_bands.specs.Call.{call, Yields};
-use refusals::refuse_two_phase;
-use refusals::refused;
+use entry_refusals::refuse_two_phase;
+use entry_refusals::refused;
 use rules::Answer;
 use rules::Size;
 use rules_bands::refuse_steps;

@@ -1,8 +1,8 @@
 // The two-phase V0 decoder's entry. It makes no map.
 ghost use mathlib.Core.Option.{none, some};
 ghost use Rattle.rules.specs.Answer.{two-phase, ask, buffers, Yields};
-use refusals::refuse_two_phase;
-use refusals::refused;
+use entry_refusals::refuse_two_phase;
+use entry_refusals::refused;
 use rules::Answer;
 use rules::Size;
 use v0_two_phase::frame::decode_frame;

@@ -2,10 +2,10 @@
 ghost use mathlib.Core.List.{[]};
 ghost use mathlib.Core.Option.{none, some};
 ghost use Rattle.rules.specs.Answer.{v2, ask, buffers, Yields};
+use entry_refusals::Lending;
+use entry_refusals::refuse_v2;
+use entry_refusals::refused;
 use frame_map::mark_old;
-use refusals::Lending;
-use refusals::refuse_v2;
-use refusals::refused;
 use rules::Answer;
 use rules::Size;
 use v2_frame::frame::decode_frame;
