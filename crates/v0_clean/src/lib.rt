@@ -18,7 +18,7 @@ use rules::Answer;
 use rules::Size;
 use rules::V0Head;
 use rules::V0Row;
-use v0_direct::Place;
+use v0_direct::V0Place;
 use v0_direct::row::is_inner;
 use v0_direct::sample::decode_samples;
 use v0_parse::block::read_block;
@@ -67,7 +67,7 @@ fn see_block(src: &[u8], size: Size, row: usize, col: usize, state: V0Row) -> V0
     let head = read_block_head(src, state);
     let mut no_samples = [0u16; 0];
     let mut no_map = [0u8; 0];
-    let at = Place { size, row, col };
+    let at = V0Place { size, row, col };
     let bits = decode_samples(src, at, head, &mut no_samples, &mut no_map);
     let opened = head.row;
     let lengths = opened.lengths;

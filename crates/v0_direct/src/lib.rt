@@ -7,7 +7,7 @@ pub mod sample;
 use rules::Size;
 
 // Where a block lies: at a column of a row of a frame.
-pub struct Place {
+pub struct V0Place {
     pub size: Size,
     pub row: usize,
     pub col: usize,

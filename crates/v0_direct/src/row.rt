@@ -13,7 +13,7 @@ ghost use Rattle.v0_lanes.specs.Blocks.{Tables};
 ghost use Rattle.v0_direct.specs.Lent.{InRow, BlockLent, RunLent};
 ghost use Rattle.v0_direct.specs.Block.{Decoded, BlockRun};
 ghost use Rattle.v0_direct.specs.Run.{inner};
-use super::Place;
+use super::V0Place;
 use super::run::Run;
 use super::run::decode_run;
 use super::sample::decode_samples;
@@ -54,7 +54,7 @@ pub fn is_inner(size: Size, row: usize, col: usize) -> bool
 
 // The residuals after a head that was read by position: the bit after them. Each group is put as it is read, so that few registers hold
 // a block; the four ways stand written out, since the compiler calls a function that would join them.
-fn put_groups(src: &[u8], base: usize, head: WindowHead, at: Place, out: &mut [u16]) -> usize
+fn put_groups(src: &[u8], base: usize, head: WindowHead, at: V0Place, out: &mut [u16]) -> usize
     requires { ⌜ Ahead (now src) base (head .q) 583 × (Inner (at .size) (at .row) (at .col) × (length (now out) ≡ cells (at .size))) ⌝ }
     ensures { λ r. ⌜ Ends (now (src .entry)) base head r ⌝ }
     ensures { λ _. ⌜ now (out .exit) ≡ V0.apply V0.sample-kind (inner-ops (at .size .width) (at .row * at .size .width + at .col) (head .up) V0.order (residuals-of (now (src .entry)) base head)) (now (out .entry)) ⌝ }
@@ -91,7 +91,7 @@ fn put_groups(src: &[u8], base: usize, head: WindowHead, at: Place, out: &mut [u
 }
 
 // An inner block by the record, whatever its state.
-fn decode_by_record(src: &[u8], at: Place, state: V0Row, out: &mut [u16], map: &mut [u8]) -> V0Row
+fn decode_by_record(src: &[u8], at: V0Place, state: V0Row, out: &mut [u16], map: &mut [u8]) -> V0Row
     requires { ⌜ Inner (at .size) (at .row) (at .col) × BlockLent (at .size) (state .lengths) (now out) (now map) ⌝ }
     ensures { λ r. ⌜ Decoded (now (src .entry)) (at .size) (at .row) (at .col) state (now (out .entry)) (now (map .entry)) r (now (out .exit)) (now (map .exit)) ⌝ }
 {
@@ -106,7 +106,7 @@ fn decode_by_record(src: &[u8], at: Place, state: V0Row, out: &mut [u16], map: &
 
 // An inner block: from row 2 on, after column 0 and inside its row nothing is skipped, so that all residuals are read in one go, by
 // windows where the record stands in the stream.
-fn decode_inner(src: &[u8], at: Place, state: V0Row, out: &mut [u16], map: &mut [u8]) -> V0Row
+fn decode_inner(src: &[u8], at: V0Place, state: V0Row, out: &mut [u16], map: &mut [u8]) -> V0Row
     requires { ⌜ Inner (at .size) (at .row) (at .col) × BlockLent (at .size) (state .lengths) (now out) (now map) ⌝ }
     ensures { λ r. ⌜ Decoded (now (src .entry)) (at .size) (at .row) (at .col) state (now (out .entry)) (now (map .entry)) r (now (out .exit)) (now (map .exit)) ⌝ }
 {
@@ -127,7 +127,7 @@ fn decode_inner(src: &[u8], at: Place, state: V0Row, out: &mut [u16], map: &mut 
 }
 
 // One block: an inner one in one go, any other sample by sample. Its end is `end_block`.
-fn decode_block(src: &[u8], at: Place, state: V0Row, out: &mut [u16], map: &mut [u8]) -> V0Row
+fn decode_block(src: &[u8], at: V0Place, state: V0Row, out: &mut [u16], map: &mut [u8]) -> V0Row
     requires { ⌜ InFrame (at .size) (at .row) (at .col) × BlockLent (at .size) (state .lengths) (now out) (now map) ⌝ }
     ensures { λ r. ⌜ Decoded (now (src .entry)) (at .size) (at .row) (at .col) state (now (out .entry)) (now (map .entry)) r (now (out .exit)) (now (map .exit)) ⌝ }
 {
@@ -155,7 +155,7 @@ fn end_block(map: &mut [u8], place: usize, bits: Bits)
 // A run of blocks from a column on, and the block after it, if the row has one more.
 fn decode_blocks(
     src: &[u8],
-    at: Place,
+    at: V0Place,
     state: V0Row,
     out: &mut [u16],
     map: &mut [u8],
@@ -175,7 +175,7 @@ fn decode_blocks(
     if w <= col {
         return run;
     }
-    let state = decode_block(src, Place { size, row, col }, before, out, map);
+    let state = decode_block(src, V0Place { size, row, col }, before, out, map);
     let bits = state.bits;
     end_block(map, row * w + col, bits);
     Run {
@@ -205,7 +205,15 @@ pub fn decode_row(
     let mut state = V0Row::fresh(row, offset);
     let mut col: usize = 0;
     while col < w {
-        let blocks = decode_blocks(src, Place { size, row, col }, state, out, map, lanes, heads);
+        let blocks = decode_blocks(
+            src,
+            V0Place { size, row, col },
+            state,
+            out,
+            map,
+            lanes,
+            heads,
+        );
         state = blocks.state;
         col = blocks.col;
     }

@@ -21,7 +21,7 @@ ghost use Rattle.v0_lanes.specs.Blocks.{Tables};
 ghost use Rattle.v0_direct.specs.Lent.{RunLent};
 ghost use Rattle.v0_direct.specs.Block.{Ran};
 ghost use Rattle.v0_direct.specs.Run.{run-begins, run-end, row-at, RanAt, finished, finished-marks};
-use super::Place;
+use super::V0Place;
 use super::row::is_inner;
 use read_window::BACK_BITS;
 use read_window::BACK_BYTES;
@@ -55,7 +55,7 @@ pub struct Point {
 }
 
 // What the block before a column waits for, where the run has one there: its predictions, and its marks.
-fn finish(out: &mut [u16], map: &mut [u8], at: Place, from: usize, up: bool)
+fn finish(out: &mut [u16], map: &mut [u8], at: V0Place, from: usize, up: bool)
     requires { ⌜ (from < at .col → Inner (at .size) (at .row) (at .col - 16)) × ((length (now out) ≡ cells (at .size)) × Whole (at .size) (now map)) ⌝ }
     ensures { λ _. ⌜ now (out .exit) ≡ finished (at .size) (at .row) from (at .col) up (now (out .entry)) ⌝ }
     ensures { λ _. ⌜ now (map .exit) ≡ finished-marks (at .size) (at .row) from (at .col) up (now (map .entry)) ⌝ }
@@ -76,7 +76,7 @@ fn finish(out: &mut [u16], map: &mut [u8], at: Place, from: usize, up: bool)
 fn short_blocks(
     src: &[u8],
     base: usize,
-    at: Place,
+    at: V0Place,
     start: Point,
     out: &mut [u16],
     map: &mut [u8],
@@ -110,11 +110,11 @@ fn short_blocks(
         q = ends.fourth;
         head = head_at(src, base, q, lengths, heads);
         store_block(src, base, from, lengths, out, row * w + col, lanes);
-        finish(out, map, Place { size, row, col }, first, up);
+        finish(out, map, V0Place { size, row, col }, first, up);
         up = next;
         col += V0Row::BLOCK;
     }
-    finish(out, map, Place { size, row, col }, first, up);
+    finish(out, map, V0Place { size, row, col }, first, up);
     Point {
         col,
         q,
@@ -123,7 +123,7 @@ fn short_blocks(
 }
 
 // Whether a run begins at a block: at an inner one, after short lengths, where the record stands in the stream and no word was missing.
-fn begins(src: &[u8], at: Place, state: V0Row) -> bool
+fn begins(src: &[u8], at: V0Place, state: V0Row) -> bool
     requires { ⌜ InFrame (at .size) (at .row) (at .col) ⌝ }
     ensures { λ r. ⌜ r ≡ run-begins (now (src .entry)) (at .size) (at .row) (at .col) state ⌝ }
     ensures { λ r. ⌜ (r ≡ true → Standing (now (src .entry)) (state .bits) 80) ⌝ }
@@ -145,7 +145,7 @@ fn begins(src: &[u8], at: Place, state: V0Row) -> bool
 // The run from a block on, of which there may be none. The record is made again after its last block.
 pub fn decode_run(
     src: &[u8],
-    at: Place,
+    at: V0Place,
     state: V0Row,
     out: &mut [u16],
     map: &mut [u8],

@@ -7,7 +7,7 @@ ghost use Rattle.rules.specs.V0 as V0;
 ghost use Rattle.rules.specs.Map.{v0-marks};
 ghost use Rattle.v0_cells.specs.Places.{InFrame};
 ghost use Rattle.v0_direct.specs.Block.{samples-of, Applied};
-use super::Place;
+use super::V0Place;
 use read_bits::read_residual;
 use rules::Bits;
 use rules::V0Head;
@@ -21,7 +21,7 @@ use v0_parse::order::stream_column;
 // Sample c of a block after its head.
 fn decode_sample(
     src: &[u8],
-    at: Place,
+    at: V0Place,
     head: V0Head,
     c: usize,
     bits: Bits,
@@ -45,7 +45,13 @@ fn decode_sample(
 }
 
 // A block's sixteen samples after its head.
-pub fn decode_samples(src: &[u8], at: Place, head: V0Head, out: &mut [u16], map: &mut [u8]) -> Bits
+pub fn decode_samples(
+    src: &[u8],
+    at: V0Place,
+    head: V0Head,
+    out: &mut [u16],
+    map: &mut [u8],
+) -> Bits
     requires { ⌜ InFrame (at .size) (at .row) (at .col) ⌝ }
     ensures { λ r. ⌜ r ≡ samples-of (now (src .entry)) (at .size) (at .row) (at .col) head V0.order (head .row .bits) .bits ⌝ }
     ensures { λ _. ⌜ now (out .exit) ≡ V0.apply V0.sample-kind (samples-of (now (src .entry)) (at .size) (at .row) (at .col) head V0.order (head .row .bits) .ops) (now (out .entry)) ⌝ }

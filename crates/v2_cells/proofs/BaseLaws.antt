@@ -22,7 +22,7 @@ use Rattle.rules.proofs.Cells.{All, nil, more, all-get}
 use Rattle.rules.proofs.V2Places.{further, offset-is, reference-is}
 use Rattle.rules.proofs.V2References.{reference-inside}
 use Rattle.rules.proofs.Tests.{by-test}
-use Rattle.v2_cells.specs.declared.Place.{Place}
+use Rattle.v2_cells.specs.declared.V2Place.{V2Place}
 use Rattle.v2_cells.specs.declared.base.References.{References}
 use Rattle.v2_cells.specs.Places.{Inside, reference, references, along, Runs, cell-from}
 use Rattle.v2_cells.proofs.Fill.{tabulate-same}
@@ -48,7 +48,7 @@ pub offset-code : (motion : ℕ) → toZ w64 (ofZ w64 (getD motion-offsets motio
 offset-code motion = rw (toZ-ofZ w64 (getD motion-offsets motion (pos 0)) (record { sfits = omega (arith, offset-small motion) })) (offset-is motion)
 
 -- A sample refers as far on from one of the same parity as it stands on from it.
-same-parity : (at : Place) (motion i d : ℕ) → d % 2 ≡ 0 → reference at motion (i + d) ≡ reference at motion i + d
+same-parity : (at : V2Place) (motion i d : ℕ) → d % 2 ≡ 0 → reference at motion (i + d) ≡ reference at motion i + d
 unfolding reference-5
 same-parity at motion i d e =
     let p : (at .row + (i + d)) % 2 ≡ (at .row + i) % 2 = omega arith in
@@ -111,7 +111,7 @@ unfolding base
 bases-7 K f h w row col motion l e el = simp e el
 
 -- A block among the n samples of its frame, of motion 0 to 6, whose base meets no refusal.
-module _ {n : ℕ} {at : Place} {motion : ℕ} (inside : Inside n at) (other : motion ≡ 7 → ⊥) (none : base-refusal (at .row) (at .col) motion ≡ 0) where
+module _ {n : ℕ} {at : V2Place} {motion : ℕ} (inside : Inside n at) (other : motion ≡ 7 → ⊥) (none : base-refusal (at .row) (at .col) motion ≡ 0) where
   free : (2 ≤ at .row) × (refers-before (at .row) (at .col) motion ≡ false)
   free = unrefused (at .row) (at .col) motion (ne-eqb motion 7 other) none
 

@@ -7,7 +7,7 @@ ghost use Rattle.rules.specs.Frame.{tabulate};
 ghost use Rattle.rules.specs.V2.{motion-averages, average, refers-before, base-refusal, base-cell, sample-kind, repeated, base};
 ghost use Rattle.rules.specs.Ranges.{offset-4, reference-5};
 ghost use Rattle.v2_cells.specs.Places.{Placed, Inside, Based, Referring, ReferringAt, references, along, Runs, cell-from, base-cells, repeated-cells};
-use super::Place;
+use super::V2Place;
 use rules::Answer;
 use rules::V2Hdr;
 use rules::V2Row;
@@ -39,7 +39,7 @@ fn averages(motion: u32) -> bool
 }
 
 // Where sample 0 or 1 refers to, 5 places on, so that none is below 0.
-fn reference_plus_5(at: Place, motion: u32, i: usize) -> usize
+fn reference_plus_5(at: V2Place, motion: u32, i: usize) -> usize
     requires { ⌜ ReferringAt at motion i ⌝ }
     ensures { λ r. ⌜ r ≡ reference-5 (at .width) (at .row) (at .col) motion i ⌝ }
 {
@@ -52,7 +52,7 @@ fn reference_plus_5(at: Place, motion: u32, i: usize) -> usize
 }
 
 // The references of motions 0 to 6, in a block that meets no refusal.
-pub fn references_of(at: Place, motion: u32) -> References
+pub fn references_of(at: V2Place, motion: u32) -> References
     requires { ⌜ Referring at motion ⌝ }
     ensures { λ r. ⌜ r ≡ references at motion ⌝ }
 {
@@ -78,7 +78,7 @@ pub fn along_from(refs: References, i: usize) -> usize
 }
 
 // Whether the block refers to before the frame's first sample: no other reference is outside the frame.
-fn refers_before(at: Place, motion: u32) -> bool
+fn refers_before(at: V2Place, motion: u32) -> bool
     ensures { λ r. ⌜ r ≡ refers-before (at .row) (at .col) motion ⌝ }
 {
     if at.row != 2 {
@@ -88,7 +88,7 @@ fn refers_before(at: Place, motion: u32) -> bool
 }
 
 // The refusal that the base meets, or 0.
-pub fn refusal_of(at: Place, motion: u32) -> u32
+pub fn refusal_of(at: V2Place, motion: u32) -> u32
     ensures { λ r. ⌜ r ≡ base-refusal (at .row) (at .col) motion ⌝ }
 {
     if motion == V2Row::MOTION {
@@ -134,7 +134,7 @@ fn refer(out: &[u16], refs: References, values: &mut [u16; 16])
 }
 
 // One of the two samples that motion 7 repeats.
-fn before(out: &[u16], hdr: V2Hdr, at: Place, i: usize) -> u16
+fn before(out: &[u16], hdr: V2Hdr, at: V2Place, i: usize) -> u16
     requires { ⌜ Inside (length (now out)) at × (i < 2) ⌝ }
     ensures { λ r. ⌜ r ≡ base-cell (sample-kind 0) (now (out .entry)) (repeated hdr (at .width) (at .row) (at .col) i) ⌝ }
 {
@@ -146,7 +146,7 @@ fn before(out: &[u16], hdr: V2Hdr, at: Place, i: usize) -> u16
 }
 
 // The bases of motion 7.
-fn repeat(out: &[u16], hdr: V2Hdr, at: Place, values: &mut [u16; 16])
+fn repeat(out: &[u16], hdr: V2Hdr, at: V2Place, values: &mut [u16; 16])
     requires { ⌜ Inside (length (now out)) at ⌝ }
     ensures { λ _. ⌜ now (values .exit) ≡ repeated-cells (sample-kind 0) hdr at (now (out .entry)) ⌝ }
 {
@@ -156,7 +156,7 @@ fn repeat(out: &[u16], hdr: V2Hdr, at: Place, values: &mut [u16; 16])
 }
 
 // The bases of a block that meets no refusal.
-pub fn bases(out: &[u16], hdr: V2Hdr, at: Place, motion: u32, values: &mut [u16; 16])
+pub fn bases(out: &[u16], hdr: V2Hdr, at: V2Place, motion: u32, values: &mut [u16; 16])
     requires { ⌜ Based (length (now out)) at motion (length (now values)) ⌝ }
     ensures { λ _. ⌜ now (values .exit) ≡ base-cells (sample-kind 0) hdr at motion (now (out .entry)) ⌝ }
 {

@@ -8,13 +8,13 @@ pub mod marks;
 pub mod samples;
 
 // Where a block stands: its row and first column, in a frame of `width` samples to a row.
-pub struct Place {
+pub struct V2Place {
     pub width: usize,
     pub row: usize,
     pub col: usize,
 }
 
-impl Place {
+impl V2Place {
     // The block's first sample, as a position in the whole frame.
     pub fn first(self) -> usize
         requires { ⌜ Placed self ⌝ }

@@ -10,7 +10,7 @@ ghost use Rattle.rules.specs.Reader.{has-filler};
 ghost use Rattle.rules.specs.V2.{base-refusal, base-cell, repeated, base};
 ghost use Rattle.rules.specs.Map.{with-filler, v2-marks};
 ghost use Rattle.v2_cells.specs.Places.{Inside, Markable, Based, along, Runs, cell-from, base-cells, repeated-cells, with-marks};
-use super::Place;
+use super::V2Place;
 use super::base::References;
 use super::base::along_from;
 use super::base::references_of;
@@ -44,7 +44,7 @@ fn refer_marks(map: &[u8], refs: References, marks: &mut [u8; 16])
 }
 
 // One of the two marks that motion 7 repeats: the initial sample is the stream's.
-fn mark_before(map: &[u8], at: Place, i: usize) -> u8
+fn mark_before(map: &[u8], at: V2Place, i: usize) -> u8
     requires { ⌜ Inside (length (now map)) at × (i < 2) ⌝ }
     ensures { λ r. ⌜ ((h : V2Hdr) → r ≡ base-cell v2-marks (now (map .entry)) (repeated h (at .width) (at .row) (at .col) i)) ⌝ }
 {
@@ -56,7 +56,7 @@ fn mark_before(map: &[u8], at: Place, i: usize) -> u8
 }
 
 // The marks of motion 7.
-fn repeat_marks(map: &[u8], at: Place, marks: &mut [u8; 16])
+fn repeat_marks(map: &[u8], at: V2Place, marks: &mut [u8; 16])
     requires { ⌜ Inside (length (now map)) at ⌝ }
     ensures { λ _. ⌜ ((h : V2Hdr) → now (marks .exit) ≡ repeated-cells v2-marks h at (now (map .entry))) ⌝ }
 {
@@ -66,7 +66,7 @@ fn repeat_marks(map: &[u8], at: Place, marks: &mut [u8; 16])
 }
 
 // The marks of a block that meets no refusal.
-fn block_marks(map: &[u8], at: Place, motion: u32, marks: &mut [u8; 16])
+fn block_marks(map: &[u8], at: V2Place, motion: u32, marks: &mut [u8; 16])
     requires { ⌜ Based (length (now map)) at motion (length (now marks)) ⌝ }
     ensures { λ _. ⌜ ((h : V2Hdr) → now (marks .exit) ≡ base-cells v2-marks h at motion (now (map .entry))) ⌝ }
 {
@@ -90,7 +90,7 @@ fn store_marks(map: &mut [u8], at: usize, marks: &[u8; 16])
 }
 
 // Marks a block in a map of the whole frame; an empty map has nothing to mark.
-fn mark_base(map: &mut [u8], at: Place, motion: u32)
+fn mark_base(map: &mut [u8], at: V2Place, motion: u32)
     requires { ⌜ Markable (length (now map)) at motion ⌝ }
     ensures { λ _. ⌜ ((h : V2Hdr) → now (map .exit) ≡ with-marks h at motion (now (map .entry))) ⌝ }
 {
@@ -104,7 +104,7 @@ fn mark_base(map: &mut [u8], at: Place, motion: u32)
 
 // Marks a block in a map of the whole frame, and adds filler where the reader had fetched some by the block's end; an empty map has
 // nothing to mark.
-pub fn mark_block(map: &mut [u8], at: Place, motion: u32, end: Bits)
+pub fn mark_block(map: &mut [u8], at: V2Place, motion: u32, end: Bits)
     requires { ⌜ Markable (length (now map)) at motion ⌝ }
     ensures { λ _. ⌜ ((h : V2Hdr) → now (map .exit) ≡ ended with-filler 0 (has-filler end) (at .row * at .width + at .col) (with-marks h at motion (now (map .entry)))) ⌝ }
 {

@@ -22,7 +22,7 @@ use Rattle.rules.specs.Ranges.{Between, Small}
 use Rattle.rules.proofs.Cells.{all-get}
 use Rattle.rules.proofs.V2Bounds.{between-abs, mag-abs, scale-read, scale-within, motion-most, lengths-small, differences-small}
 use Rattle.rules.proofs.Tests.{by-test}
-use Rattle.v2_cells.specs.declared.Place.{Place}
+use Rattle.v2_cells.specs.declared.V2Place.{V2Place}
 use Rattle.v2_frame.specs.Blocks.{Ready, written}
 
 -- A scale within the limits fits 32 signed bits.
@@ -30,7 +30,7 @@ pub scale-fits : (z : ℤ) → Between 512 4_605 z → SFits w32 z
 scale-fits z p = record { sfits = omega (arith, mag-abs z, between-abs p (lit≤ tt)) }
 
 -- The ranges of a block's own motion and scale, and of the scale before it.
-module _ (s : List ℕ) (h : V2Hdr) (n : ℕ) (at : Place) (b : Bits) (st : V2Row) (r : Ready h n at st) where
+module _ (s : List ℕ) (h : V2Hdr) (n : ℕ) (at : V2Place) (b : Bits) (st : V2Row) (r : Ready h n at st) where
   column-most : at .col + 16 ≤ 16_384
   column-most = omega (arith, r .inside .placed .column, r .inside .placed .wide)
 

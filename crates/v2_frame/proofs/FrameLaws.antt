@@ -27,7 +27,7 @@ use Rattle.rules.specs.Answer.{done-with}
 use Rattle.rules.specs.Ranges.{ScaleAt}
 use Rattle.rules.proofs.V2Bounds.{depth-most, scale-starts, next-state, next-unrefused, next-motion, next-scale}
 use Rattle.rules.proofs.V2Cells.{write-plain}
-use Rattle.v2_cells.specs.declared.Place.{Place}
+use Rattle.v2_cells.specs.declared.V2Place.{V2Place}
 use Rattle.v2_cells.specs.Places.{Placed, Markable}
 use Rattle.v2_frame.specs.Blocks.{written}
 use Rattle.v2_parse.proofs.LengthLaws.{left-suc, left-none}
@@ -243,7 +243,7 @@ pub depth-is : (s : List ℕ) (x : V2Start) → x ≡ header s → x .hdr .depth
 depth-is s x e = rw e (depth-most s)
 
 -- A block that goes on can be marked, in a map of the whole frame or in an empty one.
-pub markable : (s : List ℕ) (h : V2Hdr) (n k m : ℕ) (at : Place) (b : Bits) (st : V2Row) (mode : List (List ℕ)) (b′ : Bits) (st′ : V2Row)
+pub markable : (s : List ℕ) (h : V2Hdr) (n k m : ℕ) (at : V2Place) (b : Bits) (st : V2Row) (mode : List (List ℕ)) (b′ : Bits) (st′ : V2Row)
     → read-block s h (at .width) (at .row) (at .col) b st mode .outcome ≡ Next b′ st′ → st .motion ≤ 7 → Placed at → at .row * at .width + at .col + 16 ≤ n
     → k ≡ m → (m ≡ n) ⊎ (m ≡ 0) → Markable k at (st′ .motion)
 markable s h n k m at b st mode b′ st′ e small placed room ek lent = record {

@@ -11,11 +11,11 @@ use Rattle.rules.specs.declared.v2.V2Block.{V2Block}
 use Rattle.rules.specs.declared.v2.V2Block.the-variants.{Next, EarlyMotion, Outside, LongDifference}
 use Rattle.rules.specs.Frame.{cells}
 use Rattle.rules.specs.Ranges.{ScaleAt}
-use Rattle.v2_cells.specs.declared.Place.{Place}
+use Rattle.v2_cells.specs.declared.V2Place.{V2Place}
 use Rattle.v2_cells.specs.Places.{Inside}
 
 -- A header, a place in a frame of n samples, and a row's state, within the limits.
-pub record Ready (h : V2Hdr) (n : ℕ) (at : Place) (st : V2Row) : Type 0 where
+pub record Ready (h : V2Hdr) (n : ℕ) (at : V2Place) (st : V2Row) : Type 0 where
   pub depth : h .depth ≤ 16
   pub inside : Inside n at
   pub motion : st .motion ≤ 7

@@ -14,7 +14,7 @@ use rules::Bits;
 use rules::V2Block;
 use rules::V2Hdr;
 use rules::V2Row;
-use v2_cells::Place;
+use v2_cells::V2Place;
 use v2_cells::base::bases;
 use v2_cells::base::refusal_of;
 use v2_cells::samples::build;
@@ -83,7 +83,7 @@ fn read_tail(
 pub fn read_block(
     src: &[u8],
     hdr: V2Hdr,
-    at: Place,
+    at: V2Place,
     out: &[u16],
     bits: Bits,
     state: V2Row,

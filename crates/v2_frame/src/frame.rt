@@ -8,7 +8,7 @@ use rules::Answer;
 use rules::Size;
 use rules::V2Block;
 use rules::V2Row;
-use v2_cells::Place;
+use v2_cells::V2Place;
 use v2_cells::marks::mark_block;
 use v2_cells::samples::store;
 use v2_differences::positions_of;
@@ -36,7 +36,7 @@ pub fn decode_frame(src: &[u8], size: Size, out: &mut [u16], map: &mut [u8]) -> 
         let mut lengths = V2Row::mode(row);
         let mut col: usize = 0;
         while col + V2Row::BLOCK <= width {
-            let at = Place { width, row, col };
+            let at = V2Place { width, row, col };
             let mut samples = [0u16; 16];
             let read = read_block(
                 src,

@@ -2,8 +2,8 @@
 use native.Mathlib.Omega.{arith}
 use borrow.Author.Needs.{needs}
 use Rattle.v2_cells.proofs.BaseLaws.{rows-room}
-use Rattle.v2_cells.proofs.Place.first.Statement.{statement}
-use Rattle.v2_cells.proofs.Place.first.Tie as tie
+use Rattle.v2_cells.proofs.V2Place.first.Statement.{statement}
+use Rattle.v2_cells.proofs.V2Place.first.Tie as tie
 
 mul-result : tie.Need-mul-result
 mul-result c = let a = c .before in omega (arith, rows-room (a .args .self .row) (a .args .self .width) (a .pre .high) (a .pre .wide))
