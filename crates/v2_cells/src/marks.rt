@@ -90,7 +90,7 @@ fn store_marks(map: &mut [u8], at: usize, marks: &[u8; 16])
 }
 
 // Marks a block in a map of the whole frame; an empty map has nothing to mark.
-fn mark_base(map: &mut [u8], at: V2Place, motion: u32)
+fn mark_block(map: &mut [u8], at: V2Place, motion: u32)
     requires { ⌜ Markable (length (now map)) at motion ⌝ }
     ensures { λ _. ⌜ ((h : V2Hdr) → now (map .exit) ≡ with-marks h at motion (now (map .entry))) ⌝ }
 {
@@ -104,11 +104,11 @@ fn mark_base(map: &mut [u8], at: V2Place, motion: u32)
 
 // Marks a block in a map of the whole frame, and adds filler where the reader had fetched some by the block's end; an empty map has
 // nothing to mark.
-pub fn mark_block(map: &mut [u8], at: V2Place, motion: u32, end: Bits)
+pub fn mark_ended_block(map: &mut [u8], at: V2Place, motion: u32, end: Bits)
     requires { ⌜ Markable (length (now map)) at motion ⌝ }
     ensures { λ _. ⌜ ((h : V2Hdr) → now (map .exit) ≡ ended with-filler 0 (has-filler end) (at .row * at .width + at .col) (with-marks h at motion (now (map .entry)))) ⌝ }
 {
-    mark_base(map, at, motion);
+    mark_block(map, at, motion);
     if end.filler == 0 {
         return;
     }

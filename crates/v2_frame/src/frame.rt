@@ -9,7 +9,7 @@ use rules::Size;
 use rules::V2Block;
 use rules::V2Row;
 use v2_cells::V2Place;
-use v2_cells::marks::mark_block;
+use v2_cells::marks::mark_ended_block;
 use v2_cells::samples::store;
 use v2_differences::positions_of;
 use v2_parse::header::align;
@@ -60,7 +60,7 @@ pub fn decode_frame(src: &[u8], size: Size, out: &mut [u16], map: &mut [u8]) -> 
                 break 'frame;
             };
             store(&mut out[..], at.first(), &samples);
-            mark_block(&mut map[..], at, next_state.motion, next_bits);
+            mark_ended_block(&mut map[..], at, next_state.motion, next_bits);
             bits = next_bits;
             state = next_state;
             let remembered = read.remembered;

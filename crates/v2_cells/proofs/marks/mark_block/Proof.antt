@@ -1,50 +1,45 @@
--- The marks of the base, and then the block's end.
+-- No map is lent, or its sixteen marks of the block are made and then stored at the block's place.
+use mathlib.Core.Path.{refl}
 use native.Mathlib.Omega.{arith}
+use denote.Ref.{now}
 use borrow.Author.Needs.{needs}
-use Rattle.frame_map.proofs.MapLaws.{ended-clear, ended-filled}
-use Rattle.v2_cells.proofs.BaseLaws.{rows-room}
+use Rattle.rules.specs.Frame.{tabulate}
+use Rattle.v2_cells.proofs.Fill.{fill-length, empty-is, sets-same}
 use Rattle.v2_cells.proofs.marks.mark_block.Statement.{statement}
 use Rattle.v2_cells.proofs.marks.mark_block.Tie as tie
 
-mark-base-requires : tie.Need-mark-base-requires
-mark-base-requires c κs = search needs
-
-same-length : tie.Need-same-length
-same-length c = search needs
-
 returns : tie.Need-returns
-returns c =
-    let based = c .before .before .before .before in
-    λ h. ended-clear (based .before .before .before .args .end) _ _ _ (based .mark-base .ensures h) (c .if1 .taken)
+unfolding tabulate
+returns c = λ h. rw (empty-is (now (c .before .before .args .map)) (c .if1 .taken))
+
+block-marks-requires : tie.Need-block-marks-requires
+block-marks-requires c κs = let a = c .before .before .before .before in let filled = c .before .before .if1 .left in record { inside = a .pre .inside filled; small = a .pre .small; sixteen = refl; unrefused = a .pre .unrefused }
 
 first-requires : tie.Need-first-requires
 first-requires c κs = search needs
 
 -- Places that the answers look back at.
-abbrev after-mark-base : tie.After-fill-block-arg → tie.After-mark-base
-after-mark-base c = c .before .before .before .before .before
+abbrev after-block-marks : tie.After-marks2 → tie.After-block-marks
+after-block-marks c = c .before .before .before
 
-fill-block-requires : tie.Need-fill-block-requires
-fill-block-requires c κs =
-    let a = after-mark-base (c .before) .before .before .before in
-    omega (arith, c .first .ensures, a .pre .placed .column, a .pre .placed .wide, rows-room (a .args .at .row) (a .args .at .width) (a .pre .placed .high) (a .pre .placed .wide))
+store-marks-requires : tie.Need-store-marks-requires
+store-marks-requires c κs =
+    let a = after-block-marks c .before .before .before .before .before in
+    (omega (arith, c .before .first .ensures, a .pre .inside (after-block-marks c .before .before .before .if1 .left) .room), fill-length _ _ (after-block-marks c .block-marks .ensures (record { depth = 0; options = 0; initial = 0 })))
 
-same-length-2 : tie.Need-same-length-2
-same-length-2 c = search needs
+same-length : tie.Need-same-length
+same-length c = search needs
 
 returns-2 : tie.Need-returns-2
-returns-2 c =
-    let based = after-mark-base (c .before .before .before .before) in
-    λ h. ended-filled (based .before .before .before .args .end) _ _ _ (based .mark-base .ensures h) (c .before .before .before .before .before .if1 .left) _ _ (c .before .before .before .first .ensures) (c .before .before .fill-block .ensures)
+returns-2 c = λ h. sets-same _ _ _ _ _ _ (c .before .before .store-marks .ensures) (c .before .before .before .before .first .ensures) (after-block-marks (c .before .before .before) .block-marks .ensures h)
 
 pub mark-block-spec : {M : Type 1} → statement M
 mark-block-spec =
     tie.close
     (tie.spec
-    mark-base-requires
-    same-length
     returns
+    block-marks-requires
     first-requires
-    fill-block-requires
-    same-length-2
+    store-marks-requires
+    same-length
     returns-2)

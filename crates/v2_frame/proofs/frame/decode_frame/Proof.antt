@@ -61,11 +61,11 @@ after-read-block c = c .before .before .before
 abbrev at-match-keys1 : tie.After-first Inv-loop μ-loop Inv-frame μ-frame → tie.At-match-keys1 Inv-loop μ-loop Inv-frame μ-frame
 at-match-keys1 c = c .before .before .before .before
 
-abbrev after-first : tie.After-mark-block-arg Inv-loop μ-loop Inv-frame μ-frame → tie.After-first Inv-loop μ-loop Inv-frame μ-frame
+abbrev after-first : tie.After-mark-ended-block-arg Inv-loop μ-loop Inv-frame μ-frame → tie.After-first Inv-loop μ-loop Inv-frame μ-frame
 after-first c = c .before .before .before .before .before
 
-abbrev after-mark-block : tie.After-slice-known4 Inv-loop μ-loop Inv-frame μ-frame → tie.After-mark-block Inv-loop μ-loop Inv-frame μ-frame
-after-mark-block c = c .before .before
+abbrev after-mark-ended-block : tie.After-slice-known4 Inv-loop μ-loop Inv-frame μ-frame → tie.After-mark-ended-block Inv-loop μ-loop Inv-frame μ-frame
+after-mark-ended-block c = c .before .before
 
 frame-holds : tie.Need-frame-holds Inv-loop μ-loop Inv-frame μ-frame
 frame-holds c = (omega arith, (at-start (c .before .before .before) .pre .samples-lent, (refl, (c .done-with .ensures, frame-starts _ _ _ _ _ _ _ _))))
@@ -137,8 +137,8 @@ store-requires c κs =
     let l = at-match-keys1 (c .before) in
     (omega (arith, c .before .first .ensures, room (in-loop (l .before)), in-loop (l .before) .before .loop .inv .0), samples-length _ _ _ _ _ _ refl (l .before .read-block .ensures .1 .1))
 
-mark-block-requires : tie.Need-mark-block-requires Inv-loop μ-loop Inv-frame μ-frame
-mark-block-requires c κs =
+mark-ended-block-requires : tie.Need-mark-ended-block-requires Inv-loop μ-loop Inv-frame μ-frame
+mark-ended-block-requires c κs =
     let l₀ = in-loop (at-match-keys1 (after-first c) .before) in
     let l = l₀ .before .loop in
     let y = at-match-keys1 (after-first c) .before .read-block .ensures in
@@ -149,7 +149,7 @@ lengths-requires c κs = search needs
 
 add-col : tie.Need-add-col Inv-loop μ-loop Inv-frame μ-frame
 add-col c =
-    let l = in-loop (at-match-keys1 (after-first (after-mark-block (c .before .before) .before)) .before) in
+    let l = in-loop (at-match-keys1 (after-first (after-mark-ended-block (c .before .before) .before)) .before) in
     omega (arith, l .loop-test .taken, at-start (after-read-header (in-frame (l .before))) .pre .width)
 
 loop-less : tie.Need-loop-less Inv-loop μ-loop Inv-frame μ-frame
@@ -158,14 +158,14 @@ loop-less c = search needs
 loop-again : tie.Need-loop-again Inv-loop μ-loop Inv-frame μ-frame
 loop-again c =
     let s = c .before .before in
-    let d = after-first (after-mark-block s .before) in
+    let d = after-first (after-mark-ended-block s .before) in
     let l₀ = in-loop (at-match-keys1 d .before) in
     let l = l₀ .before .loop in
     let y = at-match-keys1 d .before .read-block .ensures in (
-      after-mark-block s .before .before .before .before .store .kept .0 ∙ l .inv .0,
+      after-mark-ended-block s .before .before .before .before .store .kept .0 ∙ l .inv .0,
       (
-        s .before .before .mark-block .kept .0 ∙ l .inv .1 .0,
-        row-goes _ _ _ _ _ _ _ _ _ _ _ _ _ _ (l .inv .1 .1) (l₀ .loop-test .taken) _ (y .0) _ _ (d .before .before .before .outcome .given .1) _ (c .lengths .ensures ∙ y .1 .0) _ _ _ _ _ (d .first .ensures) (y .1 .1) (after-mark-block s .before .before .before .before .store .ensures) (s .before .before .mark-block .ensures _),
+        s .before .before .mark-ended-block .kept .0 ∙ l .inv .1 .0,
+        row-goes _ _ _ _ _ _ _ _ _ _ _ _ _ _ (l .inv .1 .1) (l₀ .loop-test .taken) _ (y .0) _ _ (d .before .before .before .outcome .given .1) _ (c .lengths .ensures ∙ y .1 .0) _ _ _ _ _ (d .first .ensures) (y .1 .1) (after-mark-ended-block s .before .before .before .before .store .ensures) (s .before .before .mark-ended-block .ensures _),
       ),
     )
 
@@ -269,7 +269,7 @@ decode-frame-spec =
     cast-t33
     first-requires
     store-requires
-    mark-block-requires
+    mark-ended-block-requires
     lengths-requires
     add-col
     loop-less
