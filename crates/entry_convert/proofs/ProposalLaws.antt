@@ -18,7 +18,7 @@ use Rattle.entry_refusals.specs.Lending.{short}
 use Rattle.entry_refusals.specs.declared.Lending.the-variants.{Nothing, Length}
 use Rattle.entry_refusals.proofs.RefusalLaws.{Room, room, long-enough}
 use Rattle.rules_clean.specs.Profile.{verdict}
-use Rattle.v0_clean.specs.Lent.{Lends}
+use Rattle.v0_clean.specs.OffsetsLent.{OffsetsLent}
 use Rattle.write_rules.specs.Writer.{stream-for}
 use Rattle.write_packed.specs.Proposal.{Proposal, frame-of, before, scratch-after, same, answer, Yields}
 use Rattle.write_packed.specs.Proposal as Proposals
@@ -96,7 +96,7 @@ module _ {p : Proposal} {n : ℕ} where
     all-lent passed = record { meant = m .meant; room = room (p .size) false n (Length (length (p .offsets))) Nothing Nothing j second passed; early-none = early-is ∙ passed }
 
   module _ (l : AllLent p n) where
-    pub checkable : Lends (p .size) (p .offsets)
+    pub checkable : OffsetsLent (p .size) (p .offsets)
     checkable = record { width = l .room .wide; height = l .room .high; offsets-enough = long-enough _ _ (l .room .offsets-enough) }
 
     module _ {v : Answer} (told : v ≡ verdict (p .stream) (p .offsets) (p .size)) where

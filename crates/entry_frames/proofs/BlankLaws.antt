@@ -16,7 +16,7 @@ use Rattle.frame_blank.specs.declared.Blanked.{Blanked}
 use Rattle.frame_blank.specs.declared.Tally.{Tally}
 use Rattle.frame_blank.specs.Blanking.{bad-map, blanked, numbers}
 use Rattle.frame_blank.specs.Calls.{Call, frame-of, marks-of, found, short-runs, refusal, refused, blanked-done, blank-answer, unless-refused, samples-after, runs-after, Yields}
-use Rattle.frame_blank.specs.Lent.{tally, MapLent, FrameLent}
+use Rattle.frame_blank.specs.MapLent.{tally, MapLent, FrameLent}
 use Rattle.frame_blank.proofs.RunLaws.{numbers-length, rows-most}
 use Rattle.entry_frames.proofs.EarlyLaws.{early, early-then}
 

@@ -12,7 +12,7 @@ use Rattle.rules.specs.declared.answer.Size.{Size}
 use Rattle.rules.specs.Answer.{done, refused, first-of}
 use Rattle.rules.proofs.Tests.{neither}
 use Rattle.entry_refusals.proofs.RefusalLaws.{cells-most, size-most}
-use Rattle.frame_planes.specs.Lent.{Within, Lends}
+use Rattle.frame_planes.specs.PlanesLent.{Within, PlanesLent}
 use Rattle.entry_frames.specs.Moved.{size, refusal, answer, after}
 
 -- What a call that is not refused may count on.
@@ -50,7 +50,7 @@ unfolding after
 refused-moved moved w h from to {k} e n q = (q ∙ ap refused e, rw (← e) (rw (ne-eqb k 0 n)))
 
 module _ {w h : ℕ} {from to : List ℕ} (p : Room w h from to) where
-  pub lent : Lends (size w h) (take (w * h) from) (take (w * h) to)
+  pub lent : PlanesLent (size w h) (take (w * h) from) (take (w * h) to)
   lent = record { within = p .within; read = length-take-le (w * h) from (p .read-enough); written = length-take-le (w * h) to (p .written-enough) }
 
   -- And else the first samples are what the planes' function makes of them.

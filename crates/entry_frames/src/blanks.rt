@@ -4,7 +4,7 @@ ghost use Prim.Native.Nat.{_*_, _≤_};
 ghost use lib.Dec.{ltb};
 ghost use Rattle.frame_blank.specs.Blanking.{stated, unstated};
 ghost use Rattle.frame_blank.specs.Calls.{call, Yields};
-ghost use Rattle.frame_blank.specs.Lent.{meant};
+ghost use Rattle.frame_blank.specs.MapLent.{meant};
 use entry_refusals::Lending;
 use entry_refusals::refuse_lent;
 use frame_blank::Blanked;

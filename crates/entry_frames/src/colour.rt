@@ -1,7 +1,7 @@
 // A frame into its colour planes, and the way back: out of one lent buffer into another.
 ghost use mathlib.Core.Bool.{cond};
 ghost use mathlib.Core.Path.{_≡_};
-ghost use Rattle.frame_planes.specs.Lent.{Lends};
+ghost use Rattle.frame_planes.specs.PlanesLent.{PlanesLent};
 ghost use Rattle.frame_planes.specs.Planes.{to-planes, from-planes};
 ghost use Rattle.entry_frames.specs.Moved.{refusal, answer, after};
 use entry_refusals::is_too_large;
@@ -28,7 +28,7 @@ fn refuse(size: Size, read: usize, written: usize) -> u32
 
 // A frame's samples into its planes, or the planes back into the samples.
 fn carry(read: &[u16], size: Size, written: &mut [u16], back: bool)
-    requires { ⌜ Lends size (now read) (now written) ⌝ }
+    requires { ⌜ PlanesLent size (now read) (now written) ⌝ }
     ensures { λ _. ⌜ now (written .exit) ≡ cond back from-planes to-planes size (now (read .entry)) ⌝ }
 {
     if back {

@@ -12,7 +12,7 @@ use Rattle.rules.specs.declared.answer.Size.{Size}
 use Rattle.rules.specs.Frame.{cells}
 use Rattle.frame_blank.specs.declared.Tally.{Tally}
 use Rattle.frame_blank.specs.Blanking.{Fill, count, blank-rows, blanked, row-runs, rows-runs, runs-of, numbers}
-use Rattle.frame_blank.specs.Lent.{tally, MapLent, RowLent, RowBlanked, FrameLent}
+use Rattle.frame_blank.specs.MapLent.{tally, MapLent, RowLent, RowBlanked, FrameLent}
 use Rattle.frame_blank.proofs.ByteLaws.{count-append, count-most}
 use Rattle.frame_blank.proofs.RunLaws.{runs-same, rows-most, numbers-length, numbers-append, sets-append}
 use Rattle.frame_blank.proofs.RowLaws.{blank-row-length}

@@ -15,7 +15,7 @@ use Rattle.frame_map.specs.Greatest.{greatest}
 use Rattle.frame_map.proofs.GreatestLaws.{left-more}
 use Rattle.frame_blank.specs.declared.Tally.{Tally}
 use Rattle.frame_blank.specs.Blanking.{Fill, marked, bit, count, unstated, blank-row, run, stretch, runs-from, row-runs, numbers}
-use Rattle.frame_blank.specs.Lent.{tally, meant, left-of, turns, by-turns, RowBlanked}
+use Rattle.frame_blank.specs.MapLent.{tally, meant, left-of, turns, by-turns, RowBlanked}
 use Rattle.frame_blank.specs.declared.Filling.{Filling}
 use Rattle.frame_blank.specs.declared.Filling.the-variants.{Stated, Unstated}
 use Rattle.frame_blank.specs.declared.Turns.{Turns}

@@ -2,5 +2,5 @@
 -- functions ask.
 pub mod Blanking
 pub mod Calls
-pub mod Lent
+pub mod MapLent
 pub mod Examples

@@ -9,7 +9,7 @@ ghost use lib.Seq.{sets};
 ghost use Rattle.rules.specs.Limits.{most-side};
 ghost use Rattle.frame_blank.specs.Blanking.{marked, bad-map, bit, blanked, stretch, row-runs, runs-of, numbers};
 ghost use Rattle.frame_blank.specs.Calls.{refused, blanked-done};
-ghost use Rattle.frame_blank.specs.Lent.{tally, meant, left-of, turns, by-turns, MapLent, RowLent, RowBlanked, FrameLent};
+ghost use Rattle.frame_blank.specs.MapLent.{tally, meant, left-of, turns, by-turns, MapLent, RowLent, RowBlanked, FrameLent};
 use frame_map::greatest_of;
 use rules::Answer;
 use rules::Size;

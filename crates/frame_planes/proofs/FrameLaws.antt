@@ -11,7 +11,7 @@ use borrow.Rule.Slice.PartMut.{midOf, putMid}
 use Rattle.rules.specs.declared.answer.Size.{Size}
 use Rattle.rules.specs.Frame.{cells}
 use Rattle.frame_planes.specs.Planes.{evens, rows, rows-of, by-columns, to-planes, even-count, odd-count, weave, woven, from-columns, rows-back}
-use Rattle.frame_planes.specs.Lent.{Within, Lends, RowOfHalf, row-taken, rows-with, HalfLent, RowLent}
+use Rattle.frame_planes.specs.PlanesLent.{Within, PlanesLent, RowOfHalf, row-taken, rows-with, HalfLent, RowLent}
 use Rattle.frame_planes.proofs.Lists.{columns-get, columns-length, weave-length, weave-even, weave-odd}
 use Rattle.frame_planes.proofs.Undone.{halves, rows-all, rows-length, woven-length}
 
@@ -154,7 +154,7 @@ module _ (z : Size) (row : ℕ) (planes to : List ℕ) (p : RowLent z row planes
       → new ≡ getD (rows-back z planes) row []
   taken-back new e = rw (p .written, tail-lent (start z row) planes, row-back z row planes (p .below)) at e
 
-pub row-lent : (z : Size) (row : ℕ) (planes samples₀ samples : List ℕ) → Lends z planes samples₀ → row < z .height → length samples ≡ length samples₀
+pub row-lent : (z : Size) (row : ℕ) (planes samples₀ samples : List ℕ) → PlanesLent z planes samples₀ → row < z .height → length samples ≡ length samples₀
     → RowLent z row planes (midOf (row * z .width) (row * z .width + z .width - row * z .width) samples)
 row-lent z row planes samples₀ samples p h kept =
     let r = row-room z row (p .within) h in
@@ -167,7 +167,7 @@ row-lent z row planes samples₀ samples p h kept =
 
 -- ── Half after half ──
 
-module _ (z : Size) (samples planes : List ℕ) (p : Lends z samples planes) where
+module _ (z : Size) (samples planes : List ℕ) (p : PlanesLent z samples planes) where
   abbrev half : ℕ
   half = (z .height + 1) / 2 * z .width
 

@@ -9,7 +9,7 @@ use lib.ListN.{length, getD, take, drop, length-drop, length-append, take-append
 use lib.Seq.{drop-drop, drop-cons, drop-at, drop-append-add, drop-append-le, take-at, take-add, take-all, take-take, take-append-le, length-take-le}
 use borrow.Rule.Slice.PartMut.{midOf, putMid}
 use Rattle.frame_planes.specs.Planes.{evens, odds, by-columns, even-count, odd-count, weave}
-use Rattle.frame_planes.specs.Lent.{RowOfHalf, evens-at, odds-at, put-at, row-put, row-taken}
+use Rattle.frame_planes.specs.PlanesLent.{RowOfHalf, evens-at, odds-at, put-at, row-put, row-taken}
 use Rattle.frame_planes.proofs.Lists.{evens-length, odds-length}
 use Rattle.frame_planes.proofs.Undone.{columns-all}
 

@@ -1,4 +1,4 @@
 -- Colour planes (docs/RULES.md, "Colour planes") as definitions, and what the functions ask of what they are lent.
 pub mod Planes
-pub mod Lent
+pub mod PlanesLent
 pub mod Examples

@@ -5,7 +5,7 @@ ghost use mathlib.Core.List.{[]};
 ghost use Prim.Native.Nat.{_+_, _-_, _*_, _/_, _≤_};
 ghost use lib.ListN.{length, getD, drop};
 ghost use Rattle.frame_planes.specs.Planes.{evens, rows-of, by-columns, to-planes, even-count, odd-count, weave, rows-back, from-planes};
-ghost use Rattle.frame_planes.specs.Lent.{Lends, RowOfHalf, row-put, row-taken, HalfLent, RowLent};
+ghost use Rattle.frame_planes.specs.PlanesLent.{PlanesLent, RowOfHalf, row-put, row-taken, HalfLent, RowLent};
 use rules::Size;
 
 // Every second sample of a row, from the first or the second on.
@@ -82,7 +82,7 @@ fn put_rows(samples: &[u16], size: Size, parity: usize, half: &mut [u16])
 
 // A frame into its planes: the even rows make the first half of them, the odd rows the second.
 pub fn to_planes(samples: &[u16], size: Size, planes: &mut [u16])
-    requires { ⌜ Lends size (now samples) (now planes) ⌝ }
+    requires { ⌜ PlanesLent size (now samples) (now planes) ⌝ }
     ensures { λ _. ⌜ now (planes .exit) ≡ to-planes size (now (samples .entry)) ⌝ }
 {
     let half = (size.height + 1) / 2 * size.width;
@@ -103,7 +103,7 @@ fn take_frame_row(planes: &[u16], size: Size, row: usize, to: &mut [u16])
 
 // The planes of a frame back into it, row by row.
 pub fn from_planes(planes: &[u16], size: Size, samples: &mut [u16])
-    requires { ⌜ Lends size (now planes) (now samples) ⌝ }
+    requires { ⌜ PlanesLent size (now planes) (now samples) ⌝ }
     ensures { λ _. ⌜ now (samples .exit) ≡ from-planes size (now (planes .entry)) ⌝ }
 {
     let mut row: usize = 0;

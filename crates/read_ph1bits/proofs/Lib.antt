@@ -1,5 +1,5 @@
 -- What the methods' proofs share.
-pub mod Lent
+pub mod Borrow
 pub mod MutSelf
 pub mod ShrSelf
 pub mod Walks

@@ -19,7 +19,7 @@ use Rattle.entry_refusals.specs.declared.Lending.the-variants.{Nothing, Length}
 use Rattle.entry_refusals.specs.Lending.{short}
 use Rattle.entry_refusals.proofs.RefusalLaws.{cells-most}
 use Rattle.rules_bands.specs.Bands.{sized}
-use Rattle.v0_direct.specs.Lent.{Lends}
+use Rattle.v0_direct.specs.FrameLent.{FrameLent}
 
 -- ── The test ──
 
@@ -96,6 +96,6 @@ pub two-phase-v0 : two-phase ≢ v2
 two-phase-v0 e = let z : _≡_ {A = ℕ} 0 1 = cc in omega arith
 
 pub v0-lends : {a : Ask} {found : Buffers} → Opened a found → a .decoder ≢ v2 → (map : List ℕ) → (length map ≡ cells (a .size)) ⊎ (length map ≡ 0)
-    → Lends (a .size) (a .offsets) (take (cells (a .size)) (found .samples)) map
+    → FrameLent (a .size) (a .offsets) (take (cells (a .size)) (found .samples)) map
 v0-lends o v0 map whole =
     record { width = o .wide; height = o .high; offsets-enough = o .offsets-enough v0; samples-lent = o .samples-lent; map-lent = whole }

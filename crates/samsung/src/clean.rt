@@ -6,7 +6,7 @@ ghost use mathlib.Core.Option.{none, some};
 ghost use lib.Dec.{eqb};
 ghost use Rattle.rules.specs.V0.{decoded};
 ghost use Rattle.rules.specs.Answer.{direct, ask, buffers};
-ghost use Rattle.v0_direct.specs.Lent.{Lends};
+ghost use Rattle.v0_direct.specs.FrameLent.{FrameLent};
 ghost use Rattle.rules_clean.specs.Profile.{verdict};
 ghost use Rattle.rules_clean.specs.Clean.{Yields};
 use entry_refusals::Lending;
@@ -20,7 +20,7 @@ use v0_direct::frame::decode_frame;
 
 // Decodes a frame if it is clean; else returns its first fault, and changes nothing.
 fn decode_checked(src: &[u8], offsets: &[u32], size: Size, out: &mut [u16]) -> Answer
-    requires { ⌜ Lends size (now offsets) (now out) [] ⌝ }
+    requires { ⌜ FrameLent size (now offsets) (now out) [] ⌝ }
     ensures answered { λ r. ⌜ r ≡ verdict (now (src .entry)) (now (offsets .entry)) size ⌝ }
     ensures samples { λ r. ⌜ now (out .exit) ≡ cond (eqb (r .number) 0) (decoded (now (src .entry)) (now (offsets .entry)) size (now (out .entry))) (now (out .entry)) ⌝ }
 {

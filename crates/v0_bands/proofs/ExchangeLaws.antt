@@ -16,7 +16,7 @@ use Rattle.rules_bands.proofs.AnySequence.{Fitting, fitting, reach}
 use Rattle.rules_bands.proofs.CheckLaws.{bands-most}
 use Rattle.rules_bands.proofs.Counters.{some-block}
 use Rattle.v0_bands.specs.Freed.{exchange-part, freed-rows, freed-columns, exchange-freed}
-use Rattle.v0_bands.specs.Lent.{PartLent, RowLent, ColumnLent, StepLent}
+use Rattle.v0_bands.specs.BandLent.{PartLent, RowLent, ColumnLent, StepLent}
 use Rattle.v0_bands.proofs.PartLaws.{columns-length}
 use Rattle.v0_bands.proofs.FreedLaws.{rows-up, rows-even, rows-most, columns-is, columns-end, columns-up, columns-most, some-late, begins}
 

@@ -15,9 +15,9 @@ use Rattle.rules_bands.specs.Bands.{Cut, cut, sized, late-rows, blocks-per-band
 use Rattle.rules_bands.proofs.AnySequence.{column-of, Fitting, fitting, start-up, start-last}
 use Rattle.rules_bands.proofs.CheckLaws.{bands-most}
 use Rattle.rules_bands.proofs.Counters.{some-block, stands, Turns, end, next, turns}
-use Rattle.v0_phase2.specs.Lent.{LateRow}
+use Rattle.v0_phase2.specs.LateRow.{LateRow}
 use Rattle.v0_bands.specs.Freed.{exchange-freed, steps-freed}
-use Rattle.v0_bands.specs.Lent.{BandLent, StepLent, StepsLent}
+use Rattle.v0_bands.specs.BandLent.{BandLent, StepLent, StepsLent}
 use Rattle.v0_bands.proofs.FreedLaws.{some-late, begins}
 use Rattle.rules.proofs.Tests.{both}
 

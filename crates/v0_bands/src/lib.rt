@@ -10,7 +10,7 @@ ghost use Rattle.rules.specs.Phases.{sample-stage};
 ghost use Rattle.v0_cells.specs.Places.{PhaseLent};
 ghost use Rattle.rules_bands.specs.Bands.{sized, cut, predict-band, in-bands};
 ghost use Rattle.v0_bands.specs.Freed.{exchange-part, freed-rows, freed-columns, exchange-freed, steps-freed};
-ghost use Rattle.v0_bands.specs.Lent.{BandLent, PartLent, RowLent, ColumnLent, StepLent, StepsLent, FrameLent};
+ghost use Rattle.v0_bands.specs.BandLent.{BandLent, PartLent, RowLent, ColumnLent, StepLent, StepsLent, FrameLent};
 use rules::Size;
 use rules::V0Row;
 use rules_bands::blocks_in_band;

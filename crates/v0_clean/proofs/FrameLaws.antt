@@ -12,7 +12,7 @@ use borrow.Author.Tests.{ne-eqb}
 use Rattle.rules.specs.declared.answer.Size.{Size}
 use Rattle.rules.specs.Answer.{done}
 use Rattle.rules_clean.specs.Profile.{row-fault, fault-at, rows-verdict, verdict}
-use Rattle.v0_clean.specs.Lent.{Lends, InRow}
+use Rattle.v0_clean.specs.OffsetsLent.{OffsetsLent, InRow}
 
 pub record Going (s offsets : List ℕ) (z : Size) (row : ℕ) : Type 0 where
   pub below : row ≤ z .height
@@ -26,7 +26,7 @@ module _ (s offsets : List ℕ) (z : Size) where
       record { below = omega arith; left = ap (λ n. rows-verdict s offsets z n 0) e }
 
   module _ (row : ℕ) (l : row < z .height) where
-    pub row-lent : Lends z offsets → InRow z row
+    pub row-lent : OffsetsLent z offsets → InRow z row
     row-lent d = record { width = d .width; height = d .height; row-in = l }
 
     more : z .height - row ≡ suc (z .height - suc row)

@@ -15,7 +15,7 @@ use Rattle.v0_parse.proofs.HeadLaws.{within-more}
 use Rattle.v0_cells.specs.Places.{InFrame}
 use Rattle.v0_direct.specs.Block.{block-ops, after-block}
 use Rattle.v0_direct.proofs.RowLaws.{Along, along-begun, along-on}
-use Rattle.v0_clean.specs.Lent.{InRow}
+use Rattle.v0_clean.specs.OffsetsLent.{InRow}
 use Rattle.v0_clean.specs.Block.{seen}
 
 -- The first fault from a column on.

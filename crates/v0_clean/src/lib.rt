@@ -8,7 +8,7 @@ ghost use Rattle.v0_cells.specs.Places.{InFrame};
 ghost use Rattle.v0_parse.specs.Block.{whole-block};
 ghost use Rattle.v0_parse.specs.Lengths.{Within, furthest};
 ghost use Rattle.rules_clean.specs.Profile.{fits, all-fit, block-fault, row-fault, verdict};
-ghost use Rattle.v0_clean.specs.Lent.{Lends, InRow};
+ghost use Rattle.v0_clean.specs.OffsetsLent.{OffsetsLent, InRow};
 ghost use Rattle.v0_clean.specs.Block.{seen};
 use read_window::BACK_BITS;
 use read_window::BACK_BYTES;
@@ -152,7 +152,7 @@ fn check_row(src: &[u8], size: Size, row: usize, offset: u32) -> u32
 
 // The verdict on a frame: done if it is clean, else its first fault, with the row.
 pub fn check_frame(src: &[u8], offsets: &[u32], size: Size) -> Answer
-    requires { ⌜ Lends size (now offsets) ⌝ }
+    requires { ⌜ OffsetsLent size (now offsets) ⌝ }
     ensures { λ r. ⌜ r ≡ verdict (now (src .entry)) (now (offsets .entry)) size ⌝ }
 {
     let mut row: usize = 0;

@@ -12,14 +12,14 @@ use Rattle.rules.specs.Map.{v0-marks}
 use Rattle.rules.specs.Phases.{first-rows}
 use Rattle.rules.specs.declared.answer.Size.{Size}
 use Rattle.v0_direct.specs.Freed.{freed-pairs, rows-freed}
-use Rattle.v0_direct.specs.Lent.{Lends, InRow}
+use Rattle.v0_direct.specs.FrameLent.{FrameLent, InRow}
 use Rattle.rules.proofs.V0Cells.{write-all-length, write-all-append}
 use Rattle.v0_cells.specs.Places.{PairsLent}
 use Rattle.v0_cells.proofs.ExchangeLaws.{rows-length}
 use Rattle.v0_direct.proofs.FreedLaws.{exchange-past, freed-on, freed-then-left}
 
 -- What is lent whole still holds its pairs of rows, as long as no length changed.
-pairs-lent : (z : Size) (offsets out₀ map₀ out map : List ℕ) (from to : ℕ) → Lends z offsets out₀ map₀ → from ≤ to → to ≤ z .height / 2
+pairs-lent : (z : Size) (offsets out₀ map₀ out map : List ℕ) (from to : ℕ) → FrameLent z offsets out₀ map₀ → from ≤ to → to ≤ z .height / 2
     → length out ≡ length out₀ → length map ≡ length map₀ → PairsLent z from to out map
 pairs-lent z offsets out₀ map₀ out map from to i l h eo em =
     record { width = i .width; height = i .height; pairs = l; pairs-in = h; samples-lent = eo ∙ i .samples-lent; map-lent = rw em (i .map-lent) }
@@ -100,7 +100,7 @@ module _ (s offsets : List ℕ) (z : Size) (count : ℕ) (out₀ map₀ : List �
         filler-left = ap (λ n. rows-filler s offsets z n 0 0) q;
       }
 
-  module _ (i : Lends z offsets out₀ map₀ × (count ≤ z .height)) where
+  module _ (i : FrameLent z offsets out₀ map₀ × (count ≤ z .height)) where
     pub row-lent : (out map : List ℕ) (filler row : ℕ) → row < count → Going s offsets z count out₀ out map₀ map filler row → InRow z row out map
     row-lent out map filler row l r =
         record {
@@ -176,7 +176,7 @@ module _ (s offsets : List ℕ) (z : Size) (from to : ℕ) (ef : from ≡ freed-
   decoded-is = frame-is sample-kind
 
   -- The rows change no length, so that the frame still holds that pair.
-  pub last-lent : (out out′ map map′ : List ℕ) → Lends z offsets out map → out′ ≡ rows-freed sample-kind s offsets z (z .height) out
+  pub last-lent : (out out′ map map′ : List ℕ) → FrameLent z offsets out map → out′ ≡ rows-freed sample-kind s offsets z (z .height) out
       → map′ ≡ rows-freed v0-marks s offsets z (z .height) map → PairsLent z from to out′ map′
   last-lent out out′ map map′ i eo em =
       pairs-lent z offsets out map out′ map′ from to i (omega arith) (omega arith) (ap length eo ∙ freed-length sample-kind s offsets z (z .height) out)

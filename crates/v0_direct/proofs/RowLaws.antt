@@ -17,7 +17,7 @@ use Rattle.rules.specs.declared.v0.V0Row.{V0Row}
 use Rattle.rules.specs.declared.v0.V0Head.{V0Head}
 use Rattle.v0_parse.specs.Lengths.{Within, furthest}
 use Rattle.v0_cells.specs.Places.{InFrame, Inner}
-use Rattle.v0_direct.specs.Lent.{InRow, BlockLent, RunLent}
+use Rattle.v0_direct.specs.FrameLent.{InRow, BlockLent, RunLent}
 use Rattle.v0_direct.specs.Block.{samples-of, block-ops, after-block, Decoded, BlockRun, none, also, Ran}
 use Rattle.v0_parse.proofs.HeadLaws.{within-more, fresh-within, head-within}
 use Rattle.rules.proofs.V0Cells.{write-plain}

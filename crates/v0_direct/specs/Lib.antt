@@ -1,4 +1,4 @@
 pub mod Block
 pub mod Freed
-pub mod Lent
+pub mod FrameLent
 pub mod Run

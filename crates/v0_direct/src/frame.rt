@@ -7,7 +7,7 @@ ghost use Rattle.rules.specs.V0 as V0;
 ghost use Rattle.rules.specs.Map.{v0-marks};
 ghost use Rattle.rules.specs.Phases.{first-rows};
 ghost use Rattle.v0_direct.specs.Freed.{freed-pairs, rows-freed};
-ghost use Rattle.v0_direct.specs.Lent.{Lends};
+ghost use Rattle.v0_direct.specs.FrameLent.{FrameLent};
 use super::row::decode_row;
 use read_bits::held_sum;
 use rules::Size;
@@ -31,7 +31,7 @@ fn decode_freeing(
     out: &mut [u16],
     map: &mut [u8],
 ) -> u64
-    requires { ⌜ Lends size (now offsets) (now out) (now map) × (count ≤ size .height) ⌝ }
+    requires { ⌜ FrameLent size (now offsets) (now out) (now map) × (count ≤ size .height) ⌝ }
     ensures { λ r. ⌜ r ≡ V0.rows-filler (now (src .entry)) (now (offsets .entry)) size count 0 0 ⌝ }
     ensures { λ _. ⌜ now (out .exit) ≡ rows-freed V0.sample-kind (now (src .entry)) (now (offsets .entry)) size count (now (out .entry)) ⌝ }
     ensures { λ _. ⌜ now (map .exit) ≡ rows-freed v0-marks (now (src .entry)) (now (offsets .entry)) size count (now (map .entry)) ⌝ }
@@ -60,7 +60,7 @@ fn head_rows(height: usize) -> usize
 
 // Rows 0 and 1, or as many as there are: what the two-phase decoder begins with, without a map. They free no pair.
 pub fn decode_v0_head(src: &[u8], offsets: &[u32], size: Size, out: &mut [u16])
-    requires { ⌜ Lends size (now offsets) (now out) [] ⌝ }
+    requires { ⌜ FrameLent size (now offsets) (now out) [] ⌝ }
     ensures { λ _. ⌜ now (out .exit) ≡ first-rows V0.sample-kind (now (src .entry)) (now (offsets .entry)) size (now (out .entry)) ⌝ }
 {
     let first = head_rows(size.height);
@@ -70,7 +70,7 @@ pub fn decode_v0_head(src: &[u8], offsets: &[u32], size: Size, out: &mut [u16])
 
 // All rows, and the last pair after them: how many words were missing.
 pub fn decode_frame(src: &[u8], offsets: &[u32], size: Size, out: &mut [u16], map: &mut [u8]) -> u64
-    requires { ⌜ Lends size (now offsets) (now out) (now map) ⌝ }
+    requires { ⌜ FrameLent size (now offsets) (now out) (now map) ⌝ }
     ensures { λ r. ⌜ r ≡ V0.frame-filler (now (src .entry)) (now (offsets .entry)) size ⌝ }
     ensures { λ _. ⌜ now (out .exit) ≡ V0.decoded (now (src .entry)) (now (offsets .entry)) size (now (out .entry)) ⌝ }
     ensures { λ _. ⌜ now (map .exit) ≡ V0.frame v0-marks (now (src .entry)) (now (offsets .entry)) size (now (map .entry)) ⌝ }

@@ -10,7 +10,7 @@ ghost use Rattle.v0_parse_window.specs.ByWindow.{Ahead, Ends, residuals-of};
 ghost use Rattle.v0_cells.specs.Inner.{inner-ops};
 ghost use Rattle.v0_cells.specs.Places.{InFrame, Inner};
 ghost use Rattle.v0_lanes.specs.Blocks.{Tables};
-ghost use Rattle.v0_direct.specs.Lent.{InRow, BlockLent, RunLent};
+ghost use Rattle.v0_direct.specs.FrameLent.{InRow, BlockLent, RunLent};
 ghost use Rattle.v0_direct.specs.Block.{Decoded, BlockRun};
 ghost use Rattle.v0_direct.specs.Run.{inner};
 use super::V0Place;

@@ -18,7 +18,7 @@ ghost use Rattle.v0_parse_window.specs.ByWindow.{Ahead, last-start, short};
 ghost use Rattle.v0_parse_window.specs.Run.{run-length};
 ghost use Rattle.v0_cells.specs.Places.{InFrame, Inner, Whole};
 ghost use Rattle.v0_lanes.specs.Blocks.{Tables};
-ghost use Rattle.v0_direct.specs.Lent.{RunLent};
+ghost use Rattle.v0_direct.specs.FrameLent.{RunLent};
 ghost use Rattle.v0_direct.specs.Block.{Ran};
 ghost use Rattle.v0_direct.specs.Run.{run-begins, run-end, row-at, RanAt, finished, finished-marks};
 use super::V0Place;

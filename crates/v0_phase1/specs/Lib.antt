@@ -1,3 +1,3 @@
-pub mod Lent
+pub mod RowLent
 pub mod Parsed
 pub mod Ran

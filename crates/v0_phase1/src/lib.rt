@@ -12,7 +12,7 @@ ghost use Rattle.rules.specs.Answer.{scratch-bytes};
 ghost use Rattle.rules.specs.Phases.{store-samples, store-blocks, row-records, direction, phase-one, scratch};
 ghost use Rattle.v0_parse_window.specs.ByWindow.{Ahead, Ends, residuals-of};
 ghost use Rattle.v0_cells.specs.Places.{PhaseLent};
-ghost use Rattle.v0_phase1.specs.Lent.{RowLent, BlockLent, RunLent};
+ghost use Rattle.v0_phase1.specs.RowLent.{RowLent, BlockLent, RunLent};
 ghost use Rattle.v0_phase1.specs.Parsed.{Parsed};
 ghost use Rattle.v0_phase1.specs.Ran.{Ran};
 use read_window::BACK_BITS;

@@ -15,7 +15,7 @@ ghost use Rattle.rules.specs.Phases.{store-samples};
 ghost use Rattle.read_window.specs.Window.{Standing, standing-in};
 ghost use Rattle.v0_parse_window.specs.ByWindow.{Ahead, last-start, Short, short, Ends, residuals-of};
 ghost use Rattle.v0_parse_window.specs.Run.{run-length, blocks-of-run};
-ghost use Rattle.v0_phase1.specs.Lent.{RunLent};
+ghost use Rattle.v0_phase1.specs.RowLent.{RunLent};
 ghost use Rattle.v0_phase1.specs.Ran.{RanAt, Ran, row-at};
 use super::direction_byte;
 use super::store_four;

@@ -22,7 +22,7 @@ use Rattle.v0_cells.specs.Inner.{inner-ops}
 use Rattle.v0_cells.proofs.CellLaws.{product}
 use Rattle.v0_cells.proofs.InnerLaws.{late-source}
 use Rattle.v0_phase2.specs.Inner.{predict-inner}
-use Rattle.v0_phase2.specs.Lent.{LateRow}
+use Rattle.v0_phase2.specs.LateRow.{LateRow}
 
 -- ── The predictor ──
 

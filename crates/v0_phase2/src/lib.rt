@@ -8,7 +8,7 @@ ghost use Rattle.rules.specs.V0.{order, blocks-in};
 ghost use Rattle.rules.specs.Phases.{late-predictor, predict-samples, predict-blocks, sample-stage};
 ghost use Rattle.v0_cells.specs.Places.{Inside, Low};
 ghost use Rattle.v0_phase2.specs.Inner.{predict-inner};
-ghost use Rattle.v0_phase2.specs.Lent.{LateSample, LateRow};
+ghost use Rattle.v0_phase2.specs.LateRow.{LateSample, LateRow};
 use rules::Predictor;
 use rules::V0Row;
 use v0_cells::cells::put;

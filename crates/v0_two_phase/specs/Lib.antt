@@ -1,2 +1,2 @@
 pub mod LateRow
-pub mod Lent
+pub mod ScratchLent

@@ -10,8 +10,8 @@ ghost use Rattle.rules.specs.Phases as Phases;
 ghost use Rattle.rules.specs.Phases.{direction, row-records, sample-stage};
 ghost use Rattle.v0_cells.specs.Places.{PhaseLent};
 ghost use Rattle.v0_direct.specs.Freed.{freed-pairs};
-ghost use Rattle.v0_phase2.specs.Lent.{LateRow};
-ghost use Rattle.v0_two_phase.specs.Lent.{Lends};
+ghost use Rattle.v0_phase2.specs.LateRow.{LateRow};
+ghost use Rattle.v0_two_phase.specs.ScratchLent.{ScratchLent};
 ghost use Rattle.v0_two_phase.specs.LateRow.{late-row};
 use rules::Size;
 use rules::V0Row;
@@ -55,7 +55,7 @@ fn decode_late_rows(src: &[u8], offsets: &[u32], size: Size, out: &mut [u16], sc
 
 // Rows 0 and 1, the rows after them, and the last pair.
 pub fn decode_frame(src: &[u8], offsets: &[u32], size: Size, out: &mut [u16], scratch: &mut [u8])
-    requires { ⌜ Lends size (now offsets) (now out) (now scratch) ⌝ }
+    requires { ⌜ ScratchLent size (now offsets) (now out) (now scratch) ⌝ }
     ensures samples { λ _. ⌜ now (out .exit) ≡ Phases.two-phase (now (src .entry)) (now (offsets .entry)) size (now (out .entry)) ⌝ }
     ensures directions { λ _. ⌜ now (scratch .exit) ≡ Phases.scratch (now (src .entry)) (now (offsets .entry)) size ++ drop (length (Phases.scratch (now (src .entry)) (now (offsets .entry)) size)) (now (scratch .entry)) ⌝ }
 {

@@ -22,7 +22,7 @@ pub record Ready (h : V2Hdr) (n : ℕ) (at : V2Place) (st : V2Row) : Type 0 wher
   pub scale : ScaleAt (at .col) (st .scale)
 
 -- What a frame is lent: a size within the limits, its samples, and a map of the whole frame or an empty one.
-pub record Lends (size : Size) (out map : List ℕ) : Type 0 where
+pub record FrameLent (size : Size) (out map : List ℕ) : Type 0 where
   pub width : size .width ≤ 16_384
   pub height : size .height ≤ 16_384
   pub samples-lent : length out ≡ cells size

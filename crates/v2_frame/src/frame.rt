@@ -2,7 +2,7 @@
 ghost use mathlib.Core.Path.{_≡_};
 ghost use Rattle.rules.specs.V2.{read-frame, decoded, frame};
 ghost use Rattle.rules.specs.Map.{v2-marks};
-ghost use Rattle.v2_frame.specs.Blocks.{Lends};
+ghost use Rattle.v2_frame.specs.Blocks.{FrameLent};
 use super::block::read_block;
 use rules::Answer;
 use rules::Size;
@@ -17,7 +17,7 @@ use v2_parse::header::read_header;
 
 // Decodes a frame over the samples of `out`, and its marks over those of `map`, which is as long as `out` or empty.
 pub fn decode_frame(src: &[u8], size: Size, out: &mut [u16], map: &mut [u8]) -> Answer
-    requires { ⌜ Lends size (now out) (now map) ⌝ }
+    requires { ⌜ FrameLent size (now out) (now map) ⌝ }
     ensures { λ r. ⌜ r ≡ read-frame (now (src .entry)) size .answer ⌝ }
     ensures { λ r. ⌜ now (out .exit) ≡ decoded (now (src .entry)) size (now (out .entry)) ⌝ }
     ensures { λ r. ⌜ now (map .exit) ≡ frame v2-marks (now (src .entry)) size (now (map .entry)) ⌝ }

@@ -2,7 +2,7 @@
 use borrow.Author.Needs.{needs}
 use Prim.Native.Nat.{_-_}
 use native.Mathlib.Omega.{arith}
-use Rattle.frame_blank.specs.Lent.{meant}
+use Rattle.frame_blank.specs.MapLent.{meant}
 use Rattle.frame_blank.proofs.FrameLaws.{row-room, row-lent, RowsBlanked, rows-blanked-none, rows-blanked-more, rows-blanked-all}
 use Rattle.frame_blank.proofs.blank_frame.Statement.{statement}
 use Rattle.frame_blank.proofs.blank_frame.Tie as tie

@@ -6,7 +6,7 @@ use mathlib.Core.Path.{_≡_, sym, _∙_}
 use native.Mathlib.Omega.{arith}
 use lib.ListN.{length, getD}
 use Rattle.frame_blank.specs.Blanking.{marked, blank-row}
-use Rattle.frame_blank.specs.Lent.{meant}
+use Rattle.frame_blank.specs.MapLent.{meant}
 use Rattle.frame_blank.proofs.ByteLaws.{zero-unmarked, other-marked}
 use Rattle.frame_blank.proofs.RunLaws.{stretch-more}
 use Rattle.frame_blank.proofs.RowLaws.{Filled, filled-none, filled-unmarked, filled-run, Listed, listed-none, listed-passed, run-within, run-room, listed-run, row-blanked, row-unmarked}

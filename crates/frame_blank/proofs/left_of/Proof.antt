@@ -1,7 +1,7 @@
 -- Where the column is less there is none; else it lies in the row.
 use native.Mathlib.Omega.{arith}
 use borrow.Author.Tests.{lt-ltb, le-ltb}
-use Rattle.frame_blank.specs.Lent.{left-of}
+use Rattle.frame_blank.specs.MapLent.{left-of}
 use borrow.Author.Needs.{needs}
 use Rattle.frame_blank.proofs.left_of.Statement.{statement}
 use Rattle.frame_blank.proofs.left_of.Tie as tie

@@ -1,7 +1,7 @@
 -- Each kind of fill has its two values.
 use mathlib.Core.Path.{_≡_}
 use Rattle.frame_blank.specs.declared.Filling.the-variants.{Unstated}
-use Rattle.frame_blank.specs.Lent.{turns}
+use Rattle.frame_blank.specs.MapLent.{turns}
 use borrow.Author.Needs.{needs}
 use Rattle.frame_blank.proofs.turns_at.Statement.{statement}
 use Rattle.frame_blank.proofs.turns_at.Tie as tie

@@ -2,7 +2,7 @@
 use Prim.Native.Nat.{_-_}
 use native.Mathlib.Omega.{arith}
 use borrow.Author.Needs.{needs}
-use Rattle.v0_phase1.specs.Lent.{RowLent}
+use Rattle.v0_phase1.specs.RowLent.{RowLent}
 use Rattle.v0_phase1.proofs.ResidualLaws.{Parsing, parsing-begun, parsing-done}
 use Rattle.v0_phase1.proofs.RunLaws.{ran-parsing}
 use Rattle.v0_phase1.proofs.parse_v0_residuals.Statement.{statement}

@@ -1,6 +1,6 @@
 -- The fill is none that is stated.
 use borrow.Author.Needs.{needs}
-use Rattle.frame_blank.specs.Lent.{meant}
+use Rattle.frame_blank.specs.MapLent.{meant}
 use Rattle.entry_frames.proofs.blanks.blank.Statement.{statement}
 use Rattle.entry_frames.proofs.blanks.blank.Tie as tie
 

@@ -4,7 +4,7 @@ use native.Mathlib.Omega.{arith}
 use lib.Seq.{length-take-le}
 use borrow.Author.Needs.{needs}
 use Rattle.frame_blank.specs.Calls.{Call, call}
-use Rattle.frame_blank.specs.Lent.{meant}
+use Rattle.frame_blank.specs.MapLent.{meant}
 use Rattle.entry_frames.proofs.BlankLaws.{Lent, lent, Good, good, Fits, fits, map-there, map-lent, runs-few, frame-lent, early-yields, bad-yields, short-yields, done-yields}
 use Rattle.entry_frames.proofs.blanks.blank_by.Statement.{statement}
 use Rattle.entry_frames.proofs.blanks.blank_by.Tie as tie

@@ -1,6 +1,6 @@
 -- The fill is the stated one.
 use borrow.Author.Needs.{needs}
-use Rattle.frame_blank.specs.Lent.{meant}
+use Rattle.frame_blank.specs.MapLent.{meant}
 use Rattle.entry_frames.proofs.blanks.blank_with.Statement.{statement}
 use Rattle.entry_frames.proofs.blanks.blank_with.Tie as tie
 

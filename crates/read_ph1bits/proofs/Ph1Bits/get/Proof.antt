@@ -37,7 +37,7 @@ use Rattle.read_bits.proofs.get as core
 use Rattle.read_bits.proofs.get.Symbol as core-def
 use Rattle.read_bits.proofs.get.Symbol.{name as #core}
 use Rattle.read_bits.proofs.get.Met as core-thm
-use Rattle.read_ph1bits.proofs.Lent.{Borrow, pointer, held, at-state}
+use Rattle.read_ph1bits.proofs.Borrow.{Borrow, pointer, held, at-state}
 use Rattle.read_ph1bits.proofs.MutSelf.{Walked, data-owns, state-owns, opens-up, parted, closes-at, meets}
 use Rattle.read_ph1bits.proofs.Walks.{contract-of, calls-for, leave}
 use Rattle.read_ph1bits.proofs.Ph1Bits.get.Key.{name as #get}

@@ -12,7 +12,7 @@ use types.Run.{look, init, stop, hop, fld, from, load, lit, bin, of-opd, assigns
 use types.Part.{whole, sub, look-in}
 use denote.Plain.{bool-makes}
 use denote.Builtin.{bool}
-use Rattle.read_ph1bits.proofs.Lent.{pointer}
+use Rattle.read_ph1bits.proofs.Borrow.{pointer}
 use Rattle.read_ph1bits.proofs.ShrSelf.{Walked, looks-into, shuts-again, meets}
 use Rattle.read_ph1bits.proofs.Walks.{leave}
 use Rattle.read_ph1bits.proofs.Ph1Bits.overrun.Key.{name as #overrun}

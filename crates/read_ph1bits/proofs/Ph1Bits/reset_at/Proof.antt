@@ -31,7 +31,7 @@ use Rattle.read_bits.proofs.reset_at as core
 use Rattle.read_bits.proofs.reset_at.Symbol as core-def
 use Rattle.read_bits.proofs.reset_at.Symbol.{name as #core}
 use Rattle.read_bits.proofs.reset_at.Met as core-thm
-use Rattle.read_ph1bits.proofs.Lent.{pointer, at-state}
+use Rattle.read_ph1bits.proofs.Borrow.{pointer, at-state}
 use Rattle.read_ph1bits.proofs.MutSelf.{Walked, state-owns, opens-up, parted, closes-at, meets}
 use Rattle.read_ph1bits.proofs.Walks.{contract-of, calls-for, leave}
 use Rattle.read_ph1bits.proofs.Ph1Bits.reset_at.Key.{name as #reset-at}

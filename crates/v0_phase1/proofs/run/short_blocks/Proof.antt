@@ -10,7 +10,7 @@ use borrow.Author.Tests.{leb-true, leb-false, not-true, not-false}
 use Rattle.rules.specs.V0.{blocks-in}
 use Rattle.v0_parse_window.specs.ByWindow.{Ahead, last-start}
 use Rattle.v0_parse_window.proofs.GroupLaws.{ahead-room, after-head, room-for, short-is}
-use Rattle.v0_phase1.specs.Lent.{RowLent}
+use Rattle.v0_phase1.specs.RowLent.{RowLent}
 use Rattle.v0_phase1.specs.Ran.{RanAt}
 use Rattle.v0_phase1.proofs.ResidualLaws.{near-enough}
 use Rattle.v0_phase1.proofs.RunLaws.{ran-below, ran-samples, ran-directions, ran-within, run-begun, run-on, ending, ends-narrow, ends-late, ends-long, ends-on}

@@ -5,7 +5,7 @@ use lib.ListN.{length}
 use Rattle.rules.specs.Limits.{most-side}
 use Rattle.rules.specs.declared.answer.Size.{Size}
 
-pub record Lends (z : Size) (offsets : List ℕ) : Type 0 where
+pub record OffsetsLent (z : Size) (offsets : List ℕ) : Type 0 where
   pub width : z .width ≤ most-side
   pub height : z .height ≤ most-side
   pub offsets-enough : z .height ≤ length offsets

@@ -10,7 +10,7 @@ use Rattle.v0_cells.specs.Places.{Whole}
 use Rattle.v0_parse.specs.Lengths.{Within, furthest}
 
 -- What a call of the decoder is lent, once refusals 1, 3 and 4 are passed.
-pub record Lends (z : Size) (offsets out map : List ℕ) : Type 0 where
+pub record FrameLent (z : Size) (offsets out map : List ℕ) : Type 0 where
   pub width : z .width ≤ 16_384
   pub height : z .height ≤ 16_384
   pub offsets-enough : z .height ≤ length offsets

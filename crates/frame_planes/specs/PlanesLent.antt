@@ -14,7 +14,7 @@ pub record Within (z : Size) : Type 0 where
   pub high : z .height ≤ most-side
 
 -- A frame, and room for its planes; or its planes, and room for the frame.
-pub record Lends (z : Size) (from to : List ℕ) : Type 0 where
+pub record PlanesLent (z : Size) (from to : List ℕ) : Type 0 where
   pub within : Within z
   pub read : length from ≡ cells z
   pub written : length to ≡ cells z
