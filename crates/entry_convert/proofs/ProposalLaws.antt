@@ -17,7 +17,7 @@ use Rattle.rules.proofs.V0Cells.{decoded-length}
 use Rattle.entry_refusals.specs.Lending.{short}
 use Rattle.entry_refusals.specs.declared.Lending.the-variants.{Nothing, Length}
 use Rattle.entry_refusals.proofs.RefusalLaws.{Room, room, long-enough}
-use Rattle.rules_clean.specs.Profile.{verdict}
+use Rattle.rules_clean.specs.Verdict.{verdict}
 use Rattle.v0_clean.specs.OffsetsLent.{OffsetsLent}
 use Rattle.write_rules.specs.Writer.{stream-for}
 use Rattle.write_packed.specs.Proposal.{Proposal, frame-of, before, scratch-after, same, answer, Yields}

@@ -21,7 +21,7 @@ use Rattle.rules.specs.Phases as Phases
 use Rattle.rules.specs.Map as Map
 use Rattle.rules_bands.specs.Call as Bands
 use Rattle.rules_bands.proofs.Lists as Bands-lists
-use Rattle.rules_clean.specs.Clean as Profile
+use Rattle.rules_clean.specs.Clean as Clean
 use Rattle.rules_clean.proofs.Lists as Clean-lists
 use Rattle.rules.proofs.Cells.{nil, more}
 use Rattle.rules.proofs.Isolation.{Step, Calls, start, call, Samples, Same, is-direct, position-of, amount-of}
@@ -134,13 +134,13 @@ module _ (s offsets : List ℕ) (w h : ℕ) (samples : List ℕ) where
   abbrev pub clean-call : Cleaned
   clean-call =
       let l = lengths (buffers samples none none) in
-      Exports.clean (alone (Profile.answer direct-ask l) (Profile.samples-after direct-ask l samples) (record { answered = refl; samples = refl; map = refl }))
+      Exports.clean (alone (Clean.answer direct-ask l) (Clean.samples-after direct-ask l samples) (record { answered = refl; samples = refl; map = refl }))
 
   abbrev pub clean-map-call : List ℕ → Cleaned
   clean-map-call map =
       let l = lengths (buffers samples (some map) none) in
       Exports.clean-map
-      (with-bytes map (Profile.answer direct-ask l) (Profile.samples-after direct-ask l samples) (Profile.map-after direct-ask l map)
+      (with-bytes map (Clean.answer direct-ask l) (Clean.samples-after direct-ask l samples) (Clean.map-after direct-ask l map)
       (record { answered = refl; samples = refl; map = refl }))
 
   -- They ask and find what they are given.
@@ -178,7 +178,7 @@ module _ (s offsets : List ℕ) (w h : ℕ) (samples : List ℕ) where
   in-bands-ends scratch k n steps done = (refl, refl)
 
   pub clean-finds : (step (for-clean clean-call) .found ≡ samples)
-      × (step (for-clean clean-call) .left ≡ Profile.samples-after direct-ask (lengths (buffers samples none none)) samples)
+      × (step (for-clean clean-call) .left ≡ Clean.samples-after direct-ask (lengths (buffers samples none none)) samples)
   unfolding step Clean-lists.step checked
   clean-finds = (refl, refl)
 

@@ -13,7 +13,7 @@ use Rattle.rules.specs.V0.{head, samples, predictor, order, blocks-in, fresh-ro
 use Rattle.rules.specs.Answer as Plain
 use Rattle.rules_bands.specs.Bands as Cut
 use Rattle.rules_bands.specs.Call as Bands
-use Rattle.rules_clean.specs.Profile as Profile
+use Rattle.rules_clean.specs.Verdict as Verdict
 use Rattle.rules_clean.specs.Clean as Clean
 use Rattle.write_rules.specs.V2Writer as V2Writer
 use Rattle.write_rules.specs.Calls as Writers
@@ -67,29 +67,29 @@ bands-number c =
 -- ── For clean frames ──
 
 module _ (ns : List ℕ) (done : OneOf ns 0) (upward : OneOf ns 17) (outside : OneOf ns 18) (filler : OneOf ns 19) where
-  fault-number : (t17 t18 t19 : Bool) → OneOf ns (Profile.first-fault t17 t18 t19)
-  unfolding Profile.first-fault
+  fault-number : (t17 t18 t19 : Bool) → OneOf ns (Verdict.first-fault t17 t18 t19)
+  unfolding Verdict.first-fault
   fault-number t17 t18 t19 = either (OneOf ns) t17 17 _ upward (either (OneOf ns) t18 18 _ outside (either (OneOf ns) t19 19 0 filler done))
 
-  blocks-number : (s : List ℕ) (z : Size) (row n col : ℕ) (st : V0Row) → OneOf ns (Profile.blocks-fault s z row n col st)
-  unfolding Profile.blocks-fault Profile.block-fault
+  blocks-number : (s : List ℕ) (z : Size) (row n col : ℕ) (st : V0Row) → OneOf ns (Verdict.blocks-fault s z row n col st)
+  unfolding Verdict.blocks-fault Verdict.block-fault
   blocks-number s z row zero col st = done
   blocks-number s z row (suc n) col st =
       let h = head s st in
       let x = samples s (row * z .width + col) (h .row .lengths) (predictor z row col (h .up)) order (h .row .bits) in
-      either (OneOf ns) (eqb (Profile.block-fault row h (x .bits)) 0) (Profile.blocks-fault s z row n (col + 16) (record { lengths = h .row .lengths; bits = x .bits }))
-      (Profile.block-fault row h (x .bits)) (blocks-number s z row n (col + 16) (record { lengths = h .row .lengths; bits = x .bits })) (fault-number _ _ _)
+      either (OneOf ns) (eqb (Verdict.block-fault row h (x .bits)) 0) (Verdict.blocks-fault s z row n (col + 16) (record { lengths = h .row .lengths; bits = x .bits }))
+      (Verdict.block-fault row h (x .bits)) (blocks-number s z row n (col + 16) (record { lengths = h .row .lengths; bits = x .bits })) (fault-number _ _ _)
 
-  rows-number : (s offsets : List ℕ) (z : Size) (n row : ℕ) → OneOf ns (Profile.rows-verdict s offsets z n row .number)
-  unfolding Profile.rows-verdict Profile.row-fault
+  rows-number : (s offsets : List ℕ) (z : Size) (n row : ℕ) → OneOf ns (Verdict.rows-verdict s offsets z n row .number)
+  unfolding Verdict.rows-verdict Verdict.row-fault
   rows-number s offsets z zero row = done
   rows-number s offsets z (suc n) row =
-      let k = Profile.row-fault s z row (getD offsets row 0) in
-      either (λ a. OneOf ns (a .number)) (eqb k 0) (Profile.rows-verdict s offsets z n (suc row)) (Profile.fault-at row k)
+      let k = Verdict.row-fault s z row (getD offsets row 0) in
+      either (λ a. OneOf ns (a .number)) (eqb k 0) (Verdict.rows-verdict s offsets z n (suc row)) (Verdict.fault-at row k)
       (rows-number s offsets z n (suc row)) (blocks-number s z row (blocks-in (z .width)) 0 (fresh-row row (getD offsets row 0)))
 
-  verdict-number : (s offsets : List ℕ) (z : Size) → OneOf ns (Profile.verdict s offsets z .number)
-  unfolding Profile.verdict
+  verdict-number : (s offsets : List ℕ) (z : Size) → OneOf ns (Verdict.verdict s offsets z .number)
+  unfolding Verdict.verdict
   verdict-number s offsets z = rows-number s offsets z (z .height) 0
 
 abbrev pub for-clean : List ℕ
@@ -100,7 +100,7 @@ unfolding listed Clean.answer Plain.too-small
 clean-number a l e =
     let p = Plain.refusal a l in
     let small : Plain.too-small (a .decoder) (a .size) ≡ false = rw e in
-    either (λ x. OneOf for-clean (x .number)) (eqb p 0) (Profile.verdict (a .stream) (a .offsets) (a .size)) (Plain.refused p)
+    either (λ x. OneOf for-clean (x .number)) (eqb p 0) (Verdict.verdict (a .stream) (a .offsets) (a .size)) (Plain.refused p)
     (verdict-number for-clean refl refl refl refl (a .stream) (a .offsets) (a .size)) (plain-number for-clean a l small refl refl refl refl)
 
 -- ── The writer, blanking and the archive export ──
@@ -215,7 +215,7 @@ packed-early p n =
 packed-before : (p : Packed.Proposal) (n : ℕ) → OneOf by-check (Packed.before p n .number)
 unfolding listed Packed.before
 packed-before p n =
-    let v = Profile.verdict (p .stream) (p .offsets) (p .size) in
+    let v = Verdict.verdict (p .stream) (p .offsets) (p .size) in
     either (λ x. OneOf by-check (x .number)) (eqb (Packed.early p n) 0) (cond (eqb (v .number) 0) (cond (Packed.longer p) (Plain.refused 21) Plain.done) v) (Plain.refused (Packed.early p n))
     (either (λ x. OneOf by-check (x .number)) (eqb (v .number) 0) (cond (Packed.longer p) (Plain.refused 21) Plain.done) v
     (either (λ x. OneOf by-check (x .number)) (Packed.longer p) (Plain.refused 21) Plain.done refl refl)

@@ -16,7 +16,7 @@ use Rattle.rules.specs.V0.{decoded}
 use Rattle.rules.specs.Answer as Plain
 use Rattle.rules.proofs.Refusals.{map-enough}
 use Rattle.rules.proofs.Tests.{by-test}
-use Rattle.rules_clean.specs.Profile.{verdict}
+use Rattle.rules_clean.specs.Verdict.{verdict}
 use Rattle.rules_clean.specs.Clean.{answer, taken, samples-after, map-after, Yields}
 use Rattle.rules_clean.proofs.Verdicts.{Clean, accepted-clean, clean-accepted, clean-map}
 

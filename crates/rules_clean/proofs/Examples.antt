@@ -14,7 +14,7 @@ use Rattle.rules.specs.V0.{fresh-row, operated, operate, head, bounded, predict
 use Rattle.rules.specs.Map.{v0-map}
 use Rattle.rules.specs.V0 as V0
 use Rattle.rules.specs.Answer as Plain
-use Rattle.rules_clean.specs.Profile.{fits, all-fit, first-fault, block-fault, blocks-fault, row-fault, rows-verdict, verdict}
+use Rattle.rules_clean.specs.Verdict.{fits, all-fit, first-fault, block-fault, blocks-fault, row-fault, rows-verdict, verdict}
 use Rattle.rules_clean.specs.Clean as Clean
 use Rattle.rules_clean.specs.Examples.{defined, examples}
 

@@ -32,7 +32,7 @@ use Rattle.rules.proofs.Spill.{samples-all}
 use Rattle.rules.proofs.Tests.{by-test}
 use Rattle.rules.proofs.V0Blocks.{block, after}
 use Rattle.rules.proofs.V0Cells.{write-all-length}
-use Rattle.rules_clean.specs.Profile.{all-fit, first-fault, block-fault, blocks-fault, row-fault, verdict, rows-verdict}
+use Rattle.rules_clean.specs.Verdict.{all-fit, first-fault, block-fault, blocks-fault, row-fault, verdict, rows-verdict}
 use Rattle.rules_clean.proofs.Verdicts.{First, fault-of, rows-first, never}
 
 -- ── A place that is left alone ──

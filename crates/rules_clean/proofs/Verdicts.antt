@@ -32,7 +32,7 @@ use Rattle.rules.proofs.Traced.{leads-kept}
 use Rattle.rules.proofs.V0Traced.{block-traced}
 use Rattle.rules.proofs.V0NoMarks.{NoUpward}
 use Rattle.rules.proofs.NoFiller.{v0-all-0}
-use Rattle.rules_clean.specs.Profile.{fits, all-fit, first-fault, block-fault, or-next, blocks-fault, row-fault, fault-at, rows-verdict, verdict}
+use Rattle.rules_clean.specs.Verdict.{fits, all-fit, first-fault, block-fault, or-next, blocks-fault, row-fault, fault-at, rows-verdict, verdict}
 
 -- ── A clean frame ──
 

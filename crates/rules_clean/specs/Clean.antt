@@ -8,7 +8,7 @@ use mathlib.Core.Option.{Option·map}
 use lib.Dec.{eqb}
 use Rattle.rules.specs.declared.answer.Answer.{Answer}
 use Rattle.rules.specs.Answer as Plain
-use Rattle.rules_clean.specs.Profile.{verdict}
+use Rattle.rules_clean.specs.Verdict.{verdict}
 
 -- 17, 18 and 19 come after the plain call's 1, 3 and 4. No filler was fetched if the frame is taken, and none is counted if not.
 unfoldable pub answer : Plain.Ask → Plain.Lent → Answer

@@ -6,7 +6,7 @@ use mathlib.Core.Option.{Option, none, some, Option·map}
 use lib.ListN.{replicate}
 use Rattle.rules.specs.declared.answer.Answer.{Answer}
 use Rattle.rules.specs.Answer.{done, refused, Ask, ask, direct, Buffers, buffers, lengths}
-use Rattle.rules_clean.specs.Profile.{fault-at}
+use Rattle.rules_clean.specs.Verdict.{fault-at}
 use Rattle.rules_clean.specs.Clean.{answer, samples-after, map-after}
 
 -- A call and the buffers that it finds, its answer, and the buffers afterwards.

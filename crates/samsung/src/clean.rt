@@ -7,7 +7,7 @@ ghost use lib.Dec.{eqb};
 ghost use Rattle.rules.specs.V0.{decoded};
 ghost use Rattle.rules.specs.Answer.{direct, ask, buffers};
 ghost use Rattle.v0_direct.specs.FrameLent.{FrameLent};
-ghost use Rattle.rules_clean.specs.Profile.{verdict};
+ghost use Rattle.rules_clean.specs.Verdict.{verdict};
 ghost use Rattle.rules_clean.specs.Clean.{Yields};
 use entry_refusals::Lending;
 use entry_refusals::refuse_direct;

@@ -18,7 +18,7 @@ use Rattle.rules.specs.declared.reader.Bits.{Bits}
 use Rattle.rules.specs.declared.v0.V0Row.{V0Row}
 use Rattle.rules.specs.declared.v0.V0Head.{V0Head}
 use Rattle.rules.specs.V0.{head, order}
-use Rattle.rules_clean.specs.Profile.{fits, all-fit, first-fault, block-fault}
+use Rattle.rules_clean.specs.Verdict.{fits, all-fit, first-fault, block-fault}
 use Rattle.v0_parse.specs.Block.{with-residuals, whole-block}
 use Rattle.v0_parse.specs.declared.block.ReadBlock.{ReadBlock}
 use Rattle.v0_parse.proofs.HeadLaws.{four-of}

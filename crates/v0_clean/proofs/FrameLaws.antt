@@ -11,7 +11,7 @@ use lib.ListN.{getD}
 use borrow.Author.Tests.{ne-eqb}
 use Rattle.rules.specs.declared.answer.Size.{Size}
 use Rattle.rules.specs.Answer.{done}
-use Rattle.rules_clean.specs.Profile.{row-fault, fault-at, rows-verdict, verdict}
+use Rattle.rules_clean.specs.Verdict.{row-fault, fault-at, rows-verdict, verdict}
 use Rattle.v0_clean.specs.OffsetsLent.{OffsetsLent, InRow}
 
 pub record Going (s offsets : List ℕ) (z : Size) (row : ℕ) : Type 0 where

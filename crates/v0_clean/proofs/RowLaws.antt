@@ -9,7 +9,7 @@ use Rattle.rules.specs.declared.answer.Size.{Size}
 use Rattle.rules.specs.declared.v0.V0Row.{V0Row}
 use Rattle.rules.specs.declared.v0.V0Head.{V0Head}
 use Rattle.rules.specs.V0.{fresh-row}
-use Rattle.rules_clean.specs.Profile.{or-next, block-fault, blocks-fault, row-fault}
+use Rattle.rules_clean.specs.Verdict.{or-next, block-fault, blocks-fault, row-fault}
 use Rattle.v0_parse.specs.Lengths.{Within, furthest}
 use Rattle.v0_parse.proofs.HeadLaws.{within-more}
 use Rattle.v0_cells.specs.Places.{InFrame}

@@ -7,7 +7,7 @@ ghost use lib.Dec.{ltb};
 ghost use Rattle.v0_cells.specs.Places.{InFrame};
 ghost use Rattle.v0_parse.specs.Block.{whole-block};
 ghost use Rattle.v0_parse.specs.Lengths.{Within, furthest};
-ghost use Rattle.rules_clean.specs.Profile.{fits, all-fit, block-fault, row-fault, verdict};
+ghost use Rattle.rules_clean.specs.Verdict.{fits, all-fit, block-fault, row-fault, verdict};
 ghost use Rattle.v0_clean.specs.OffsetsLent.{OffsetsLent, InRow};
 ghost use Rattle.v0_clean.specs.Block.{seen};
 use read_window::BACK_BITS;

@@ -19,7 +19,7 @@ use Rattle.rules.proofs.Origins.{unmarked-same}
 use Rattle.rules.proofs.Refusals.{samples-enough}
 use Rattle.rules.proofs.TwoPhase.{two-phase-direct}
 use Rattle.rules.proofs.V0Cells.{decoded-length}
-use Rattle.rules_clean.specs.Clean as Profile
+use Rattle.rules_clean.specs.Clean as Clean
 use Rattle.rules_clean.proofs.Calls.{taken-done}
 use Rattle.rules_clean.proofs.Verdicts.{Clean, clean-map}
 use Rattle.write_packed.specs.Proposal.{Proposal, frame-of, asked, before, answer}
@@ -109,5 +109,5 @@ module _ (p : Proposal) (scratch : List ℕ) (low : Samples scratch) (a : Accept
     map-back m = rw lends (ap (λ x. x ++ drop (cells (p .size)) m) (marks-of d v0))
 
   -- The decoder for clean frames takes it.
-  pub clean-done : (l : Lent) → refusal (asked p) l ≡ 0 → Profile.answer (asked p) l ≡ done
+  pub clean-done : (l : Lent) → refusal (asked p) l ≡ 0 → Clean.answer (asked p) l ≡ done
   clean-done l lends = taken-done (asked p) l (record { passed = lends; clean = clean })

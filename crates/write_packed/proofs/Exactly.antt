@@ -19,7 +19,7 @@ use Rattle.rules.specs.Answer.{done, refused, too-large, short-samples, short-o
 use Rattle.rules.proofs.Cells.{All, nil, more}
 use Rattle.rules.proofs.Tests.{clash, neither, both, by-test}
 use Rattle.rules.proofs.V0Cells.{decoded-length}
-use Rattle.rules_clean.specs.Profile.{verdict}
+use Rattle.rules_clean.specs.Verdict.{verdict}
 use Rattle.rules_clean.proofs.Verdicts.{Clean, accepted-clean, clean-accepted}
 use Rattle.write_rules.specs.Calls.{any-above, too-bright}
 use Rattle.write_rules.specs.Writer.{stream-for}

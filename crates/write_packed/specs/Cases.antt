@@ -5,7 +5,7 @@ use mathlib.Core.List.{List, [], _∷_, _++_}
 use lib.ListN.{length, replicate}
 use Rattle.rules.specs.declared.answer.Answer.{Answer}
 use Rattle.rules.specs.Answer.{done, refused}
-use Rattle.rules_clean.specs.Profile.{fault-at}
+use Rattle.rules_clean.specs.Verdict.{fault-at}
 use Rattle.write_packed.specs.Proposal.{Proposal, proposal, answer, scratch-after}
 
 -- A proposal and the scratch lent, the answer, and the scratch left.

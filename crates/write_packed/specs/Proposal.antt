@@ -13,7 +13,7 @@ use Rattle.rules.specs.declared.answer.Size.{Size}
 use Rattle.rules.specs.Frame.{cells}
 use Rattle.rules.specs.Answer as Plain
 use Rattle.rules.specs.Answer.{done, refused, too-large, short-samples, lent}
-use Rattle.rules_clean.specs.Profile.{verdict}
+use Rattle.rules_clean.specs.Verdict.{verdict}
 use Rattle.write_rules.specs.Calls.{too-bright}
 use Rattle.write_rules.specs.Writer.{stream-for}
 
