@@ -14,7 +14,7 @@ use Rattle.write_rules.specs.Writer.{bits-of, gap, padded, bytes, words-bytes, 
 use Rattle.write_rules.specs.declared.Pending.{Pending}
 use Rattle.write_rules.specs.Pending.{nothing, put-state, put-out}
 use Rattle.write_rules.proofs.Blocks.{block-length}
-use Rattle.write_rules.proofs.Packed.{padded-length}
+use Rattle.write_rules.proofs.WrittenBytes.{padded-length}
 use Rattle.write_rules.proofs.PendingLaws.{Wrote, wrote-none, wrote-both}
 use Rattle.write_rules.proofs.Rows.{row-bits, gap-whole, blocks-length, row-is}
 use Rattle.write_bits.specs.Block.{numbers}

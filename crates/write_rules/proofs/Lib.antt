@@ -4,7 +4,7 @@ pub mod WrittenFrames
 pub mod V2Frames
 pub mod BitLists
 pub mod Ahead
-pub mod Packed
+pub mod WrittenBytes
 pub mod Smallest
 pub mod Blocks
 pub mod Rows

@@ -14,7 +14,7 @@ use Rattle.write_rules.specs.Writer.{bits-of, number-of, words-bytes}
 use Rattle.write_rules.specs.Pending.{bits-with, put-state, put-out}
 use Rattle.write_rules.proofs.Ahead.{bits-far}
 use Rattle.write_rules.proofs.BitLists.{bits-length, bits-number, bits-split, bits-join, number-below, number-append}
-use Rattle.write_rules.proofs.Packed.{words-bytes-length}
+use Rattle.write_rules.proofs.WrittenBytes.{words-bytes-length}
 
 -- ── Words ──
 

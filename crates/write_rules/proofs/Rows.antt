@@ -10,7 +10,7 @@ use Rattle.rules.specs.V0.{blocks-in}
 use Rattle.rules.proofs.Cells.{All, nil, more, all-append}
 use Rattle.write_rules.specs.Writer.{gap, padded, block-bits, Coding, Unit, word, line, blocks-bits, row-bytes, rows-bytes, offsets-from}
 use Rattle.write_rules.proofs.Blocks.{block-length}
-use Rattle.write_rules.proofs.Packed.{bytes-length, bytes-below, padded-length}
+use Rattle.write_rules.proofs.WrittenBytes.{bytes-length, bytes-below, padded-length}
 
 -- Padding ends with a word.
 pub gap-whole : {unit : ℕ} (n : ℕ) → Unit unit → (n + gap (8 * unit) n) % 32 ≡ 0

@@ -28,7 +28,7 @@ use Rattle.rules.proofs.NoFiller.{v0-all-0}
 use Rattle.write_rules.specs.Writer.{padding, padded, bytes, Coding, Unit, word, blocks-bits, row-bytes, rows-bytes, offsets-from, residuals, stream-for, offsets-for}
 use Rattle.write_rules.proofs.Ahead.{Stream}
 use Rattle.write_rules.proofs.Exchange.{exchange-twice, exchange-all}
-use Rattle.write_rules.proofs.Packed.{Found, bytes-found, padded-length}
+use Rattle.write_rules.proofs.WrittenBytes.{Found, bytes-found, padded-length}
 use Rattle.write_rules.proofs.Rows.{rows-below, offsets-length, row-fourth, rows-most, offsets-most}
 use Rattle.write_rules.proofs.V0Written.{WrittenBlock, SeesBlocks, sees-blocks}
 

@@ -25,7 +25,7 @@ use Rattle.rules.proofs.NoFiller.{v2-all-0}
 use Rattle.write_rules.specs.Writer.{bits-of, fields-bits, gap, padding, padded, bytes, line, blocks-bits, row-bytes, rows-bytes}
 use Rattle.write_rules.specs.V2Writer.{header-bits, differences, stream-for}
 use Rattle.write_rules.proofs.Ahead.{Stream, ahead, ahead-length, pos-by-ahead, Sees}
-use Rattle.write_rules.proofs.Packed.{Found, bytes-found, bytes-length, bytes-below, padded-length}
+use Rattle.write_rules.proofs.WrittenBytes.{Found, bytes-found, bytes-length, bytes-below, padded-length}
 use Rattle.write_rules.proofs.Rows.{row-bits, rows-below, row-is, row-whole, rows-most}
 use Rattle.write_rules.proofs.V2Seen.{written-hdr, SeesHeader, sees-header}
 use Rattle.write_rules.proofs.V2Written.{Same, SeesBlocks, sees-blocks}
