@@ -10,7 +10,7 @@ fn main() -> Result<(), Refusal> {
     let stream = [0x00, 0x00, 0x00, 0x80, 0x18, 0x20, 0xa0, 0x7f, 0x00, 0x00, 0x70, 0x00];
     let mut samples = [0; WIDTH * HEIGHT]; // what a worker decoded before
     let mut decoder = Decoder::new();
-    let marks = decoder.decode_v0(&stream, &[0, 4], WIDTH, HEIGHT, &mut samples)?;
+    let marks = decoder.decode_v0_direct(&stream, &[0, 4], WIDTH, HEIGHT, &mut samples)?;
     println!("done, {} words missing", marks.filler_words());
     for (row, (samples, marks)) in samples.chunks(WIDTH).zip(marks.bytes().chunks(WIDTH)).enumerate() {
         print!("{row}:");

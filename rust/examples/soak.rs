@@ -24,7 +24,7 @@ fn main() -> ExitCode {
     for i in 0..most {
         let &Frame { version, width, height, ref stream, ref offsets } = &frames[i % frames.len()];
         let result = match version {
-            Version::V0 => decoder.decode_v0(stream, offsets, width, height, &mut samples),
+            Version::V0 => decoder.decode_v0_direct(stream, offsets, width, height, &mut samples),
             Version::V2 => decoder.decode_v2(stream, width, height, &mut samples),
         };
         match result {

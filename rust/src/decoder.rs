@@ -17,7 +17,7 @@ pub const MAX_SIDE: usize = 16_384;
 /// let mut samples = [7, 8, 9, 10];
 /// let mut decoder = Decoder::with_capacity(2, 2);
 ///
-/// let marks = decoder.decode_v0(&stream, &[0, 4], 2, 2, &mut samples)?;
+/// let marks = decoder.decode_v0_direct(&stream, &[0, 4], 2, 2, &mut samples)?;
 /// if marks.count_old() > 0 {
 ///     println!("hold back: {} samples of another frame, in {} rows", marks.count_old(), marks.rows().count());
 /// }
@@ -52,7 +52,7 @@ impl Decoder {
     /// ```
     /// let mut decoder = razvolk::Decoder::with_capacity(5_546, 3_714);
     /// # let mut samples = vec![0; 16];
-    /// # assert!(decoder.decode_v0(&[], &[0], 16, 1, &mut samples).is_ok());
+    /// # assert!(decoder.decode_v0_direct(&[], &[0], 16, 1, &mut samples).is_ok());
     /// ```
     pub fn with_capacity(width: usize, height: usize) -> Decoder {
         Decoder { map: vec![0; width.min(MAX_SIDE) * height.min(MAX_SIDE)], frame: None }
@@ -68,14 +68,14 @@ impl Decoder {
     /// ```
     /// let mut decoder = razvolk::Decoder::new();
     /// // An empty stream: missing bits are ones, the block is upward, and row 0 has no row above it.
-    /// let marks = decoder.decode_v0(&[], &[0], 3, 1, &mut [7, 8, 9])?;
+    /// let marks = decoder.decode_v0_direct(&[], &[0], 3, 1, &mut [7, 8, 9])?;
     /// assert_eq!((marks.bytes(), marks.filler_words()), (&[3, 3, 3][..], 1));
     ///
-    /// let refused = decoder.decode_v0(&[], &[], 3, 1, &mut [7, 8, 9]).unwrap_err();
+    /// let refused = decoder.decode_v0_direct(&[], &[], 3, 1, &mut [7, 8, 9]).unwrap_err();
     /// assert_eq!(refused, razvolk::Refusal::ShortSamples, "a row has no offset");
     /// # Ok::<(), razvolk::Refusal>(())
     /// ```
-    pub fn decode_v0(
+    pub fn decode_v0_direct(
         &mut self,
         src: &[u8],
         row_offsets: &[u32],
@@ -88,7 +88,7 @@ impl Decoder {
         self.answered(answer, width, height)
     }
 
-    /// Decodes a V0 frame as [`Decoder::decode_v0`] does if it is clean ([`crate::decode_v0_clean_map`]); its marks are then all
+    /// Decodes a V0 frame as [`Decoder::decode_v0_direct`] does if it is clean ([`crate::decode_v0_clean_map`]); its marks are then all
     /// 0, and no word was missing.
     ///
     /// # Errors
@@ -148,9 +148,9 @@ impl Decoder {
     ///
     /// ```
     /// let mut decoder = razvolk::Decoder::new();
-    /// decoder.decode_v0(&[], &[0], 3, 1, &mut [7, 8, 9])?;
+    /// decoder.decode_v0_direct(&[], &[0], 3, 1, &mut [7, 8, 9])?;
     /// assert_eq!(decoder.marks().map(|marks| marks.count()), Some(3));
-    /// assert!(decoder.decode_v0(&[], &[0], 16_385, 1, &mut [7, 8, 9]).is_err());
+    /// assert!(decoder.decode_v0_direct(&[], &[0], 16_385, 1, &mut [7, 8, 9]).is_err());
     /// assert_eq!(decoder.marks(), None);
     /// # Ok::<(), razvolk::Refusal>(())
     /// ```
@@ -172,7 +172,7 @@ impl Decoder {
     /// let stream = [0x00, 0x00, 0x00, 0x80, 0x18, 0x20, 0xa0, 0x7f, 0x00, 0x00, 0x70, 0x00];
     /// let mut samples = [7, 8, 9, 10];
     /// let mut decoder = Decoder::new();
-    /// decoder.decode_v0(&stream, &[0, 4], 2, 2, &mut samples)?;
+    /// decoder.decode_v0_direct(&stream, &[0, 4], 2, 2, &mut samples)?;
     /// assert_eq!(samples, [7, 131, 8, 126]);
     /// let runs = decoder.blank(&mut samples)?;
     /// assert_eq!(samples, [0, 131, 0, 126]);
@@ -192,7 +192,7 @@ impl Decoder {
     /// ```
     /// let mut decoder = razvolk::Decoder::new();
     /// let mut samples = [7, 8, 9];
-    /// decoder.decode_v0(&[], &[0], 3, 1, &mut samples)?;
+    /// decoder.decode_v0_direct(&[], &[0], 3, 1, &mut samples)?;
     /// assert_eq!(decoder.blank_with(512, &mut samples)?.len(), 1);
     /// assert_eq!(samples, [512; 3]);
     /// # Ok::<(), razvolk::Refusal>(())
@@ -252,7 +252,7 @@ mod tests {
             (16_384, 16_384, Refusal::ShortSamples),
             (10, 1, Refusal::ShortSamples),
         ] {
-            assert_eq!(decoder.decode_v0(&[], &[0; 16_384], width, height, &mut out), Err(refusal));
+            assert_eq!(decoder.decode_v0_direct(&[], &[0; 16_384], width, height, &mut out), Err(refusal));
             assert!(decoder.marks().is_none());
         }
         for (width, height, refusal) in
@@ -271,7 +271,7 @@ mod tests {
         assert_eq!(room, 200);
         let mut out = [7; 300];
         let mut marked = |width, height, out: &mut [u16]| {
-            let marks = decoder.decode_v0(&[], &[0; 5], width, height, out).map(|marks| marks.bytes().len());
+            let marks = decoder.decode_v0_direct(&[], &[0; 5], width, height, out).map(|marks| marks.bytes().len());
             (marks, decoder.map.len())
         };
         assert_eq!(marked(40, 5, &mut out), (Ok(200), room));
@@ -283,8 +283,9 @@ mod tests {
     #[test]
     fn a_decoder_can_be_handed_to_a_worker() {
         let mut decoder = Decoder::with_capacity(3, 1);
-        let worker =
-            std::thread::spawn(move || decoder.decode_v0(&[], &[0], 3, 1, &mut [7; 3]).map(|marks| marks.count()));
+        let worker = std::thread::spawn(move || {
+            decoder.decode_v0_direct(&[], &[0], 3, 1, &mut [7; 3]).map(|marks| marks.count())
+        });
         assert_eq!(worker.join().expect("the worker ends"), Ok(3));
     }
 

@@ -8,11 +8,11 @@
 //! let stream = [0x00, 0x00, 0x00, 0x80, 0x18, 0x20, 0xa0, 0x7f, 0x00, 0x00, 0x70, 0x00];
 //! let mut samples = [7, 8, 9, 10];
 //! let mut decoder = razvolk::Decoder::new();
-//! let marks = decoder.decode_v0(&stream, &[0, 4], 2, 2, &mut samples)?;
+//! let marks = decoder.decode_v0_direct(&stream, &[0, 4], 2, 2, &mut samples)?;
 //! assert_eq!(marks.bytes(), [1, 0, 1, 0], "the first sample of each row is what the buffer held");
 //! assert_eq!(samples, [7, 131, 8, 126]);
 //!
-//! let refused = decoder.decode_v0(&stream, &[0, 4], 16_385, 0, &mut samples).unwrap_err();
+//! let refused = decoder.decode_v0_direct(&stream, &[0, 4], 16_385, 0, &mut samples).unwrap_err();
 //! assert_eq!(refused.to_string(), "width or height is above 16,384");
 //! # Ok::<(), razvolk::Refusal>(())
 //! ```

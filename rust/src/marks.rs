@@ -25,7 +25,7 @@ pub struct Run {
 /// // 2 by 2; the first row is skipped, and the exchange of places puts one of its samples into the second.
 /// let stream = [0x00, 0x00, 0x00, 0x80, 0x18, 0x20, 0xa0, 0x7f, 0x00, 0x00, 0x70, 0x00];
 /// let mut decoder = Decoder::new();
-/// let marks = decoder.decode_v0(&stream, &[0, 4], 2, 2, &mut [7, 8, 9, 10])?;
+/// let marks = decoder.decode_v0_direct(&stream, &[0, 4], 2, 2, &mut [7, 8, 9, 10])?;
 /// assert_eq!(marks.bytes(), [1, 0, 1, 0]);
 /// assert_eq!((marks.count(), marks.is_clean()), (2, false));
 /// assert_eq!((marks.row(1), marks.get(1, 0)), (Some(&[1, 0][..]), Some(1)));
@@ -33,7 +33,7 @@ pub struct Run {
 /// assert_eq!(marks.runs().next(), Some(razvolk::Run { row: 0, first: 0, length: 1 }));
 ///
 /// // The same, broken off: the samples of row 1 rest on a word that is missing, one of them in row 0 by the exchange.
-/// let marks = decoder.decode_v0(&stream[..8], &[0, 4], 2, 2, &mut [7, 8, 9, 10])?;
+/// let marks = decoder.decode_v0_direct(&stream[..8], &[0, 4], 2, 2, &mut [7, 8, 9, 10])?;
 /// assert_eq!(marks.bytes(), [1, 2, 1, 2]);
 /// assert_eq!((marks.count_old(), marks.count_filler(), marks.filler_words()), (2, 2, 1));
 /// # Ok::<(), razvolk::Refusal>(())
@@ -80,7 +80,7 @@ impl<'a> Marks<'a> {
     /// ```
     /// let mut decoder = razvolk::Decoder::new();
     /// // Row 0 has a word, and row 1 would start behind it.
-    /// let marks = decoder.decode_v0(&[0, 0, 0, 0x80], &[0, 4], 2, 2, &mut [7, 8, 9, 10])?;
+    /// let marks = decoder.decode_v0_direct(&[0, 0, 0, 0x80], &[0, 4], 2, 2, &mut [7, 8, 9, 10])?;
     /// assert_eq!(marks.filler_words(), 5);
     /// # Ok::<(), razvolk::Refusal>(())
     /// ```
@@ -135,7 +135,7 @@ impl<'a> Marks<'a> {
     /// # let mut decoder = razvolk::Decoder::new();
     /// // Row 1 starts where the stream ends. The exchange at the end puts one of its two samples into row 0.
     /// let stream = [0x18, 0x20, 0xa0, 0x7f, 0, 0, 0x70, 0];
-    /// let marks = decoder.decode_v0(&stream, &[0, 8], 2, 2, &mut [7, 8, 9, 10])?;
+    /// let marks = decoder.decode_v0_direct(&stream, &[0, 8], 2, 2, &mut [7, 8, 9, 10])?;
     /// assert!(marks.rows_filler().eq([(0, 1), (1, 1)]));
     /// # Ok::<(), razvolk::Refusal>(())
     /// ```

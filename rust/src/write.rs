@@ -54,7 +54,7 @@ pub fn write_v0(
 ///
 /// let mut back = [7; 6];
 /// let mut decoder = razvolk::Decoder::new();
-/// assert!(decoder.decode_v0(&stream, &offsets, 3, 2, &mut back)?.is_clean());
+/// assert!(decoder.decode_v0_direct(&stream, &offsets, 3, 2, &mut back)?.is_clean());
 /// assert_eq!(back, samples);
 ///
 /// let refused = razvolk::write_v0_to_vecs(&[16_384], 1, 1).unwrap_err();

@@ -45,7 +45,7 @@ fn a_kept_decoder_gives_what_the_functions_give() {
         let &Frame { version, width, height, ref stream, ref offsets } = frame;
         let result = match version {
             Version::V2 => decoder.decode_v2(stream, width, height, &mut samples),
-            Version::V0 => decoder.decode_v0(stream, offsets, width, height, &mut samples),
+            Version::V0 => decoder.decode_v0_direct(stream, offsets, width, height, &mut samples),
         };
         let told = result.map(|marks| marks.bytes().to_vec());
         let (answer, marks) = by_functions(frame, &mut expected);

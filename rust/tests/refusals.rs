@@ -137,8 +137,8 @@ fn direct(tried: &mut Tried) {
         tried.refused("razvolk_decode_v0_reference", number, lent.clone(), |l| {
             razvolk::decode_v0_reference(&[], &[0], width, height, &mut l.samples).err()
         });
-        tried.refused("Decoder::decode_v0", number, lent, |l| {
-            Decoder::new().decode_v0(&[], &[0], width, height, &mut l.samples).err()
+        tried.refused("Decoder::decode_v0_direct", number, lent, |l| {
+            Decoder::new().decode_v0_direct(&[], &[0], width, height, &mut l.samples).err()
         });
     }
     for (number, width, height, lent) in [too_large(), short_samples(), short_map()] {
@@ -293,7 +293,7 @@ fn blanked(tried: &mut Tried) {
 /// Blanking by a kept decoder, and what the export refuses after it has blanked the frame.
 fn blanked_before(tried: &mut Tried) {
     let mut decoder = Decoder::new();
-    decoder.decode_v0(&[], &[0], 32, 1, &mut [7; 32]).expect("done, and all of it marked");
+    decoder.decode_v0_direct(&[], &[0], 32, 1, &mut [7; 32]).expect("done, and all of it marked");
     let (.., short) = short_samples();
     tried.refused("Decoder::blank", 3, short.clone(), |l| decoder.blank(&mut l.samples).err());
     tried.refused("Decoder::blank_with", 3, short, |l| decoder.blank_with(5, &mut l.samples).err());

@@ -16,7 +16,7 @@
 //! let mut samples = vec![0; frame.width * frame.height];
 //! let mut decoder = Decoder::new();
 //! let marks = match &frame.coding {
-//!     Coding::V0(offsets) => decoder.decode_v0(frame.stream, offsets, frame.width, frame.height, &mut samples)?,
+//!     Coding::V0(offsets) => decoder.decode_v0_direct(frame.stream, offsets, frame.width, frame.height, &mut samples)?,
 //!     Coding::V2 => decoder.decode_v2(frame.stream, frame.width, frame.height, &mut samples)?,
 //! };
 //! assert!(marks.is_clean() && frame.missing == 0);

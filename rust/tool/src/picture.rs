@@ -337,7 +337,7 @@ mod tests {
         let mut coded = Frame::new(Coding::V0(offsets.clone()), width, height, &stream);
         told(&mut coded);
         let (mut decoder, mut out) = (Decoder::new(), vec![0; samples.len()]);
-        let marks = decoder.decode_v0(&stream, &offsets, width, height, &mut out).expect("done");
+        let marks = decoder.decode_v0_direct(&stream, &offsets, width, height, &mut out).expect("done");
         then(Decoded { coded: &coded, samples: &out, marks, blanked: false, width, height, depth: None, model: None })
     }
 

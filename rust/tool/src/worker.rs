@@ -49,7 +49,7 @@ impl Worker {
         let &Frame { ref coding, width, height, stream, .. } = frame;
         match coding {
             Coding::V0(offsets) if clean => decoder.decode_v0_clean(stream, offsets, width, height, samples),
-            Coding::V0(offsets) => decoder.decode_v0(stream, offsets, width, height, samples),
+            Coding::V0(offsets) => decoder.decode_v0_direct(stream, offsets, width, height, samples),
             Coding::V2 => decoder.decode_v2(stream, width, height, samples),
         }
         .map(|_| ())
