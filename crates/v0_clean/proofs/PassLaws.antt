@@ -15,7 +15,7 @@ use Rattle.rules.proofs.ReaderLaws.{read-residual-is}
 use Rattle.read_window.specs.Window.{state-at}
 use Rattle.read_window.proofs.WindowLaws.{leaves}
 use Rattle.v0_parse.specs.Block.{with-residuals, whole-block}
-use Rattle.v0_parse_window.specs.ByWindow.{HeadAt, head-of, Ahead, Plans}
+use Rattle.v0_parse_window.specs.ByWindow.{HeadAt, head-of, Ahead, Plans, residuals-ahead}
 use Rattle.v0_parse_window.specs.declared.WindowHead.{WindowHead}
 use Rattle.v0_parse_window.specs.declared.Plan.{Plan}
 use Rattle.v0_parse.proofs.BlockLaws.{bits-few-enough}
@@ -49,18 +49,18 @@ four-each ls = omega arith
 -- ── The block ──
 
 -- There is room for the record after them.
-pub plan-ahead : {s : List ℕ} {base : ℕ} {h : WindowHead} {p : Plan} → Ahead s base (h .q) 583 → Plans h p → Ahead s base (p .end) 31
+pub plan-ahead : {s : List ℕ} {base : ℕ} {h : WindowHead} {p : Plan} → Ahead s base (h .q) residuals-ahead → Plans h p → Ahead s base (p .end) 31
 plan-ahead x y = let n = few y in let e = y .ends in record { late = omega (arith, x .late); soon = omega (arith, x .soon); there = omega (arith, x .there); far = omega (arith, x .far) }
 
 -- A head by position, and the record as many bits after it as the residuals have: what the record that reads the block leaves.
 pub passed : {s : List ℕ} {base q f : ℕ} {st : V0Row} {h : WindowHead} {p : Plan} {after : Bits} → st .bits ≡ state-at s base q f → HeadAt s base q (st .lengths) h
-    → Ahead s base (h .q) 583 → Plans h p → after ≡ state-at s base (p .end) f
+    → Ahead s base (h .q) residuals-ahead → Plans h p → after ≡ state-at s base (p .end) f
     → _≡_ {A = V0Head} (record { up = h .up; row = record { lengths = h .lengths; bits = after } }) (record { up = whole-block s st .up; row = whole-block s st .row })
 unfolding whole-block with-residuals
 passed {s} {base} {q} {f} {st} {h} {p} eb at ahead x ea =
     let n = few x in
-    let there : base * 8 + h .q + 583 ≤ length s * 8 = ahead .there in
-    let far : base * 8 + h .q + 583 < 2 ^ 67 = ahead .far in
+    let there : base * 8 + h .q + residuals-ahead ≤ length s * 8 = ahead .there in
+    let far : base * 8 + h .q + residuals-ahead < 2 ^ 67 = ahead .far in
     let late : 64 < h .q = ahead .late in
     let read : head-of s base f h ≡ head s st = sym (at .reads f) ∙ ap (λ (z : Bits). head s (record { lengths = st .lengths; bits = z })) (sym eb) in
     let bits : bits-of (h .lengths) order ≡ 4 * (p .n0 + p .n1 + p .n2 + p .n3) = four-each (h .lengths) ∙ rw (x .is₀, x .is₁, x .is₂, x .is₃) in

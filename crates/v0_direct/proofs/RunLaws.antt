@@ -20,7 +20,7 @@ use Rattle.rules.specs.declared.v0.V0Row.{V0Row}
 use Rattle.read_window.specs.Window.{state-at, Standing, standing-in}
 use Rattle.v0_parse.specs.Lengths.{Within, furthest}
 use Rattle.v0_parse.proofs.HeadLaws.{within-more, head-within}
-use Rattle.v0_parse_window.specs.ByWindow.{Room, Ahead, HeadAt, last-start, short, Ends, residuals-of}
+use Rattle.v0_parse_window.specs.ByWindow.{Room, Ahead, HeadAt, last-start, short, Ends, residuals-of, block-ahead, residuals-ahead}
 use Rattle.v0_parse_window.specs.Run.{run-length}
 use Rattle.v0_parse_window.specs.declared.WindowHead.{WindowHead}
 use Rattle.v0_parse_window.proofs.GroupLaws.{ahead-end, block-read, after-head}
@@ -49,7 +49,7 @@ inner-on i l whole inside =
     }
 
 module _ (s : List ℕ) (base : ℕ) (z : Size) (row : ℕ) (p : Point) (out₀ map₀ : List ℕ) where
-  pub run-begun : Inner z row (p .col) → Ahead s base (p .q) 608 → Within (15 + p .col / 16) (p .lengths) → RanAt s base z row p out₀ map₀ p out₀ map₀
+  pub run-begun : Inner z row (p .col) → Ahead s base (p .q) block-ahead → Within (15 + p .col / 16) (p .lengths) → RanAt s base z row p out₀ map₀ p out₀ map₀
   run-begun i x near =
       record {
         run = none;
@@ -71,7 +71,7 @@ module _ (s : List ℕ) (base : ℕ) (z : Size) (row : ℕ) (p : Point) (out₀ 
     run-inner = inner-on i (r .after) (r .whole) inside
 
     -- A block more.
-    pub run-on : (h : WindowHead) (q′ : ℕ) (out′ map′ : List ℕ) → Ahead s base (h .q) 583 → HeadAt s base (p₁ .q) (p₁ .lengths) h → Ends s base h q′
+    pub run-on : (h : WindowHead) (q′ : ℕ) (out′ map′ : List ℕ) → Ahead s base (h .q) residuals-ahead → HeadAt s base (p₁ .q) (p₁ .lengths) h → Ends s base h q′
         → out′ ≡ apply sample-kind (inner-ops (z .width) (row * z .width + p₁ .col) (h .up) order (residuals-of s base h)) out
         → map′ ≡ apply v0-marks (inner-ops (z .width) (row * z .width + p₁ .col) (h .up) order (replicate 16 0)) map
         → length out′ ≡ length out → length map′ ≡ length map → RanAt s base z row p out₀ map₀ (record { col = p₁ .col + 16; q = q′; lengths = h .lengths }) out′ map′
@@ -159,7 +159,7 @@ pub record Going (s : List ℕ) (base : ℕ) (z : Size) (row last : ℕ) (p : Po
   pub same-map : length map ≡ length map₀
 
 module _ {s : List ℕ} {base : ℕ} {z : Size} {row last : ℕ} {p : Point} {out₀ map₀ : List ℕ} (i : Inner z row (p .col)) where
-  pub going-begun : {l : ℕ} {h : PackedHead} → Ahead s base (p .q) 608 → Within (15 + p .col / 16) (p .lengths) → Packed l → lengths-of l ≡ p .lengths
+  pub going-begun : {l : ℕ} {h : PackedHead} → Ahead s base (p .q) block-ahead → Within (15 + p .col / 16) (p .lengths) → Packed l → lengths-of l ≡ p .lengths
       → HeadAt s base (p .q) (lengths-of l) (head-after (p .q) h) → Going s base z row last p out₀ map₀ out₀ map₀ (p .col) (p .q) l false h
   going-begun {l} ahead near packed e head =
       let n = none-waits z row (p .col) (p .col) false (omega arith) out₀ map₀ in
@@ -181,7 +181,7 @@ module _ {s : List ℕ} {base : ℕ} {z : Size} {row last : ℕ} {p : Point} {ou
         → RanAt s base z row p out₀ map₀ (record { col = col; q = q; lengths = ls }) out′ map′
     going-done el eo em = rw (el, eo, em) (g .ran)
 
-    module _ (inside : col + 16 ≤ z .width) (ahead : Ahead s base q 608) (soon : q ≤ last) (lent : length out₀ ≡ cells z)
+    module _ (inside : col + 16 ≤ z .width) (ahead : Ahead s base q block-ahead) (soon : q ≤ last) (lent : length out₀ ≡ cells z)
         (fit : short (lengths-after (h .sums)) ≡ true) (l′ : ℕ) (packed : Packed l′) (el : lengths-of l′ ≡ lengths-after (h .sums)) where
       abbrev next : WindowHead
       next = head-before (h .up) (q + h .size) l′
@@ -189,7 +189,7 @@ module _ {s : List ℕ} {base : ℕ} {z : Size} {row last : ℕ} {p : Point} {ou
       next-head : HeadAt s base q (lengths-of l) next
       next-head = subst (λ ls. HeadAt s base q (lengths-of l) (record { up = h .up; lengths = ls; q = q + h .size })) (sym el) (g .head)
 
-      pub going-ahead : Ahead s base (q + h .size) 583
+      pub going-ahead : Ahead s base (q + h .size) residuals-ahead
       going-ahead = after-head ahead next-head
 
       pub going-room : Room s base (block-end (q + h .size) l′)

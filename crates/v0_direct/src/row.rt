@@ -6,7 +6,7 @@ ghost use Rattle.rules.specs.V0 as V0;
 ghost use Rattle.rules.specs.Reader.{has-filler};
 ghost use Rattle.rules.specs.Frame.{cells, ended};
 ghost use Rattle.rules.specs.Map.{with-filler, v0-marks};
-ghost use Rattle.v0_parse_window.specs.ByWindow.{Ahead, Ends, residuals-of};
+ghost use Rattle.v0_parse_window.specs.ByWindow.{Ahead, Ends, residuals-of, residuals-ahead};
 ghost use Rattle.v0_cells.specs.Inner.{inner-ops};
 ghost use Rattle.v0_cells.specs.Places.{InFrame, Inner};
 ghost use Rattle.v0_lanes.specs.Blocks.{Tables};
@@ -55,7 +55,7 @@ pub fn is_inner(size: Size, row: usize, col: usize) -> bool
 // The residuals after a head that was read by position: the bit after them. Each group is put as it is read, so that few registers hold
 // a block; the four ways stand written out, since the compiler calls a function that would join them.
 fn put_groups(src: &[u8], base: usize, head: WindowHead, at: V0Place, out: &mut [u16]) -> usize
-    requires { ⌜ Ahead (now src) base (head .q) 583 × (Inner (at .size) (at .row) (at .col) × (length (now out) ≡ cells (at .size))) ⌝ }
+    requires { ⌜ Ahead (now src) base (head .q) residuals-ahead × (Inner (at .size) (at .row) (at .col) × (length (now out) ≡ cells (at .size))) ⌝ }
     ensures { λ r. ⌜ Ends (now (src .entry)) base head r ⌝ }
     ensures { λ _. ⌜ now (out .exit) ≡ V0.apply V0.sample-kind (inner-ops (at .size .width) (at .row * at .size .width + at .col) (head .up) V0.order (residuals-of (now (src .entry)) base head)) (now (out .entry)) ⌝ }
 {

@@ -14,7 +14,7 @@ ghost use Prim.Native.Nat.{_+_, _-_, _*_, _/_, _<_};
 ghost use lib.ListN.{length};
 ghost use Rattle.rules.specs.Frame.{cells};
 ghost use Rattle.read_window.specs.Window.{Standing};
-ghost use Rattle.v0_parse_window.specs.ByWindow.{Ahead, last-start, short};
+ghost use Rattle.v0_parse_window.specs.ByWindow.{Ahead, last-start, short, block-ahead};
 ghost use Rattle.v0_parse_window.specs.Run.{run-length};
 ghost use Rattle.v0_cells.specs.Places.{InFrame, Inner, Whole};
 ghost use Rattle.v0_lanes.specs.Blocks.{Tables};
@@ -83,7 +83,7 @@ fn short_blocks(
     lanes: &[u64; 96],
     heads: &[u32; 1024],
 ) -> Point
-    requires { ⌜ Inner (at .size) (at .row) (start .col) × (Ahead (now src) base (start .q) 608 × RunLent (at .size) (start .col) (start .lengths) (now out) (now map)) ⌝ }
+    requires { ⌜ Inner (at .size) (at .row) (start .col) × (Ahead (now src) base (start .q) block-ahead × RunLent (at .size) (start .col) (start .lengths) (now out) (now map)) ⌝ }
     requires { ⌜ (short (start .lengths) ≡ true) × Tables (now lanes) (now heads) ⌝ }
     ensures { λ r. ⌜ RanAt (now (src .entry)) base (at .size) (at .row) start (now (out .entry)) (now (map .entry)) r (now (out .exit)) (now (map .exit)) ⌝ }
     ensures { λ r. ⌜ r .col ≡ start .col + 16 * run-length (now (src .entry)) (base * 8 + last-start (length (now (src .entry)) - base)) ((at .size .width - start .col) / 16) (row-at (now (src .entry)) base start) ⌝ }

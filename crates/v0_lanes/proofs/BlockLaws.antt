@@ -6,7 +6,7 @@ use Prim.Native.Nat.{ℕ, _+_, _-_, _*_, _/_, _%_, _^_, _≤_, _<_}
 use native.Mathlib.Omega.{arith}
 use lib.ListN.{length}
 use Rattle.rules.specs.V0.{length-bits}
-use Rattle.v0_parse_window.specs.ByWindow.{Ahead, Plans, Group, Ends, residuals-of}
+use Rattle.v0_parse_window.specs.ByWindow.{Ahead, Plans, Group, Ends, residuals-of, residuals-ahead}
 use Rattle.v0_parse_window.specs.declared.Plan.{Plan}
 use Rattle.v0_parse_window.proofs.GroupLaws.{ByPosition, groups-are, groups-end}
 use Rattle.v0_lanes.specs.Blocks.{four-set, stored, listed, head-before}
@@ -14,7 +14,7 @@ use Rattle.v0_lanes.specs.Lanes.{lanes-of}
 use Rattle.v0_lanes.specs.Lengths.{byte0, byte1, byte2, byte3, Packed, lengths-of}
 
 -- The window that a group of n bits ends with is in the stream.
-pub group-room : {s : List ℕ} {base q : ℕ} → Ahead s base q 583 → (e n : ℕ) → q + 4 * n ≤ e → e ≤ q + 240
+pub group-room : {s : List ℕ} {base q : ℕ} → Ahead s base q residuals-ahead → (e n : ℕ) → q + 4 * n ≤ e → e ≤ q + 240
     → (64 + 4 * n ≤ e) × ((e < 2 ^ 32) × (base + (e - 64) / 32 * 4 + 12 ≤ length s))
 group-room x e n l m = (omega arith, (omega arith, omega arith))
 
@@ -25,7 +25,7 @@ pub record Ending (q l e₀ e₁ e₂ e₃ : ℕ) : Type 0 where
   pub third : e₂ ≡ q + 4 * byte0 l + 4 * byte1 l + 4 * byte2 l
   pub fourth : e₃ ≡ q + 4 * byte0 l + 4 * byte1 l + 4 * byte2 l + 4 * byte3 l
 
-module _ {s : List ℕ} {base q l e₀ e₁ e₂ e₃ : ℕ} (packed : Packed l) (ahead : Ahead s base q 583) (ends : Ending q l e₀ e₁ e₂ e₃) (a b c d : ℕ)
+module _ {s : List ℕ} {base q l e₀ e₁ e₂ e₃ : ℕ} (packed : Packed l) (ahead : Ahead s base q residuals-ahead) (ends : Ending q l e₀ e₁ e₂ e₃) (a b c d : ℕ)
     (first : Group s base (e₀ - 4 * byte0 l) (byte0 l) (lanes-of a)) (second : Group s base (e₁ - 4 * byte1 l) (byte1 l) (lanes-of b))
     (third : Group s base (e₂ - 4 * byte2 l) (byte2 l) (lanes-of c)) (fourth : Group s base (e₃ - 4 * byte3 l) (byte3 l) (lanes-of d)) (up : Bool) where
   plan : Plan

@@ -4,7 +4,7 @@ ghost use mathlib.Core.Bool.{Bool};
 ghost use mathlib.Core.Path.{_≡_};
 ghost use Prim.Native.Nat.{_+_, _/_, _%_, _^_, _≤_};
 ghost use lib.ListN.{length};
-ghost use Rattle.v0_parse_window.specs.ByWindow.{Room, HeadAt, Ahead, Ends, residuals-of};
+ghost use Rattle.v0_parse_window.specs.ByWindow.{Room, HeadAt, Ahead, Ends, residuals-of, residuals-ahead};
 ghost use Rattle.v0_lanes.specs.Blocks.{four-set, stored, listed, head-after, head-before};
 ghost use Rattle.v0_lanes.specs.Lengths.{Packed, actions, lengths-of, block-end};
 ghost use Rattle.v0_lanes.specs.Tables.{Holds, shapes};
@@ -43,7 +43,7 @@ pub fn store_block(
     first: usize,
     t: &[u64; 96],
 )
-    requires { ⌜ Packed l × (Holds shapes 96 (now t) × (Ahead (now src) base q 583 × (first + 16 ≤ length (now out)))) ⌝ }
+    requires { ⌜ Packed l × (Holds shapes 96 (now t) × (Ahead (now src) base q residuals-ahead × (first + 16 ≤ length (now out)))) ⌝ }
     ensures { λ _. ⌜ ((up : Bool) → Ends (now (src .entry)) base (head-before up q l) (block-end q l)) ⌝ }
     ensures { λ _. ⌜ ((up : Bool) → now (out .exit) ≡ stored (now (out .entry)) first (residuals-of (now (src .entry)) base (head-before up q l))) ⌝ }
     ensures { λ _. ⌜ ((up : Bool) → listed (residuals-of (now (src .entry)) base (head-before up q l)) ≡ residuals-of (now (src .entry)) base (head-before up q l)) ⌝ }

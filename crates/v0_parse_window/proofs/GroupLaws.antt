@@ -22,7 +22,7 @@ use Rattle.rules.proofs.Tests.{both}
 use Rattle.read_window.specs.Window.{bits-from, state-at, values-at, span, none, also, Window, Standing}
 use Rattle.read_window.proofs.WindowLaws.{fields-at, window-words, pair-top}
 use Rattle.v0_parse.specs.Block.{with-residuals, whole-block}
-use Rattle.v0_parse_window.specs.ByWindow.{residual, Room, HeadAt, head-of, Ahead, last-start, Plans, Short, short-length, short, Group, joined, residuals-of, Ends}
+use Rattle.v0_parse_window.specs.ByWindow.{residual, Room, HeadAt, head-of, Ahead, last-start, Plans, Short, short-length, short, Group, joined, residuals-of, Ends, block-ahead, residuals-ahead}
 use Rattle.v0_parse_window.specs.declared.WindowHead.{WindowHead}
 use Rattle.v0_parse_window.specs.declared.Plan.{Plan}
 use Rattle.v0_parse.proofs.BlockLaws.{bits-few-enough, Reading, reading-begun, reading-four, read-all}
@@ -153,12 +153,12 @@ few {h} x = (
 pub short-plan : {h : WindowHead} {p : Plan} → Plans h p → Short (h .lengths) → (p .n0 ≤ 16) × ((p .n1 ≤ 16) × ((p .n2 ≤ 16) × (p .n3 ≤ 16)))
 short-plan x y = (rw (x .is₀) (y .first), (rw (x .is₁) (y .second), (rw (x .is₂) (y .third), rw (x .is₃) (y .fourth))))
 
-module _ {s : List ℕ} {base : ℕ} {h : WindowHead} {p : Plan} (ahead : Ahead s base (h .q) 583) (x : Plans h p) where
+module _ {s : List ℕ} {base : ℕ} {h : WindowHead} {p : Plan} (ahead : Ahead s base (h .q) residuals-ahead) (x : Plans h p) where
   -- A group that begins no later than the fourth may.
   in-room : (q n : ℕ) → 64 < q → q ≤ h .q + 384 → n ≤ 32 → FourIn s base q n
   in-room q n late soon few =
-      let there : base * 8 + h .q + 583 ≤ length s * 8 = ahead .there in
-      let near : h .q + 583 < 2 ^ 31 = ahead .soon in
+      let there : base * 8 + h .q + residuals-ahead ≤ length s * 8 = ahead .there in
+      let near : h .q + residuals-ahead < 2 ^ 31 = ahead .soon in
       record { short = λ l. (l, (omega arith, (omega arith, omega arith))); long = λ l. (l, (few, (omega arith, omega arith))) }
 
   -- Each of the four.
@@ -176,7 +176,7 @@ module _ {s : List ℕ} {base : ℕ} {h : WindowHead} {p : Plan} (ahead : Ahead 
 
 -- A block read by position: its four groups too.
 pub record ByPosition (s : List ℕ) (base : ℕ) (h : WindowHead) (p : Plan) (a b c d : List ℕ) : Type 0 where
-  pub ahead : Ahead s base (h .q) 583
+  pub ahead : Ahead s base (h .q) residuals-ahead
   pub plans : Plans h p
   pub first : Group s base (h .q) (p .n0) a
   pub second : Group s base (p .q1) (p .n1) b
@@ -200,8 +200,8 @@ module _ {s : List ℕ} {base : ℕ} {h : WindowHead} {p : Plan} {a b c d : List
       let y = x .plans in
       let n = few y in
       let late : 64 < q = x .ahead .late in
-      let there : base * 8 + q + 583 ≤ length s * 8 = x .ahead .there in
-      let far : base * 8 + q + 583 < 2 ^ 67 = x .ahead .far in
+      let there : base * 8 + q + residuals-ahead ≤ length s * 8 = x .ahead .there in
+      let far : base * 8 + q + residuals-ahead < 2 ^ 67 = x .ahead .far in
       let g₁ = rw (y .second) at (x .second) in
       let g₂ = rw (y .third) at (x .third) in
       let g₃ = rw (y .fourth) at (x .fourth) in
@@ -224,22 +224,22 @@ module _ {s : List ℕ} {base : ℕ} {h : WindowHead} {p : Plan} {a b c d : List
 -- ── From a head's start ──
 
 -- A record that stands in the stream stands where a block may begin.
-pub standing-ahead : {s : List ℕ} {b : Bits} → Standing s b 80 → Ahead s (b .pos - 12) (96 - b .count) 608
+pub standing-ahead : {s : List ℕ} {b : Bits} → Standing s b 80 → Ahead s (b .pos - 12) (96 - b .count) block-ahead
 standing-ahead x = record { late = omega arith; soon = omega arith; there = omega arith; far = omega arith }
 
 -- There is room for a block that begins no later than it may.
-pub room-for : {s : List ℕ} {base q last : ℕ} → 64 < q → base ≤ length s → length s < 2 ^ 64 → last ≡ last-start (length s - base) → q ≤ last → Ahead s base q 608
+pub room-for : {s : List ℕ} {base q last : ℕ} → 64 < q → base ≤ length s → length s < 2 ^ 64 → last ≡ last-start (length s - base) → q ≤ last → Ahead s base q block-ahead
 room-for late starts fits is soon = record { late = late; soon = omega arith; there = omega arith; far = omega arith }
 
 -- Its head begins in a window that is there, and its residuals after the head.
-pub ahead-room : {s : List ℕ} {base q : ℕ} → Ahead s base q 608 → Room s base q
+pub ahead-room : {s : List ℕ} {base q : ℕ} → Ahead s base q block-ahead → Room s base q
 ahead-room x = record { some = omega arith; soon = omega arith; there = omega arith; far = omega arith }
 
-pub after-head : {s : List ℕ} {base q : ℕ} {ls : List ℤ} {h : WindowHead} → Ahead s base q 608 → HeadAt s base q ls h → Ahead s base (h .q) 583
+pub after-head : {s : List ℕ} {base q : ℕ} {ls : List ℤ} {h : WindowHead} → Ahead s base q block-ahead → HeadAt s base q ls h → Ahead s base (h .q) residuals-ahead
 after-head x y = record { late = omega arith; soon = omega arith; there = omega arith; far = omega arith }
 
 -- The record can be made again after the block: the word that it has fetched by then lies within 31 bits.
-pub ahead-end : {s : List ℕ} {base : ℕ} {h : WindowHead} {q : ℕ} → Ahead s base (h .q) 583 → Ends s base h q → Ahead s base q 31
+pub ahead-end : {s : List ℕ} {base : ℕ} {h : WindowHead} {q : ℕ} → Ahead s base (h .q) residuals-ahead → Ends s base h q → Ahead s base q 31
 ahead-end x y = record { late = omega arith; soon = omega arith; there = omega arith; far = omega arith }
 
 pub end-room : {s : List ℕ} {base q : ℕ} → Ahead s base q 31 → (0 < q) × ((q < 2 ^ 32) × (base + (q + 31) / 32 * 4 ≤ length s))

@@ -45,8 +45,15 @@ pub record HeadAt (s : List ℕ) (base q : ℕ) (ls : List ℤ) (h : WindowHead)
   pub some : q ≤ h .q
   pub soon : h .q ≤ q + 25
 
--- Bit q, with two words before it, where a window that ends in what follows may begin, and `more` bits after it that are there: 608 for
--- a block, 583 for its residuals.
+-- The bits that have to be there from a block's first bit on, and from the first bit of its residuals on.
+abbrev pub block-ahead : ℕ
+block-ahead = 608
+
+abbrev pub residuals-ahead : ℕ
+residuals-ahead = 583
+
+-- Bit q, with two words before it, where a window that ends in what follows may begin, and `more` bits after it that are there:
+-- `block-ahead` for a block, `residuals-ahead` for its residuals.
 pub record Ahead (s : List ℕ) (base q more : ℕ) : Type 0 where
   pub late : 64 < q
   pub soon : q + more < 2 ^ 31
@@ -56,7 +63,7 @@ pub record Ahead (s : List ℕ) (base q more : ℕ) : Type 0 where
 -- The last bit of some bytes that a block may begin at: 608 are there from it on. A row's blocks have fewer than 2^20 bits, and no more
 -- are counted.
 abbrev pub last-start : ℕ → ℕ
-last-start bytes = min (bytes * 8 - 608) 1_047_968
+last-start bytes = min (bytes * 8 - block-ahead) 1_047_968
 
 -- ── Residuals ──
 

@@ -12,7 +12,7 @@ use Rattle.rules.specs.declared.v0.V0Row.{V0Row}
 use Rattle.read_window.specs.Window.{state-at, Standing, standing-in}
 use Rattle.v0_parse.specs.Lengths.{Within}
 use Rattle.v0_parse.proofs.BlockLaws.{block-within}
-use Rattle.v0_parse_window.specs.ByWindow.{Ahead, HeadAt, last-start, short, Ends, residuals-of}
+use Rattle.v0_parse_window.specs.ByWindow.{Ahead, HeadAt, last-start, short, Ends, residuals-of, block-ahead, residuals-ahead}
 use Rattle.v0_parse_window.specs.Run.{run-length, blocks-of-run}
 use Rattle.v0_parse_window.specs.declared.WindowHead.{WindowHead}
 use Rattle.v0_parse_window.proofs.GroupLaws.{ahead-end}
@@ -60,12 +60,12 @@ module _ {s : List ℕ} {w k : ℕ} {st : V0Row} {out dirs : List ℕ} where
 -- ── Blocks by position ──
 
 module _ {s : List ℕ} {base w : ℕ} {p : Point} {out dirs : List ℕ} where
-  pub run-begun : Ahead s base (p .q) 608 → RanAt s base w p out dirs p out dirs
+  pub run-begun : Ahead s base (p .q) block-ahead → RanAt s base w p out dirs p out dirs
   run-begun x = record { ahead = record { late = omega arith; soon = omega arith; there = omega arith; far = omega arith }; reads = λ f. none }
 
   -- One more, from its head and the residuals after it.
   pub run-on : {p₁ : Point} {h : WindowHead} {q d : ℕ} {out₁ out₂ dirs₁ : List ℕ} → RanAt s base w p out dirs p₁ out₁ dirs₁
-      → p₁ .k < blocks-in w → length out₂ ≡ length out₁ → Ahead s base (h .q) 583 → HeadAt s base (p₁ .q) (p₁ .lengths) h → Ends s base h q
+      → p₁ .k < blocks-in w → length out₂ ≡ length out₁ → Ahead s base (h .q) residuals-ahead → HeadAt s base (p₁ .q) (p₁ .lengths) h → Ends s base h q
       → out₂ ≡ store-samples 0 w (p₁ .k * 16) order (residuals-of s base h) out₁ → d ≡ cond (h .up) 1 0
       → RanAt s base w p out dirs (record { k = p₁ .k + 1; q = q; lengths = h .lengths }) out₂ (set dirs₁ (p₁ .k) d)
   run-on r l same x head ends eo ed =

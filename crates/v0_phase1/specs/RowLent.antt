@@ -3,12 +3,13 @@ use Prim.Native.Nat.{ℕ, _+_, _≤_, _<_}
 use mathlib.Core.List.{List}
 use lib.IntN.{ℤ}
 use lib.ListN.{length}
+use Rattle.rules.specs.Limits.{most-side}
 use Rattle.rules.specs.V0.{blocks-in}
 use Rattle.v0_parse.specs.Lengths.{Within, furthest}
 
 -- What the parser of a row is lent: its samples, and a direction byte for each of its blocks. Both may reach further.
 pub record RowLent (w : ℕ) (out dirs : List ℕ) : Type 0 where
-  pub width : w ≤ 16_384
+  pub width : w ≤ most-side
   pub samples-lent : w ≤ length out
   pub directions-lent : blocks-in w ≤ length dirs
 

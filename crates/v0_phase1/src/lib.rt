@@ -7,10 +7,11 @@ ghost use mathlib.Core.List.{_++_, map};
 ghost use Prim.Native.Nat.{_+_, _-_, _≤_, _<_};
 ghost use lib.Dec.{ltb};
 ghost use lib.ListN.{length, getD, set, drop};
+ghost use Rattle.rules.specs.Limits.{most-side};
 ghost use Rattle.rules.specs.V0.{order, blocks-in};
 ghost use Rattle.rules.specs.Answer.{scratch-bytes};
 ghost use Rattle.rules.specs.Phases.{store-samples, store-blocks, row-records, direction, phase-one, scratch};
-ghost use Rattle.v0_parse_window.specs.ByWindow.{Ahead, Ends, residuals-of};
+ghost use Rattle.v0_parse_window.specs.ByWindow.{Ahead, Ends, residuals-of, residuals-ahead};
 ghost use Rattle.v0_cells.specs.Places.{PhaseLent};
 ghost use Rattle.v0_phase1.specs.RowLent.{RowLent, BlockLent, RunLent};
 ghost use Rattle.v0_phase1.specs.Parsed.{Parsed};
@@ -52,7 +53,7 @@ fn store_residual(out: &mut [u16], width: usize, i: usize, residual: u16)
 
 // The residuals of a block that may reach past its row's end.
 fn store_edge(out: &mut [u16], width: usize, col: usize, residuals: [u16; 16])
-    requires { ⌜ (width ≤ length (now out)) × (col < 16_384) ⌝ }
+    requires { ⌜ (width ≤ length (now out)) × (col < most-side) ⌝ }
     ensures { λ _. ⌜ now (out .exit) ≡ store-samples 0 width col order residuals (now (out .entry)) ⌝ }
 {
     let mut k: usize = 0;
@@ -65,7 +66,7 @@ fn store_edge(out: &mut [u16], width: usize, col: usize, residuals: [u16; 16])
 
 // The residuals of a block that lies within its row.
 fn store_inner(out: &mut [u16], width: usize, col: usize, residuals: [u16; 16])
-    requires { ⌜ (width ≤ length (now out)) × ((col + 16 ≤ width) × (width ≤ 16_384)) ⌝ }
+    requires { ⌜ (width ≤ length (now out)) × ((col + 16 ≤ width) × (width ≤ most-side)) ⌝ }
     ensures { λ _. ⌜ now (out .exit) ≡ store-samples 0 width col order residuals (now (out .entry)) ⌝ }
 {
     let mut k: usize = 0;
@@ -78,7 +79,7 @@ fn store_inner(out: &mut [u16], width: usize, col: usize, residuals: [u16; 16])
 
 // The residuals of the block at a column of a row.
 fn store_residuals(out: &mut [u16], width: usize, col: usize, residuals: [u16; 16])
-    requires { ⌜ (width ≤ length (now out)) × ((col < 16_384) × (width ≤ 16_384)) ⌝ }
+    requires { ⌜ (width ≤ length (now out)) × ((col < most-side) × (width ≤ most-side)) ⌝ }
     ensures { λ _. ⌜ now (out .exit) ≡ store-samples 0 width col order residuals (now (out .entry)) ⌝ }
 {
     if col + V0Row::BLOCK <= width {
@@ -90,7 +91,7 @@ fn store_residuals(out: &mut [u16], width: usize, col: usize, residuals: [u16; 1
 
 // Four residuals to column i of a row and every other one after it.
 fn store_four(out: &mut [u16], i: usize, four: [u16; 4])
-    requires { ⌜ (i + 6 < length (now out)) × (i < 16_384) ⌝ }
+    requires { ⌜ (i + 6 < length (now out)) × (i < most-side) ⌝ }
     ensures { λ _. ⌜ now (out .exit) ≡ set (set (set (set (now (out .entry)) i (getD four 0 0)) (i + 2) (getD four 1 0)) (i + 4) (getD four 2 0)) (i + 6) (getD four 3 0) ⌝ }
 {
     out[i] = four[0];
@@ -110,7 +111,7 @@ fn store_groups(
     width: usize,
     col: usize,
 ) -> usize
-    requires { ⌜ Ahead (now src) base (head .q) 583 × ((width ≤ length (now out)) × ((col + 16 ≤ width) × (width ≤ 16_384))) ⌝ }
+    requires { ⌜ Ahead (now src) base (head .q) residuals-ahead × ((width ≤ length (now out)) × ((col + 16 ≤ width) × (width ≤ most-side))) ⌝ }
     ensures { λ r. ⌜ Ends (now (src .entry)) base head r ⌝ }
     ensures { λ _. ⌜ now (out .exit) ≡ store-samples 0 width col order (residuals-of (now (src .entry)) base head) (now (out .entry)) ⌝ }
 {

@@ -10,10 +10,11 @@ ghost use mathlib.Core.Bool.{true, _&&_};
 ghost use mathlib.Core.Path.{_≡_};
 ghost use Prim.Native.Nat.{ℕ, _+_, _-_, _*_, _/_, _≤_};
 ghost use lib.ListN.{length};
+ghost use Rattle.rules.specs.Limits.{most-side};
 ghost use Rattle.rules.specs.V0.{order};
 ghost use Rattle.rules.specs.Phases.{store-samples};
 ghost use Rattle.read_window.specs.Window.{Standing, standing-in};
-ghost use Rattle.v0_parse_window.specs.ByWindow.{Ahead, last-start, Short, short, Ends, residuals-of};
+ghost use Rattle.v0_parse_window.specs.ByWindow.{Ahead, last-start, Short, short, Ends, residuals-of, block-ahead, residuals-ahead};
 ghost use Rattle.v0_parse_window.specs.Run.{run-length, blocks-of-run};
 ghost use Rattle.v0_phase1.specs.RowLent.{RunLent};
 ghost use Rattle.v0_phase1.specs.Ran.{RanAt, Ran, row-at};
@@ -55,7 +56,7 @@ fn store_short(
     col: usize,
 ) -> usize
     requires { ⌜ Short (head .lengths) ⌝ }
-    requires { ⌜ Ahead (now src) base (head .q) 583 × ((width ≤ length (now out)) × ((col + 16 ≤ width) × (width ≤ 16_384))) ⌝ }
+    requires { ⌜ Ahead (now src) base (head .q) residuals-ahead × ((width ≤ length (now out)) × ((col + 16 ≤ width) × (width ≤ most-side))) ⌝ }
     ensures { λ r. ⌜ Ends (now (src .entry)) base head r ⌝ }
     ensures { λ _. ⌜ now (out .exit) ≡ store-samples 0 width col order (residuals-of (now (src .entry)) base head) (now (out .entry)) ⌝ }
 {
@@ -80,7 +81,7 @@ fn short_blocks(
     out: &mut [u16],
     dirs: &mut [u8],
 ) -> Point
-    requires { ⌜ Ahead (now src) base (start .q) 608 × RunLent width (start .k) (start .lengths) (now out) (now dirs) ⌝ }
+    requires { ⌜ Ahead (now src) base (start .q) block-ahead × RunLent width (start .k) (start .lengths) (now out) (now dirs) ⌝ }
     ensures { λ r. ⌜ RanAt (now (src .entry)) base width start (now (out .entry)) (now (dirs .entry)) r (now (out .exit)) (now (dirs .exit)) ⌝ }
     ensures { λ r. ⌜ ((f : ℕ) → r .k ≡ start .k + run-length (now (src .entry)) (base * 8 + last-start (length (now (src .entry)) - base)) (width / 16 - start .k) (row-at (now (src .entry)) base f start)) ⌝ }
 {

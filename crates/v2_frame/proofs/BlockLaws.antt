@@ -9,6 +9,7 @@ use lib.IntN.{ℤ, pos}
 use lib.ListN.{getD, replicate}
 use mir.Syntax.{w32}
 use mir.Val.{SFits}
+use Rattle.rules.specs.Limits.{most-side}
 use Rattle.rules.specs.declared.reader.Bits.{Bits}
 use Rattle.rules.specs.declared.reader.Got.{Got}
 use Rattle.rules.specs.declared.v2.V2Block.the-variants.{Next, EarlyMotion, Outside, LongDifference}
@@ -31,7 +32,7 @@ scale-fits z p = record { sfits = omega (arith, mag-abs z, between-abs p (lit≤
 
 -- The ranges of a block's own motion and scale, and of the scale before it.
 module _ (s : List ℕ) (h : V2Hdr) (n : ℕ) (at : V2Place) (b : Bits) (st : V2Row) (r : Ready h n at st) where
-  column-most : at .col + 16 ≤ 16_384
+  column-most : at .col + 16 ≤ most-side
   column-most = omega (arith, r .inside .placed .column, r .inside .placed .wide)
 
   pub ready-scale : Between 512 4_605 (st .scale)

@@ -4,6 +4,7 @@ use mathlib.Core.Logic.{_⊎_}
 use mathlib.Core.Path.{_≡_}
 use mathlib.Core.List.{List}
 use lib.ListN.{length}
+use Rattle.rules.specs.Limits.{most-side}
 use Rattle.rules.specs.declared.answer.Size.{Size}
 use Rattle.rules.specs.declared.v2.V2Hdr.{V2Hdr}
 use Rattle.rules.specs.declared.v2.V2Row.{V2Row}
@@ -23,8 +24,8 @@ pub record Ready (h : V2Hdr) (n : ℕ) (at : V2Place) (st : V2Row) : Type 0 wher
 
 -- What a frame is lent: a size within the limits, its samples, and a map of the whole frame or an empty one.
 pub record FrameLent (size : Size) (out map : List ℕ) : Type 0 where
-  pub width : size .width ≤ 16_384
-  pub height : size .height ≤ 16_384
+  pub width : size .width ≤ most-side
+  pub height : size .height ≤ most-side
   pub samples-lent : length out ≡ cells size
   pub map-lent : (length map ≡ cells size) ⊎ (length map ≡ 0)
 

@@ -4,7 +4,7 @@ use native.Mathlib.Omega.{arith}
 use denote.Ref.{now}
 use borrow.Author.Needs.{needs}
 use Rattle.read_window.specs.Window.{Standing}
-use Rattle.v0_parse_window.specs.ByWindow.{Ahead}
+use Rattle.v0_parse_window.specs.ByWindow.{Ahead, residuals-ahead}
 use Rattle.v0_parse_window.proofs.GroupLaws.{standing-ahead, ahead-room, after-head, ahead-end, end-room}
 use Rattle.v0_phase1.proofs.ResidualLaws.{position-parsed}
 use Rattle.v0_phase1.proofs.parse_block.Statement.{statement}
@@ -32,7 +32,7 @@ stood c = c .before .stands-within .ensures .1 (c .if2 .taken)
 
 -- The residuals begin after its head.
 ahead : (c : tie.After-window-head)
-    → Ahead (now (entry (within c) .args .src)) (entry (within c) .args .row .bits .pos - 12) (c .window-head .result .q) 583
+    → Ahead (now (entry (within c) .args .src)) (entry (within c) .args .row .bits .pos - 12) (c .window-head .result .q) residuals-ahead
 ahead c = after-head (standing-ahead (stood (within c))) (c .window-head .ensures)
 
 mul-col : tie.Need-mul-col

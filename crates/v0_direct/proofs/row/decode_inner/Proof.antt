@@ -4,7 +4,7 @@ use native.Mathlib.Omega.{arith}
 use denote.Ref.{now}
 use borrow.Author.Needs.{needs}
 use Rattle.read_window.specs.Window.{Standing}
-use Rattle.v0_parse_window.specs.ByWindow.{Ahead}
+use Rattle.v0_parse_window.specs.ByWindow.{Ahead, residuals-ahead}
 use Rattle.v0_parse_window.proofs.GroupLaws.{standing-ahead, ahead-room, after-head, ahead-end, end-room, block-read}
 use Rattle.v0_direct.proofs.InnerLaws.{inner-decoded}
 use Rattle.v0_direct.proofs.row.decode_inner.Statement.{statement}
@@ -29,7 +29,7 @@ put c = c .before .before .before .before
 stood : (c : tie.Then1) → Standing (now (start c .args .src)) (start c .args .state .bits) 80
 stood c = c .before .stands-within .ensures .1 (c .if1 .taken)
 
-ahead : (c : tie.After-window-head) → Ahead (now (start (standing c) .args .src)) (start (standing c) .args .state .bits .pos - 12) (c .window-head .result .q) 583
+ahead : (c : tie.After-window-head) → Ahead (now (start (standing c) .args .src)) (start (standing c) .args .state .bits .pos - 12) (c .window-head .result .q) residuals-ahead
 ahead c = after-head (standing-ahead (stood (standing c))) (c .window-head .ensures)
 
 stands-within-requires : tie.Need-stands-within-requires

@@ -7,7 +7,7 @@ use native.Mathlib.Omega.{arith}
 use denote.Ref.{now}
 use borrow.Author.Needs.{needs}
 use borrow.Author.Tests.{not-false, not-true, leb-true, leb-false}
-use Rattle.v0_parse_window.specs.ByWindow.{Ahead, short}
+use Rattle.v0_parse_window.specs.ByWindow.{Ahead, short, block-ahead}
 use Rattle.v0_cells.specs.Places.{Inner}
 use Rattle.v0_cells.proofs.InnerLaws.{inner-fits, inner-inside}
 use Rattle.v0_parse_window.proofs.GroupLaws.{room-for, ahead-room}
@@ -66,7 +66,7 @@ inside c = omega arith
 soon : (c : tie.Then1 Inv-loop μ-loop) → c .before .before .loop .q ≤ roomed (c .before .before) .last-start .result
 soon c = leb-true _ _ (c .if1 .taken)
 
-ahead : (c : tie.Then1 Inv-loop μ-loop) → Ahead (now (start (c .before .before) .args .src)) (start (c .before .before) .args .base) (c .before .before .loop .q) 608
+ahead : (c : tie.Then1 Inv-loop μ-loop) → Ahead (now (start (c .before .before) .args .src)) (start (c .before .before) .args .base) (c .before .before .loop .q) block-ahead
 ahead c =
     let l = c .before .before in let there = start l .pre .0 .1 .0 .there in
     room-for (l .loop .inv .ran .ahead .late) (omega arith) (omega arith) (roomed l .last-start .ensures) (soon c)

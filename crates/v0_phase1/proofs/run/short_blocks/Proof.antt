@@ -8,7 +8,7 @@ use denote.Ref.{now}
 use borrow.Author.Needs.{needs}
 use borrow.Author.Tests.{leb-true, leb-false, not-true, not-false}
 use Rattle.rules.specs.V0.{blocks-in}
-use Rattle.v0_parse_window.specs.ByWindow.{Ahead, last-start}
+use Rattle.v0_parse_window.specs.ByWindow.{Ahead, last-start, block-ahead, residuals-ahead}
 use Rattle.v0_parse_window.proofs.GroupLaws.{ahead-room, after-head, room-for, short-is}
 use Rattle.v0_phase1.specs.RowLent.{RowLent}
 use Rattle.v0_phase1.specs.Ran.{RanAt}
@@ -59,14 +59,14 @@ lent c =
 soon : (c : tie.Then1 Inv-loop μ-loop) → turn c .loop .q ≤ turn c .before .before .last-start .result
 soon c = leb-true _ _ (c .if1 .taken)
 
-ahead : (c : tie.Then1 Inv-loop μ-loop) → Ahead (now (entry (turn c) .args .src)) (entry (turn c) .args .base) (turn c .loop .q) 608
+ahead : (c : tie.Then1 Inv-loop μ-loop) → Ahead (now (entry (turn c) .args .src)) (entry (turn c) .args .base) (turn c .loop .q) block-ahead
 ahead c =
     let x = turn c .before .before in let first = entry (turn c) .pre .0 .there in
     room-for (turn c .loop .inv .0 .ahead .late) (omega arith) (omega arith) (x .last-start .ensures) (soon c)
 
 -- Its residuals begin after its head.
 after : (c : tie.After-window-head Inv-loop μ-loop)
-    → Ahead (now (entry (turn (c .before)) .args .src)) (entry (turn (c .before)) .args .base) (c .window-head .result .q) 583
+    → Ahead (now (entry (turn (c .before)) .args .src)) (entry (turn (c .before)) .args .base) (c .window-head .result .q) residuals-ahead
 after c = after-head (ahead (c .before)) (c .window-head .ensures)
 
 -- Where the loop is left the run ends, by the last bit that a block may begin at.
