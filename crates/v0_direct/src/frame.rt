@@ -32,9 +32,9 @@ fn decode_freeing(
     map: &mut [u8],
 ) -> u64
     requires { ⌜ FrameLent size (now offsets) (now out) (now map) × (count ≤ size .height) ⌝ }
-    ensures { λ r. ⌜ r ≡ V0.rows-filler (now (src .entry)) (now (offsets .entry)) size count 0 0 ⌝ }
-    ensures { λ _. ⌜ now (out .exit) ≡ rows-freed V0.sample-kind (now (src .entry)) (now (offsets .entry)) size count (now (out .entry)) ⌝ }
-    ensures { λ _. ⌜ now (map .exit) ≡ rows-freed v0-marks (now (src .entry)) (now (offsets .entry)) size count (now (map .entry)) ⌝ }
+    ensures missing { λ r. ⌜ r ≡ V0.rows-filler (now (src .entry)) (now (offsets .entry)) size count 0 0 ⌝ }
+    ensures samples { λ _. ⌜ now (out .exit) ≡ rows-freed V0.sample-kind (now (src .entry)) (now (offsets .entry)) size count (now (out .entry)) ⌝ }
+    ensures marks { λ _. ⌜ now (map .exit) ≡ rows-freed v0-marks (now (src .entry)) (now (offsets .entry)) size count (now (map .entry)) ⌝ }
 {
     let mut lanes = [0u64; 96];
     fill_lanes(&mut lanes);
@@ -71,9 +71,9 @@ pub fn decode_v0_head(src: &[u8], offsets: &[u32], size: Size, out: &mut [u16])
 // All rows, and the last pair after them: how many words were missing.
 pub fn decode_frame(src: &[u8], offsets: &[u32], size: Size, out: &mut [u16], map: &mut [u8]) -> u64
     requires { ⌜ FrameLent size (now offsets) (now out) (now map) ⌝ }
-    ensures { λ r. ⌜ r ≡ V0.frame-filler (now (src .entry)) (now (offsets .entry)) size ⌝ }
-    ensures { λ _. ⌜ now (out .exit) ≡ V0.decoded (now (src .entry)) (now (offsets .entry)) size (now (out .entry)) ⌝ }
-    ensures { λ _. ⌜ now (map .exit) ≡ V0.frame v0-marks (now (src .entry)) (now (offsets .entry)) size (now (map .entry)) ⌝ }
+    ensures missing { λ r. ⌜ r ≡ V0.frame-filler (now (src .entry)) (now (offsets .entry)) size ⌝ }
+    ensures samples { λ _. ⌜ now (out .exit) ≡ V0.decoded (now (src .entry)) (now (offsets .entry)) size (now (out .entry)) ⌝ }
+    ensures marks { λ _. ⌜ now (map .exit) ≡ V0.frame v0-marks (now (src .entry)) (now (offsets .entry)) size (now (map .entry)) ⌝ }
 {
     let h = size.height;
     let filler = decode_freeing(src, offsets, size, h, out, map);

@@ -56,8 +56,8 @@ pub fn is_inner(size: Size, row: usize, col: usize) -> bool
 // a block; the four ways stand written out, since the compiler calls a function that would join them.
 fn put_groups(src: &[u8], base: usize, head: WindowHead, at: V0Place, out: &mut [u16]) -> usize
     requires { ⌜ Ahead (now src) base (head .q) residuals-ahead × (Inner (at .size) (at .row) (at .col) × (length (now out) ≡ cells (at .size))) ⌝ }
-    ensures { λ r. ⌜ Ends (now (src .entry)) base head r ⌝ }
-    ensures { λ _. ⌜ now (out .exit) ≡ V0.apply V0.sample-kind (inner-ops (at .size .width) (at .row * at .size .width + at .col) (head .up) V0.order (residuals-of (now (src .entry)) base head)) (now (out .entry)) ⌝ }
+    ensures ends { λ r. ⌜ Ends (now (src .entry)) base head r ⌝ }
+    ensures samples { λ _. ⌜ now (out .exit) ≡ V0.apply V0.sample-kind (inner-ops (at .size .width) (at .row * at .size .width + at .col) (head .up) V0.order (residuals-of (now (src .entry)) base head)) (now (out .entry)) ⌝ }
 {
     let size = at.size;
     let plan = plan_of(head);
@@ -197,9 +197,9 @@ pub fn decode_row(
 ) -> u64
     requires { ⌜ InRow size row (now out) (now map) ⌝ }
     requires { ⌜ Tables (now lanes) (now heads) ⌝ }
-    ensures { λ r. ⌜ r ≡ V0.row-blocks (now (src .entry)) size row offset .bits .filler ⌝ }
-    ensures { λ _. ⌜ now (out .exit) ≡ V0.write-all V0.sample-kind (V0.row-blocks (now (src .entry)) size row offset .blocks) (now (out .entry)) ⌝ }
-    ensures { λ _. ⌜ now (map .exit) ≡ V0.write-all v0-marks (V0.row-blocks (now (src .entry)) size row offset .blocks) (now (map .entry)) ⌝ }
+    ensures missing { λ r. ⌜ r ≡ V0.row-blocks (now (src .entry)) size row offset .bits .filler ⌝ }
+    ensures samples { λ _. ⌜ now (out .exit) ≡ V0.write-all V0.sample-kind (V0.row-blocks (now (src .entry)) size row offset .blocks) (now (out .entry)) ⌝ }
+    ensures marks { λ _. ⌜ now (map .exit) ≡ V0.write-all v0-marks (V0.row-blocks (now (src .entry)) size row offset .blocks) (now (map .entry)) ⌝ }
 {
     let w = size.width;
     let mut state = V0Row::fresh(row, offset);

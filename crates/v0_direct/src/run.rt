@@ -57,8 +57,8 @@ pub struct Point {
 // What the block before a column waits for, where the run has one there: its predictions, and its marks.
 fn finish(out: &mut [u16], map: &mut [u8], at: V0Place, from: usize, up: bool)
     requires { ⌜ (from < at .col → Inner (at .size) (at .row) (at .col - 16)) × ((length (now out) ≡ cells (at .size)) × Whole (at .size) (now map)) ⌝ }
-    ensures { λ _. ⌜ now (out .exit) ≡ finished (at .size) (at .row) from (at .col) up (now (out .entry)) ⌝ }
-    ensures { λ _. ⌜ now (map .exit) ≡ finished-marks (at .size) (at .row) from (at .col) up (now (map .entry)) ⌝ }
+    ensures samples { λ _. ⌜ now (out .exit) ≡ finished (at .size) (at .row) from (at .col) up (now (out .entry)) ⌝ }
+    ensures marks { λ _. ⌜ now (map .exit) ≡ finished-marks (at .size) (at .row) from (at .col) up (now (map .entry)) ⌝ }
 {
     if at.col <= from {
         return;
@@ -85,8 +85,8 @@ fn short_blocks(
 ) -> Point
     requires { ⌜ Inner (at .size) (at .row) (start .col) × (Ahead (now src) base (start .q) block-ahead × RunLent (at .size) (start .col) (start .lengths) (now out) (now map)) ⌝ }
     requires { ⌜ (short (start .lengths) ≡ true) × Tables (now lanes) (now heads) ⌝ }
-    ensures { λ r. ⌜ RanAt (now (src .entry)) base (at .size) (at .row) start (now (out .entry)) (now (map .entry)) r (now (out .exit)) (now (map .exit)) ⌝ }
-    ensures { λ r. ⌜ r .col ≡ start .col + 16 * run-length (now (src .entry)) (base * 8 + last-start (length (now (src .entry)) - base)) ((at .size .width - start .col) / 16) (row-at (now (src .entry)) base start) ⌝ }
+    ensures ran { λ r. ⌜ RanAt (now (src .entry)) base (at .size) (at .row) start (now (out .entry)) (now (map .entry)) r (now (out .exit)) (now (map .exit)) ⌝ }
+    ensures reaches { λ r. ⌜ r .col ≡ start .col + 16 * run-length (now (src .entry)) (base * 8 + last-start (length (now (src .entry)) - base)) ((at .size .width - start .col) / 16) (row-at (now (src .entry)) base start) ⌝ }
 {
     let size = at.size;
     let row = at.row;
@@ -125,8 +125,8 @@ fn short_blocks(
 // Whether a run begins at a block: at an inner one, after short lengths, where the record stands in the stream and no word was missing.
 fn begins(src: &[u8], at: V0Place, state: V0Row) -> bool
     requires { ⌜ InFrame (at .size) (at .row) (at .col) ⌝ }
-    ensures { λ r. ⌜ r ≡ run-begins (now (src .entry)) (at .size) (at .row) (at .col) state ⌝ }
-    ensures { λ r. ⌜ (r ≡ true → Standing (now (src .entry)) (state .bits) 80) ⌝ }
+    ensures answered { λ r. ⌜ r ≡ run-begins (now (src .entry)) (at .size) (at .row) (at .col) state ⌝ }
+    ensures stands { λ r. ⌜ (r ≡ true → Standing (now (src .entry)) (state .bits) 80) ⌝ }
 {
     let bits = state.bits;
     let lengths = state.lengths;
@@ -154,8 +154,8 @@ pub fn decode_run(
 ) -> Run
     requires { ⌜ InFrame (at .size) (at .row) (at .col) × RunLent (at .size) (at .col) (state .lengths) (now out) (now map) ⌝ }
     requires { ⌜ Tables (now lanes) (now heads) ⌝ }
-    ensures { λ r. ⌜ Ran (now (src .entry)) (at .size) (at .row) (at .col) state (now (out .entry)) (now (map .entry)) (r .col) (r .state) (now (out .exit)) (now (map .exit)) ⌝ }
-    ensures { λ r. ⌜ r .col ≡ run-end (now (src .entry)) (at .size) (at .row) (at .col) state ⌝ }
+    ensures ran { λ r. ⌜ Ran (now (src .entry)) (at .size) (at .row) (at .col) state (now (out .entry)) (now (map .entry)) (r .col) (r .state) (now (out .exit)) (now (map .exit)) ⌝ }
+    ensures reaches { λ r. ⌜ r .col ≡ run-end (now (src .entry)) (at .size) (at .row) (at .col) state ⌝ }
 {
     if !begins(src, at, state) {
         return Run { col: at.col, state };

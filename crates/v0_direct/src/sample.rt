@@ -53,9 +53,9 @@ pub fn decode_samples(
     map: &mut [u8],
 ) -> Bits
     requires { ⌜ InFrame (at .size) (at .row) (at .col) ⌝ }
-    ensures { λ r. ⌜ r ≡ samples-of (now (src .entry)) (at .size) (at .row) (at .col) head V0.order (head .row .bits) .bits ⌝ }
-    ensures { λ _. ⌜ now (out .exit) ≡ V0.apply V0.sample-kind (samples-of (now (src .entry)) (at .size) (at .row) (at .col) head V0.order (head .row .bits) .ops) (now (out .entry)) ⌝ }
-    ensures { λ _. ⌜ now (map .exit) ≡ V0.apply v0-marks (samples-of (now (src .entry)) (at .size) (at .row) (at .col) head V0.order (head .row .bits) .ops) (now (map .entry)) ⌝ }
+    ensures answered { λ r. ⌜ r ≡ samples-of (now (src .entry)) (at .size) (at .row) (at .col) head V0.order (head .row .bits) .bits ⌝ }
+    ensures samples { λ _. ⌜ now (out .exit) ≡ V0.apply V0.sample-kind (samples-of (now (src .entry)) (at .size) (at .row) (at .col) head V0.order (head .row .bits) .ops) (now (out .entry)) ⌝ }
+    ensures marks { λ _. ⌜ now (map .exit) ≡ V0.apply v0-marks (samples-of (now (src .entry)) (at .size) (at .row) (at .col) head V0.order (head .row .bits) .ops) (now (map .entry)) ⌝ }
 {
     let after = head.row;
     let mut bits = after.bits;

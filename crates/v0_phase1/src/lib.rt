@@ -112,8 +112,8 @@ fn store_groups(
     col: usize,
 ) -> usize
     requires { ⌜ Ahead (now src) base (head .q) residuals-ahead × ((width ≤ length (now out)) × ((col + 16 ≤ width) × (width ≤ most-side))) ⌝ }
-    ensures { λ r. ⌜ Ends (now (src .entry)) base head r ⌝ }
-    ensures { λ _. ⌜ now (out .exit) ≡ store-samples 0 width col order (residuals-of (now (src .entry)) base head) (now (out .entry)) ⌝ }
+    ensures ends { λ r. ⌜ Ends (now (src .entry)) base head r ⌝ }
+    ensures samples { λ _. ⌜ now (out .exit) ≡ store-samples 0 width col order (residuals-of (now (src .entry)) base head) (now (out .entry)) ⌝ }
 {
     let plan = plan_of(head);
     let a = if plan.n0 <= SHORT_BITS {

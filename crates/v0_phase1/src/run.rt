@@ -57,8 +57,8 @@ fn store_short(
 ) -> usize
     requires { ⌜ Short (head .lengths) ⌝ }
     requires { ⌜ Ahead (now src) base (head .q) residuals-ahead × ((width ≤ length (now out)) × ((col + 16 ≤ width) × (width ≤ most-side))) ⌝ }
-    ensures { λ r. ⌜ Ends (now (src .entry)) base head r ⌝ }
-    ensures { λ _. ⌜ now (out .exit) ≡ store-samples 0 width col order (residuals-of (now (src .entry)) base head) (now (out .entry)) ⌝ }
+    ensures ends { λ r. ⌜ Ends (now (src .entry)) base head r ⌝ }
+    ensures samples { λ _. ⌜ now (out .exit) ≡ store-samples 0 width col order (residuals-of (now (src .entry)) base head) (now (out .entry)) ⌝ }
 {
     let plan = plan_of(head);
     let a = four_at(src, base, head.q, plan.n0);
@@ -82,8 +82,8 @@ fn short_blocks(
     dirs: &mut [u8],
 ) -> Point
     requires { ⌜ Ahead (now src) base (start .q) block-ahead × RunLent width (start .k) (start .lengths) (now out) (now dirs) ⌝ }
-    ensures { λ r. ⌜ RanAt (now (src .entry)) base width start (now (out .entry)) (now (dirs .entry)) r (now (out .exit)) (now (dirs .exit)) ⌝ }
-    ensures { λ r. ⌜ ((f : ℕ) → r .k ≡ start .k + run-length (now (src .entry)) (base * 8 + last-start (length (now (src .entry)) - base)) (width / 16 - start .k) (row-at (now (src .entry)) base f start)) ⌝ }
+    ensures ran { λ r. ⌜ RanAt (now (src .entry)) base width start (now (out .entry)) (now (dirs .entry)) r (now (out .exit)) (now (dirs .exit)) ⌝ }
+    ensures reaches { λ r. ⌜ ((f : ℕ) → r .k ≡ start .k + run-length (now (src .entry)) (base * 8 + last-start (length (now (src .entry)) - base)) (width / 16 - start .k) (row-at (now (src .entry)) base f start)) ⌝ }
 {
     let last = last_start(src.len() - base);
     let mut k = start.k;
@@ -106,8 +106,8 @@ fn short_blocks(
 // Whether a run begins at a block: after short lengths, so that a row of long blocks costs no more, and where the record stands in the
 // stream.
 fn begins(src: &[u8], row: V0Row) -> bool
-    ensures { λ r. ⌜ r ≡ short (row .lengths) && standing-in (now (src .entry)) (row .bits) 80 ⌝ }
-    ensures { λ r. ⌜ (r ≡ true → Standing (now (src .entry)) (row .bits) 80) ⌝ }
+    ensures answered { λ r. ⌜ r ≡ short (row .lengths) && standing-in (now (src .entry)) (row .bits) 80 ⌝ }
+    ensures stands { λ r. ⌜ (r ≡ true → Standing (now (src .entry)) (row .bits) 80) ⌝ }
 {
     let bits = row.bits;
     let before = row.lengths;
@@ -127,8 +127,8 @@ pub fn parse_run(
     dirs: &mut [u8],
 ) -> Run
     requires { ⌜ RunLent width k (row .lengths) (now out) (now dirs) ⌝ }
-    ensures { λ r. ⌜ Ran (now (src .entry)) width k row (now (out .entry)) (now (dirs .entry)) (r .k) (r .row) (now (out .exit)) (now (dirs .exit)) ⌝ }
-    ensures { λ r. ⌜ r .k ≡ k + blocks-of-run (now (src .entry)) (width / 16 - k) row ⌝ }
+    ensures ran { λ r. ⌜ Ran (now (src .entry)) width k row (now (out .entry)) (now (dirs .entry)) (r .k) (r .row) (now (out .exit)) (now (dirs .exit)) ⌝ }
+    ensures reaches { λ r. ⌜ r .k ≡ k + blocks-of-run (now (src .entry)) (width / 16 - k) row ⌝ }
 {
     if !begins(src, row) {
         return Run { k, row };

@@ -54,9 +54,9 @@ fn read_tail(
     samples: &mut [u16; 16],
 ) -> Outcome
     requires { ⌜ (hdr .depth ≤ 16) × (Between 512 4_605 (state .scale) × ((length (now samples) ≡ 16) × (now positions ≡ row-positions row))) ⌝ }
-    ensures { λ r. ⌜ r .block ≡ tail (now (src .entry)) hdr row state lengths bits .outcome ⌝ }
-    ensures { λ r. ⌜ colours (r .remembered) ≡ tail (now (src .entry)) hdr row state lengths bits .mode ⌝ }
-    ensures { λ r. ⌜ now (samples .exit) ≡ written (r .block) (tabulate 16 0 (λ i. sample (top hdr) (state .scale) (getD (tail (now (src .entry)) hdr row state lengths bits .differences) i (pos 0)) (getD (now (base .entry)) i 0))) (now (samples .entry)) ⌝ }
+    ensures outcome { λ r. ⌜ r .block ≡ tail (now (src .entry)) hdr row state lengths bits .outcome ⌝ }
+    ensures remembered { λ r. ⌜ colours (r .remembered) ≡ tail (now (src .entry)) hdr row state lengths bits .mode ⌝ }
+    ensures samples { λ r. ⌜ now (samples .exit) ≡ written (r .block) (tabulate 16 0 (λ i. sample (top hdr) (state .scale) (getD (tail (now (src .entry)) hdr row state lengths bits .differences) i (pos 0)) (getD (now (base .entry)) i 0))) (now (samples .entry)) ⌝ }
 {
     let l = block_lengths(src, hdr, row, lengths, bits);
     let read = l.read;
@@ -92,9 +92,9 @@ pub fn read_block(
     samples: &mut [u16; 16],
 ) -> Outcome
     requires { ⌜ Ready hdr (length (now out)) at state × ((length (now samples) ≡ 16) × (now positions ≡ row-positions (at .row))) ⌝ }
-    ensures { λ r. ⌜ r .block ≡ read-block (now (src .entry)) hdr (at .width) (at .row) (at .col) bits state lengths .outcome ⌝ }
-    ensures { λ r. ⌜ colours (r .remembered) ≡ read-block (now (src .entry)) hdr (at .width) (at .row) (at .col) bits state lengths .mode ⌝ }
-    ensures { λ r. ⌜ now (samples .exit) ≡ written (r .block) (block-cells (sample-kind (top hdr)) (now (out .entry)) (read-block (now (src .entry)) hdr (at .width) (at .row) (at .col) bits state lengths .block)) (now (samples .entry)) ⌝ }
+    ensures outcome { λ r. ⌜ r .block ≡ read-block (now (src .entry)) hdr (at .width) (at .row) (at .col) bits state lengths .outcome ⌝ }
+    ensures remembered { λ r. ⌜ colours (r .remembered) ≡ read-block (now (src .entry)) hdr (at .width) (at .row) (at .col) bits state lengths .mode ⌝ }
+    ensures samples { λ r. ⌜ now (samples .exit) ≡ written (r .block) (block-cells (sample-kind (top hdr)) (now (out .entry)) (read-block (now (src .entry)) hdr (at .width) (at .row) (at .col) bits state lengths .block)) (now (samples .entry)) ⌝ }
 {
     let c = next_scale(src, hdr, at.col, state.scale, bits);
     let b1 = c.bits;

@@ -18,9 +18,9 @@ use v2_parse::header::read_header;
 // Decodes a frame over the samples of `out`, and its marks over those of `map`, which is as long as `out` or empty.
 pub fn decode_frame(src: &[u8], size: Size, out: &mut [u16], map: &mut [u8]) -> Answer
     requires { ⌜ FrameLent size (now out) (now map) ⌝ }
-    ensures { λ r. ⌜ r ≡ read-frame (now (src .entry)) size .answer ⌝ }
-    ensures { λ r. ⌜ now (out .exit) ≡ decoded (now (src .entry)) size (now (out .entry)) ⌝ }
-    ensures { λ r. ⌜ now (map .exit) ≡ frame v2-marks (now (src .entry)) size (now (map .entry)) ⌝ }
+    ensures answered { λ r. ⌜ r ≡ read-frame (now (src .entry)) size .answer ⌝ }
+    ensures samples { λ r. ⌜ now (out .exit) ≡ decoded (now (src .entry)) size (now (out .entry)) ⌝ }
+    ensures marks { λ r. ⌜ now (map .exit) ≡ frame v2-marks (now (src .entry)) size (now (map .entry)) ⌝ }
 {
     let width = size.width;
     let height = size.height;
