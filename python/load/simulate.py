@@ -165,7 +165,7 @@ def _uploads(env: Any, rnd: random.Random, plan: Site, job: Any) -> Process:
 def workers_for(
     frames_a_day: float, service: list[float], most_s: float = 5.0
 ) -> tuple[int, float]:
-    """The least number of workers that hold a 99th percentile, and what it is then. Two at least, and beyond one host's a spare
+    """A number of workers that holds a 99th percentile, and what it is then: the first that the search meets. Two at least, and beyond one host's a spare
     host's; of many it is told to one of twenty."""
     needed = int(Site(frames_a_day, 1, service).rate * sum(service) / len(service))
     workers = max(2, needed if needed < HOST_CORES else needed + HOST_CORES)

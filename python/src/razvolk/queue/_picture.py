@@ -1,7 +1,7 @@
 """A picture for people: a square of four samples is a pixel, in colour where the file tells its filter, and what is marked is flat.
 
 What is of another picture is red, what is missing is blue, both is violet, whatever the buffer held: a picture of a frame that is
-held back shows nobody's else sitting.
+held back never shows another sitting.
 """
 
 from __future__ import annotations
