@@ -19,7 +19,7 @@ use rules::Size;
 use rules::V0Head;
 use rules::V0Row;
 use v0_direct::V0Place;
-use v0_direct::row::is_inner;
+use v0_direct::is_inner;
 use v0_direct::sample::decode_samples;
 use v0_parse::block::read_block;
 use v0_parse::block::read_block_head;

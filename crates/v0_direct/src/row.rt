@@ -12,8 +12,8 @@ ghost use Rattle.v0_cells.specs.Places.{InFrame, Inner};
 ghost use Rattle.v0_lanes.specs.Blocks.{Tables};
 ghost use Rattle.v0_direct.specs.FrameLent.{InRow, BlockLent, RunLent};
 ghost use Rattle.v0_direct.specs.Block.{Decoded, BlockRun};
-ghost use Rattle.v0_direct.specs.Run.{inner};
 use super::V0Place;
+use super::is_inner;
 use super::run::Run;
 use super::run::decode_run;
 use super::sample::decode_samples;
@@ -37,20 +37,6 @@ use v0_parse_window::four_at;
 use v0_parse_window::four_long_at;
 use v0_parse_window::plan_of;
 use v0_parse_window::window_head;
-
-// Whether a block is an inner one: from row 2 on, after column 0 and inside its row.
-pub fn is_inner(size: Size, row: usize, col: usize) -> bool
-    requires { ⌜ InFrame size row col ⌝ }
-    ensures { λ r. ⌜ r ≡ inner size row col ⌝ }
-{
-    if row < 2 {
-        return false;
-    }
-    if col == 0 {
-        return false;
-    }
-    col + V0Row::BLOCK <= size.width
-}
 
 // The residuals after a head that was read by position: the bit after them. Each group is put as it is read, so that few registers hold
 // a block; the four ways stand written out, since the compiler calls a function that would join them.

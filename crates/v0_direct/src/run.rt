@@ -22,7 +22,7 @@ ghost use Rattle.v0_direct.specs.FrameLent.{RunLent};
 ghost use Rattle.v0_direct.specs.Block.{Ran};
 ghost use Rattle.v0_direct.specs.Run.{run-begins, run-end, row-at, RanAt, finished, finished-marks};
 use super::V0Place;
-use super::row::is_inner;
+use super::is_inner;
 use read_window::BACK_BITS;
 use read_window::BACK_BYTES;
 use read_window::stands_within;

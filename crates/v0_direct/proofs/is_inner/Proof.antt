@@ -1,8 +1,8 @@
 -- The three tests are what an inner block is.
 use borrow.Author.Needs.{needs}
 use Rattle.v0_direct.proofs.InnerLaws.{inner-early, inner-first, inner-within}
-use Rattle.v0_direct.proofs.row.is_inner.Statement.{statement}
-use Rattle.v0_direct.proofs.row.is_inner.Tie as tie
+use Rattle.v0_direct.proofs.is_inner.Statement.{statement}
+use Rattle.v0_direct.proofs.is_inner.Tie as tie
 
 returns : tie.Need-returns
 returns c = inner-early _ _ _ (c .if1 .taken)
