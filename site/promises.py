@@ -20,7 +20,7 @@ from rattle import Function
 from rule_pages import mark
 
 FIELD = re.compile(r"((?:^  --.*\n)*)^  pub (p(\d+)-\S+) : (.*)$", re.M)
-LINE = re.compile(r"^(\d+)\. \*\*(.+?)\.\*\* ", re.M)
+LINE = re.compile(r"^- \*\*P(\d+) (.+?)\.\*\* ", re.M)
 
 
 @dataclass(frozen=True)
@@ -51,7 +51,7 @@ class Promises:
 
     @cached_property
     def document(self) -> str:
-        """The document with a numbered list of as many lines as the record has fields."""
+        """The document with a list of promises that has as many lines as the record has fields."""
         count = len(FIELD.findall(self.record.body))
         paths = self.code.repository.paths("*.md") + self.code.repository.paths("docs/*.md")
         return next(path for path in paths if len(LINE.findall(self.code.repository.text(path))) == count)
@@ -80,7 +80,7 @@ class Promises:
         )
         parts = ["# Promises", opening]
         for one in self.all():
-            parts.append(f"## {one.number}. {one.title}")
+            parts.append(f"## P{one.number} {one.title}")
             parts.append(with_links(one.text, self.document, "promises.html", self.addresses))
             parts.append(mark("promise", [str(one.number)]))
         return "\n\n".join(parts) + "\n"
@@ -111,7 +111,7 @@ class Promises:
         for path in self.code.repository.paths("docs/*.md"):
             for table in tables(self.code.repository.text(path)):
                 if table.head[0] == "Promise":
-                    row = next((row for row in table.rows if row[0].split()[0] == str(number)), None)
+                    row = next((row for row in table.rows if row[0].split()[0] == f"P{number}"), None)
                     if row is not None:
                         cells = [f"{head}: {cell}" for head, cell in zip(table.head[1:], row[1:])]
                         return self.panels.part(

@@ -10,6 +10,7 @@ from names import Key
 
 DOCUMENT = "docs/RULES.md"
 CITATION = re.compile(r"`([A-Z][A-Za-z0-9]*)\.([^\s.`]+)`")
+SEVERAL = re.compile(r"`([A-Z][A-Za-z0-9]*)\.\{([^}`]+)\}`")
 ENDINGS = ("md", "rs", "rt", "antt", "txt", "toml", "h", "c")
 CRATE = re.compile(r"`(?:crates/)?([a-z][a-z0-9_]*)[`/]")
 
@@ -32,6 +33,15 @@ class Section:
         return re.sub(r"[^a-z0-9]+", "-", self.title.lower()).strip("-")
 
 
+def one_by_one(text: str) -> str:
+    """A text in which `File.{one,other}` is written `File.one`, `File.other`, so that each can be opened."""
+
+    def each(found: re.Match[str]) -> str:
+        return ", ".join(f"`{found[1]}.{name.strip()}`" for name in found[2].split(","))
+
+    return SEVERAL.sub(each, text)
+
+
 def sections(text: str) -> tuple[str, list[Section]]:
     """What stands before the first section, and the sections."""
     parts = re.split(r"^## (.*)$", text, flags=re.M)
@@ -48,7 +58,7 @@ class Rules:
 
     def __init__(self, code: Code) -> None:
         self.code = code
-        self.text = code.repository.text(DOCUMENT)
+        self.text = one_by_one(code.repository.text(DOCUMENT))
         self.opening, self.sections = sections(self.text)
         self.named = [name for name in CRATE.findall(self.opening) if name in code.repository.crates]
         self.home: dict[Key, Section] = {}

@@ -48,10 +48,10 @@ class Answer(ctypes.Structure):
 
 
 def small_frame(repository: Repository) -> Frame:
-    """The frame that the README shows byte by byte: a mark, a version, the size, an offset for each row, the stream."""
-    found = re.search(r"^ +\$ xxd (\S+)$", repository.text("README.md"), re.M)
+    """The frame that the README has a program decode: a mark, a version, the size, an offset for each row, the stream."""
+    found = re.search(r"^ +\$ \S+ < (\S+)", repository.text("README.md"), re.M)
     if found is None:
-        raise SystemExit("README.md shows no frame's bytes")
+        raise SystemExit("README.md has no program decode a frame")
     data = (repository.top / found[1]).read_bytes()
     width, height = struct.unpack_from("<HH", data, 5)
     offsets = list(struct.unpack_from(f"<{height}I", data, 9))
