@@ -8,7 +8,7 @@ use rules::Answer;
 // The answer; how many samples were set, and how many runs they make; and the stream's length in bytes, which is 0 unless the call
 // is done.
 #[repr(C)]
-#[derive(Drop)]
+#[derive(Clone, Copy)]
 pub struct Exported {
     pub answer: Answer,
     pub count: u64,

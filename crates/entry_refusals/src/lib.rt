@@ -1,4 +1,5 @@
 // Refusals 1 to 4, tested before anything is written.
+#![tactic(auto)]
 ghost use Rattle.std.specs.Prelude.{◌≡◌, false, ◌≤◌};
 ghost use Rattle.rules.specs.Limits.{most_side};
 ghost use Rattle.rules.specs.Answer.{refused, v2, too_large, too_small, scratch_bytes};
@@ -8,7 +9,7 @@ ghost use Rattle.entry_refusals.specs.declared.Lending.TheVariants.{Nothing, Len
 use rules::{Answer, Size, V0Row, V2Hdr};
 
 // What is lent of a buffer that some calls do without: nothing, or so many elements.
-#[derive(Drop)]
+#[derive(Clone, Copy)]
 pub enum Lending {
     Nothing,
     Length(usize),

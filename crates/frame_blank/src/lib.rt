@@ -1,5 +1,6 @@
 // Blanking: what a map says of a frame's samples, every marked sample set to a fill, and the runs that they make. `specs/` has the
 // rule.
+#![tactic(auto)]
 ghost use Rattle.std.specs.Prelude.{◌≡◌, [], ◌∷◌, ◌+◌, ◌*◌, ◌≤◌, ◌<◌, ltb, length, drop};
 ghost use Rattle.std.proofs.lemmas.List.Edits.{sets};
 ghost use Rattle.rules.specs.Limits.{most_side};
@@ -12,7 +13,7 @@ use rules::{Answer, Size};
 
 // The answer, how many samples were set, and how many runs they make; both are 0 unless samples were set.
 #[repr(C)]
-#[derive(Drop)]
+#[derive(Clone, Copy)]
 pub struct Blanked {
     pub answer: Answer,
     pub count: u64,
@@ -48,7 +49,7 @@ impl Blanked {
 }
 
 // How many samples are marked, and how many runs they make.
-#[derive(Drop)]
+#[derive(Clone, Copy)]
 pub struct Tally {
     pub marked: usize,
     pub runs: usize,
@@ -120,14 +121,14 @@ pub fn tally_frame(map: &[u8], size: Size) -> Tally
 }
 
 // What marked samples are set to: a stated value, or none is stated.
-#[derive(Drop)]
+#[derive(Clone, Copy)]
 pub enum Filling {
     Stated(u16),
     Unstated,
 }
 
 // What a run's samples are set to by turns: the first of them, and the second.
-#[derive(Drop)]
+#[derive(Clone, Copy)]
 pub struct Turns {
     pub first: u16,
     pub second: u16,

@@ -1,5 +1,6 @@
 // The job of `samrows` as a function on slices, by docs/RULES.md, "The job program". Its text is written into a lent array that has
 // room for every text.
+#![tactic(auto)]
 mod input;
 mod lines;
 

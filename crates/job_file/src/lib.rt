@@ -1,6 +1,7 @@
 // The job on an open file, as `samrows` does it with its standard input and `samrows_cases` with each of its files: the input is
 // read and its text made, which the program then writes. No contract can say which bytes C's `read` and `write` move; that what
 // lies between them is the job's text of some input is `read_job`'s.
+#![tactic(auto)]
 ghost use Rattle.std.specs.Prelude.{◌≡◌, true, ◌≤◌};
 ghost use Rattle.rules.specs.Job.{most_input};
 ghost use Rattle.job.specs.Written.{Holds};

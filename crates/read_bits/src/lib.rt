@@ -8,6 +8,7 @@
 //   filler   how many words were missing so far, held at the greatest count
 //
 // A word is missing where fewer than 4 bytes of the stream remain. It is read as ones, the filler.
+#![tactic(auto)]
 ghost use Rattle.std.specs.Prelude.{◌≡◌, ◌+◌, ◌*◌, ◌%◌, ◌<◌, ◌≤◌, min, true};
 ghost use Rattle.rules.specs.Reader.{most_filler, fetched, counted, held, reset_at, read, read_signed, read_residual};
 ghost use Rattle.read_bits.specs.Refilled.{joined_with, Enough, Whole};
@@ -88,7 +89,7 @@ fn held_bits(bits: Bits) -> u32
 }
 
 // A state with enough bits for a read, and its bits: the low `bits.count` of `words`.
-#[derive(Drop)]
+#[derive(Clone, Copy)]
 struct Refilled {
     words: u64,
     bits: Bits,

@@ -1,6 +1,7 @@
 // Replays the recorded calls (rust/compare/src/record.rs) on the entries of `samsung` that take no map and on the writer, and tells
 // how many differ. Past the end of the file every number reads as the reader's filler, what is larger than the buffers is cut to
 // them, and a call for which the file has no bytes counts as one that differs: so a broken record shows as calls that differ.
+#![tactic(auto)]
 mod call;
 mod samples;
 

@@ -152,6 +152,7 @@ module _ (s offsets : List ℕ) (z : Size) where
   frame_old direct is_direct f e b i m = (position_below s offsets z i m, marked_value s offsets z f e b i m)
   frame_old two_phase is_two_phase f e b i m =
       rw (two_phase_direct s offsets z f e) (position_below s offsets z i m, marked_value s offsets z f e b i m)
+  frame_old v2 x f e b i m = elim x [ ]
 
 -- ── A call that ran ──
 

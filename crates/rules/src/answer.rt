@@ -4,7 +4,7 @@ ghost use Rattle.rules.specs.Answer.{done_with, done};
 
 // A number, a row, and how many words were missing. Number 0 is done, the others are refusals.
 #[repr(C)]
-#[derive(Drop)]
+#[derive(Clone, Copy)]
 pub struct Answer {
     pub number: u32,
     pub row: u32,
@@ -94,7 +94,7 @@ impl Answer {
 }
 
 // The frame's size in samples.
-#[derive(Drop)]
+#[derive(Clone, Copy)]
 pub struct Size {
     pub width: usize,
     pub height: usize,

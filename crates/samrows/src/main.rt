@@ -1,4 +1,5 @@
 // `samrows`: reads a job from standard input, and writes its text to standard output (docs/RULES.md, "The job program").
+#![tactic(auto)]
 use libc::{STDIN_FILENO, STDOUT_FILENO};
 
 fn main() {

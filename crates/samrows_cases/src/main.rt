@@ -1,4 +1,5 @@
 // Runs each file that the arguments name as `samrows` runs its standard input, and writes the texts one after another.
+#![tactic(auto)]
 use libc::STDOUT_FILENO;
 
 fn main() {

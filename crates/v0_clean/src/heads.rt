@@ -22,7 +22,7 @@ use v0_lanes::lengths::{PackedHead, all_fit, ends_of, lengths_after, packed, unp
 use v0_parse_window::{BLOCK_BYTES, are_short, last_start};
 
 // Where four rows are.
-#[derive(Drop)]
+#[derive(Clone, Copy)]
 pub struct Rows {
     pub a: Run,
     pub b: Run,
@@ -31,7 +31,7 @@ pub struct Rows {
 }
 
 // A row by position, where no word was missing.
-#[derive(Drop)]
+#[derive(Clone, Copy)]
 struct Track {
     base: usize,
     q: usize,
@@ -40,7 +40,7 @@ struct Track {
 }
 
 // Four rows by position, all at one column.
-#[derive(Drop)]
+#[derive(Clone, Copy)]
 struct Tracks {
     col: usize,
     a: Track,
@@ -153,7 +153,7 @@ fn rows_of(src: &[u8], t: Tracks) -> Rows
 }
 
 // The heads of the blocks that four rows go on with.
-#[derive(Drop)]
+#[derive(Clone, Copy)]
 struct Heads {
     a: PackedHead,
     b: PackedHead,

@@ -1,6 +1,7 @@
 // The check of clean frames (docs/RULES.md, "Clean frames") over a whole V0 stream, before a sample is written. Blocks are read as
 // the direct decoder reads them, by the same functions, but that an inner block's residuals are passed over where they are there;
 // nothing is written, since the frame that the others would write to has no cells.
+#![tactic(auto)]
 ghost use Rattle.std.specs.Prelude.{◌≡◌, true, ◌&&◌, ltb, ◌+◌, ◌≤◌, ◌<◌, ◌^◌};
 ghost use Rattle.v0_cells.specs.Places.{InFrame};
 ghost use Rattle.v0_parse.specs.Block.{whole_block};
@@ -234,7 +235,7 @@ fn check_four(src: &[u8], offsets: &[u32], size: Size, row: usize, heads: &[u32;
 }
 
 // How many rows were checked, and the verdict on them.
-#[derive(Drop)]
+#[derive(Clone, Copy)]
 struct Part {
     rows: usize,
     told: Answer,

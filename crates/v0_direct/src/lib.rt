@@ -1,4 +1,5 @@
 // The direct V0 decoder from block to frame, by docs/RULES.md, "V0" and "The map".
+#![tactic(auto)]
 ghost use Rattle.std.specs.Prelude.{◌≡◌};
 ghost use Rattle.v0_cells.specs.Places.{InFrame};
 ghost use Rattle.v0_direct.specs.Run.{inner};
@@ -11,7 +12,7 @@ pub mod sample;
 use rules::{Size, V0Row};
 
 // Where a block lies: at a column of a row of a frame.
-#[derive(Drop)]
+#[derive(Clone, Copy)]
 pub struct V0Place {
     pub size: Size,
     pub row: usize,

@@ -29,14 +29,14 @@ use v0_lanes::predictions::predict;
 use v0_parse_window::{BLOCK_BYTES, are_short, last_start};
 
 // Where a run ends: the column after its last block, and the row's state there.
-#[derive(Drop)]
+#[derive(Clone, Copy)]
 pub struct Run {
     pub col: usize,
     pub state: V0Row,
 }
 
 // A point in a row: a block's first column, the bit that it begins at, and the lengths before it.
-#[derive(Drop)]
+#[derive(Clone, Copy)]
 pub struct Point {
     pub col: usize,
     pub q: usize,

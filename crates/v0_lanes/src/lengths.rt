@@ -32,7 +32,7 @@ pub fn unpacked(l: u32) -> [i32; 4]
 }
 
 // A head: its direction, the lengths after it, each 128 more, and how many bits it has.
-#[derive(Drop)]
+#[derive(Clone, Copy)]
 pub struct PackedHead {
     pub up: bool,
     pub sums: u32,
@@ -79,7 +79,7 @@ pub fn lengths_after(sums: u32) -> u32
 }
 
 // Where the four groups after a head end, if the first begins at bit q.
-#[derive(Drop)]
+#[derive(Clone, Copy)]
 pub struct Ends {
     pub first: usize,
     pub second: usize,

@@ -13,7 +13,7 @@ use read_fields::residual_of;
 use rules::{Bits, Predictor, V0Head, V0Row};
 
 // A block's direction, the row's state after it, and its residuals in the order of the stream.
-#[derive(Drop)]
+#[derive(Clone, Copy)]
 pub struct ReadBlock {
     pub up: bool,
     pub row: V0Row,

@@ -1,5 +1,6 @@
 // A block by position, where the reader's record stands in the stream: its head out of one window, and four residuals of one length
 // out of one or two. Nothing here is read twice, and no branch asks whether a word is to be fetched.
+#![tactic(auto)]
 ghost use Rattle.std.specs.Prelude.{◌≡◌, ◌+◌, ◌-◌, ◌*◌, ◌/◌, ◌%◌, ◌^◌, ◌<◌, ◌≤◌, length, if◌then◌else◌, nat_eq};
 ghost use Rattle.std.specs.Int.Signed.{mag};
 ghost use Rattle.v0_parse_window.specs.ByWindow.{residual, Room, length_in, HeadAt, last_start, Plans, short_length, short, Group};
@@ -27,14 +28,14 @@ pub fn last_start(bytes: usize) -> usize
 }
 
 // A length after its operation, and how many bits of a window are left after what the operation read.
-#[derive(Drop)]
+#[derive(Clone, Copy)]
 struct WindowLength {
     length: i32,
     left: u32,
 }
 
 // A block's head, and the bit after it, where its residuals begin.
-#[derive(Drop)]
+#[derive(Clone, Copy)]
 pub struct WindowHead {
     pub up: bool,
     pub lengths: [i32; 4],
@@ -82,7 +83,7 @@ pub fn window_head(src: &[u8], base: usize, q: usize, lengths: [i32; 4]) -> Wind
 
 // How the residuals after a head lie: the bits of each group's, the bit that each group after the first begins at, and the bit after
 // the last.
-#[derive(Drop)]
+#[derive(Clone, Copy)]
 pub struct Plan {
     pub n0: u32,
     pub n1: u32,

@@ -24,7 +24,7 @@ use v0_parse_window::{
 };
 
 // A point in a row: a block's number, the bit that it begins at, and the lengths before it.
-#[derive(Drop)]
+#[derive(Clone, Copy)]
 pub struct Point {
     pub k: usize,
     pub q: usize,
@@ -32,7 +32,7 @@ pub struct Point {
 }
 
 // The block that comes next in a row, and the row's state before it.
-#[derive(Drop)]
+#[derive(Clone, Copy)]
 pub struct Run {
     pub k: usize,
     pub row: V0Row,

@@ -9,7 +9,7 @@ use super::V2Place;
 use rules::{Answer, V2Hdr, V2Row};
 
 // Where samples 0 and 1 of a block refer to, and whether each base is the average of two samples.
-#[derive(Drop)]
+#[derive(Clone, Copy)]
 pub struct References {
     pub even: usize,
     pub odd: usize,

@@ -1,4 +1,5 @@
 // What a V2 block does with a frame's cells: the base that it predicts from, its samples and its marks.
+#![tactic(auto)]
 ghost use Rattle.std.specs.Prelude.{◌≡◌, ◌+◌, ◌*◌};
 ghost use Rattle.v2_cells.specs.Places.{Placed};
 
@@ -7,7 +8,7 @@ pub mod marks;
 pub mod samples;
 
 // Where a block stands: its row and first column, in a frame of `width` samples to a row.
-#[derive(Drop)]
+#[derive(Clone, Copy)]
 pub struct V2Place {
     pub width: usize,
     pub row: usize,

@@ -1,4 +1,5 @@
 // What V2 reads of a block last: its differences, out of windows where the reader's record stands in the stream, else two by two.
+#![tactic(auto)]
 ghost use Rattle.std.specs.Prelude.{◌≡◌, ℕ, ◌+◌, ◌<◌, slice_index};
 ghost use Rattle.rules.specs.V2.{differences_from};
 ghost use Rattle.read_window.specs.Window.{Standing};
@@ -45,7 +46,7 @@ fn entry(positions: &[u8; 16], k: usize) -> usize
 }
 
 // Two differences, and the reader's state after them.
-#[derive(Drop)]
+#[derive(Clone, Copy)]
 struct Pair {
     first: i32,
     second: i32,

@@ -18,7 +18,7 @@ use v2_parse::motion::next_motion;
 use v2_parse::scale::next_scale;
 
 // What a block gives: its outcome, and the remembered lengths beside it.
-#[derive(Drop)]
+#[derive(Clone, Copy)]
 pub struct Outcome {
     pub block: V2Block,
     pub remembered: Remembered,

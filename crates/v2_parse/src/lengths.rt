@@ -44,7 +44,7 @@ fn next_length(src: &[u8], flag: u32, first: u32, bits: Bits) -> Got
 }
 
 // The remembered lengths of the three colours, for a result that has more beside them: a struct holds no array of arrays.
-#[derive(Drop)]
+#[derive(Clone, Copy)]
 pub struct Remembered {
     pub first: [u32; 2],
     pub second: [u32; 2],
@@ -78,7 +78,7 @@ impl Remembered {
 }
 
 // The lengths of one block, and what is remembered after them.
-#[derive(Drop)]
+#[derive(Clone, Copy)]
 pub struct BlockLengths {
     pub read: V2Lengths,
     pub remembered: Remembered,

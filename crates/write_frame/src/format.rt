@@ -6,7 +6,7 @@ use super::differences::differences_of;
 use super::residuals::residuals_of;
 use rules::V2Hdr;
 
-#[derive(Drop)]
+#[derive(Clone, Copy)]
 pub enum Format {
     V0,
     V2,

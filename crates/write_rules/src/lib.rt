@@ -1,4 +1,5 @@
 // What the writers are written with, and what they answer. `specs/` says which bytes a frame becomes.
+#![tactic(auto)]
 ghost use Rattle.std.specs.Prelude.{◌≡◌, max};
 ghost use Rattle.write_rules.specs.Pending.{nothing};
 ghost use Rattle.write_rules.specs.Calls.{refused, written, too_bright};
@@ -7,7 +8,7 @@ use rules::Answer;
 
 // Bits that wait for their word: the low `count` bits of `word`, fewer than 32. `pos` is the byte position where the word will
 // stand.
-#[derive(Drop)]
+#[derive(Clone, Copy)]
 pub struct Pending {
     pub pos: usize,
     pub word: u32,
@@ -29,7 +30,7 @@ impl Pending {
 
 // A writer's answer, and the stream's length in bytes, which is 0 unless the call is done.
 #[repr(C)]
-#[derive(Drop)]
+#[derive(Clone, Copy)]
 pub struct Written {
     pub answer: Answer,
     pub length: u64,
