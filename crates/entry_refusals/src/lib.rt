@@ -1,5 +1,6 @@
 // Refusals 1 to 4, tested before anything is written.
 #![tactic(auto)]
+
 ghost use Rattle.std.specs.Prelude.{◌≡◌, false, ◌≤◌};
 ghost use Rattle.rules.specs.Limits.{most_side};
 ghost use Rattle.rules.specs.Answer.{refused, v2, too_large, too_small, scratch_bytes};

@@ -1,6 +1,7 @@
 // What a map's bytes become, of V0 and V2 alike (docs/RULES.md, "The map"): all old at entry, filler at a block's end, and the
 // parts of two in an average. And the greatest byte, by which maps are tested.
 #![tactic(auto)]
+
 ghost use Rattle.std.specs.Prelude.{◌≡◌, ◌+◌, ◌^◌, ◌≤◌, ◌<◌, max, length, replicate};
 ghost use Rattle.rules.specs.Frame.{change_cells};
 ghost use Rattle.rules.specs.Map.{with_filler, either_part};

@@ -1,6 +1,7 @@
 // Colour planes: a frame's samples rearranged so that equal colours lie together, and the way back. Every sample is read once and
 // written once.
 #![tactic(auto)]
+
 ghost use Rattle.std.specs.Prelude.{◌≡◌, [], ◌+◌, ◌-◌, ◌*◌, ◌/◌, ◌≤◌, length, get_or, drop};
 ghost use Rattle.frame_planes.specs.Planes.{evens, rows_of, by_columns, to_planes, even_count, odd_count, weave, rows_back, from_planes};
 ghost use Rattle.frame_planes.specs.PlanesLent.{PlanesLent, RowOfHalf, row_put, row_taken, HalfLent, RowLent};

@@ -1,6 +1,7 @@
 // Numbers cut out of words, and two's complement: what `read_bits` reads with, and what cuts a read of several fields. Not interface:
 // each caller shows that its widths fit.
 #![tactic(auto)]
+
 ghost use Rattle.std.specs.Prelude.{◌≡◌, ◌*◌, ◌/◌, ◌%◌, ◌^◌, ◌≤◌, ◌<◌};
 ghost use Rattle.rules.specs.Reader.{signed, modulo};
 

@@ -1,5 +1,6 @@
 // The list of steps by which phase two of a V0 frame is done, in bands of rows and blocks of columns: whether it is good.
 #![tactic(auto)]
+
 ghost use Rattle.std.specs.Prelude.{◌≡◌, true, ◌&&◌, ◌||◌, ◌-◌, ◌≤◌, ◌<◌, ltb, eqb, get_or};
 ghost use Rattle.rules.specs.Limits.{most_side};
 ghost use Rattle.rules_bands.specs.Call.{list_refusal};

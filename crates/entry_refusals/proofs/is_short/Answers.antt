@@ -1,0 +1,7 @@
+-- `is_short` meets its contract, case by case.
+use Rattle.entry_refusals.specs.Lending.{short}
+use Rattle.entry_refusals.proofs.is_short.Goals as goal
+
+pub returns-in-Length : goal.returns-in-Length
+unfolding short
+returns-in-Length c = rw c.lent-1.given.1

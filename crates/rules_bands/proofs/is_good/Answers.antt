@@ -1,0 +1,66 @@
+use Prim.Native.Nat.{◌-◌}
+use mathlib.Core.Path.{sym, ◌∙◌}
+use native.Mathlib.Omega.{arith}
+use Rattle.rules_bands.proofs.CheckLaws.{some_column, count_most, some_blocks_left, band_most, block_most, wrong_length, at_first, at_end, outside, not_ready, ready_then}
+use Rattle.rules_bands.proofs.is_good.Goals as goal
+
+pub blocks_in_band-blocks-requires : goal.blocks_in_band-blocks-requires
+blocks_in_band-blocks-requires c = some_column _ _ _ _ c.requires.0 c.requires.1
+
+pub overflow_mul-count : goal.overflow_mul-count
+overflow_mul-count c = omega (arith, count_most _ _ _ _ c.requires.0 c.requires.1 _ c.blocks_in_band-blocks.ensures)
+
+pub returns-then-steps-count : goal.returns-then-steps-count
+returns-then-steps-count c = wrong_length _ _ _ _ c.requires.0 c.requires.1 _ c.blocks_in_band-blocks.ensures _ (λ e. omega arith)
+
+pub loop-i-init : goal.loop-i-init
+loop-i-init c = (omega arith, at_first _ _ _ _ c.requires.0 c.requires.1 _ c.blocks_in_band-blocks.ensures _)
+
+pub offset_bounds-steps-i : goal.offset_bounds-steps-i
+offset_bounds-steps-i c = omega arith
+
+pub bounds-steps-i : goal.bounds-steps-i
+bounds-steps-i c = omega arith
+
+pub overflow_cast-n : goal.overflow_cast-n
+overflow_cast-n c = omega (arith, c.shared_slice_known-in-loop-i-1.given c.loop-i.i)
+
+pub returns-then-count-n : goal.returns-then-count-n
+returns-then-count-n c = outside _ _ _ _ c.requires.0 c.requires.1 _ c.blocks_in_band-blocks.ensures _ (omega (arith, c.if-steps-count.false)) _ _ c.loop-i.invariant.1 c.loop-i-test.true c.if-count-n.true
+
+pub nonzero_div-band : goal.nonzero_div-band
+nonzero_div-band c = some_blocks_left _ _ _ _ c.requires.0 c.requires.1 _ c.blocks_in_band-blocks.ensures _ c.if-count-n.false
+
+pub nonzero_rem-block : goal.nonzero_rem-block
+nonzero_rem-block c = some_blocks_left _ _ _ _ c.requires.0 c.requires.1 _ c.blocks_in_band-blocks.ensures _ c.if-count-n.false
+
+pub overflow_cast-block : goal.overflow_cast-block
+overflow_cast-block c = omega (arith, block_most _ _ _ _ c.requires.0 c.requires.1 _ c.blocks_in_band-blocks.ensures _ c.if-count-n.false)
+
+pub is_next-requires : goal.is_next-requires
+is_next-requires c = band_most _ _ _ _ c.requires.0 c.requires.1 _ c.blocks_in_band-blocks.ensures _ c.if-count-n.false
+
+pub returns-then-not-is_next : goal.returns-then-not-is_next
+returns-then-not-is_next c = not_ready _ _ _ _ c.requires.0 c.requires.1 _ c.blocks_in_band-blocks.ensures _ (omega (arith, c.if-steps-count.false)) _ _ c.loop-i.invariant.1 c.loop-i-test.true c.if-count-n.false (sym c.is_next.ensures ∙ c.if-not-is_next.true)
+
+pub overflow_add-done : goal.overflow_add-done
+overflow_add-done c = omega (arith, block_most _ _ _ _ c.requires.0 c.requires.1 _ c.blocks_in_band-blocks.ensures _ c.if-count-n.false)
+
+pub offset_bounds-done-band : goal.offset_bounds-done-band
+offset_bounds-done-band c = omega (arith, band_most _ _ _ _ c.requires.0 c.requires.1 _ c.blocks_in_band-blocks.ensures _ c.if-count-n.false)
+
+pub bounds-done-band : goal.bounds-done-band
+bounds-done-band c = band_most _ _ _ _ c.requires.0 c.requires.1 _ c.blocks_in_band-blocks.ensures _ c.if-count-n.false
+
+pub overflow_add-i : goal.overflow_add-i
+overflow_add-i c = omega arith
+
+pub loop-i-smaller : goal.loop-i-smaller
+loop-i-smaller c = omega arith
+
+pub loop-i-preserved : goal.loop-i-preserved
+loop-i-preserved c =
+    (omega arith, ready_then _ _ _ _ c.requires.0 c.requires.1 _ c.blocks_in_band-blocks.ensures _ (omega (arith, c.if-steps-count.false)) _ _ c.loop-i.invariant.1 c.loop-i-test.true c.if-count-n.false (sym c.is_next.ensures ∙ c.if-not-is_next.false))
+
+pub returns : goal.returns
+returns c = at_end _ _ _ _ c.requires.0 c.requires.1 _ c.blocks_in_band-blocks.ensures _ (omega (arith, c.if-steps-count.false)) _ _ c.loop-i-test.false c.loop-i.invariant.1
