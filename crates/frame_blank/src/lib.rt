@@ -1,6 +1,7 @@
 // Blanking: what a map says of a frame's samples, every marked sample set to a fill, and the runs that they make. `specs/` has the
 // rule.
 #![tactic(auto)]
+
 ghost use Rattle.std.specs.Prelude.{◌≡◌, [], ◌∷◌, ◌+◌, ◌*◌, ◌≤◌, ◌<◌, ltb, length, drop};
 ghost use Rattle.std.proofs.lemmas.List.Edits.{sets};
 ghost use Rattle.rules.specs.Limits.{most_side};

@@ -9,6 +9,7 @@
 //
 // A word is missing where fewer than 4 bytes of the stream remain. It is read as ones, the filler.
 #![tactic(auto)]
+
 ghost use Rattle.std.specs.Prelude.{◌≡◌, ◌+◌, ◌*◌, ◌%◌, ◌<◌, ◌≤◌, min, true};
 ghost use Rattle.rules.specs.Reader.{most_filler, fetched, counted, held, reset_at, read, read_signed, read_residual};
 ghost use Rattle.read_bits.specs.Refilled.{joined_with, Enough, Whole};

@@ -10,6 +10,7 @@
 // A caller asks first whether the record stands in the stream (`stands_within`), reads by position, and makes the record again at
 // the bit after what it read (`state_at`).
 #![tactic(auto)]
+
 ghost use Rattle.std.specs.Prelude.{true, ◌≡◌, ◌+◌, ◌*◌, ◌/◌, ◌≤◌, ◌<◌, ◌^◌, length};
 ghost use Rattle.rules.specs.Reader.{word_at};
 ghost use Rattle.read_window.specs.Window.{state_at, Window, stands_in, Standing, standing_in};

@@ -1,5 +1,6 @@
 // What the writers are written with, and what they answer. `specs/` says which bytes a frame becomes.
 #![tactic(auto)]
+
 ghost use Rattle.std.specs.Prelude.{◌≡◌, max};
 ghost use Rattle.write_rules.specs.Pending.{nothing};
 ghost use Rattle.write_rules.specs.Calls.{refused, written, too_bright};

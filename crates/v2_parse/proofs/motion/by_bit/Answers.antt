@@ -1,0 +1,9 @@
+-- The test is the rule's.
+use Rattle.std.proofs.Common.{eq-eqb, ne_eqb}
+use Rattle.v2_parse.proofs.motion.by_bit.Goals as goal
+
+pub returns-then-bit-eq1 : goal.returns-then-bit-eq1
+returns-then-bit-eq1 c = simp (eq-eqb _ _ c.if-bit-eq1.true)
+
+pub returns-else-bit-eq1 : goal.returns-else-bit-eq1
+returns-else-bit-eq1 c = simp (ne_eqb _ _ c.if-bit-eq1.false)

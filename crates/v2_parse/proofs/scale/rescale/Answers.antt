@@ -1,0 +1,20 @@
+-- The code is 3, or an index below 3 of the steps.
+use Rattle.std.proofs.Common.{arith, w32, ne_eqb}
+use mir.ValLaws.{to_z-of_z}
+use Rattle.v2_parse.proofs.HeaderLaws.{got_below, step_fits, rescaled_set, rescaled_step}
+use Rattle.v2_parse.proofs.scale.rescale.Goals as goal
+
+pub signed-requires : goal.signed-requires
+signed-requires c = omega (arith, got_below _ _ _ _ c.get-v.ensures)
+
+pub returns-then-code-eq3 : goal.returns-then-code-eq3
+returns-then-code-eq3 c = rw (to_z-of_z w32 c.signed.result (record { sfits = c.signed.type_inv })) (rescaled_set _ _ _ _ c.get-code.ensures _ _ c.if-code-eq3.true c.get-v.ensures c.signed.ensures)
+
+pub stepped-requires : goal.stepped-requires
+stepped-requires c =
+    (omega (arith, got_below _ _ _ _ c.get-code.ensures), rw (to_z-of_z w32 c.args.scale c.ranges.scale) (step_fits c.args.scale c.get-code.result.value c.requires))
+
+pub returns : goal.returns
+returns c =
+    rw (to_z-of_z w32 c.stepped.result (record { sfits = c.stepped.type_inv }))
+    (rescaled_step _ _ _ _ c.get-code.ensures _ (ne_eqb _ _ c.if-code-eq3.false) (rw (to_z-of_z w32 c.args.scale c.fits.scale) at c.stepped.ensures))
