@@ -6,41 +6,44 @@ mod call;
 mod samples;
 
 use call::{differs, end_at, word};
+use std::env;
+use std::fs;
+use std::io;
 
 const INPUT: usize = 140_000;
 
 // The fewest bytes of a call: its ten numbers.
 const CALL: usize = 40;
 
-fn main() {
-    let mut path = io::buffer();
-    let k = os::arg(1, &mut path);
-    let fd = os::open_read(&path[..k]);
-    if fd < 0 {
-        os::fail(&path[..k]);
-        return;
+fn main(rt: HostRuntime) -> io::Result<()> {
+    match env::args(&rt)?.nth(1) {
+        Some(path) => replay_file(&rt, path.as_str()),
+        None => eprintln!(rt; "replay: no file is named"),
     }
-    replay(fd);
-    libc::close(fd);
 }
 
-fn replay(fd: i32) {
-    let mut input = [0u8; INPUT];
-    let n = io::read_full(fd, &mut input);
-    let count = word(&input[..n], 0);
+fn replay_file(rt: &HostRuntime, path: &str) -> io::Result<()> {
+    match fs::read(rt, path) {
+        Ok(record) => replay(rt, &record),
+        Err(error) => eprintln!(rt; "{path}: {error}"),
+    }
+}
+
+// Of a longer record only the first bytes are read.
+fn replay(rt: &HostRuntime, record: &[u8]) -> io::Result<()> {
+    let n = call::least(record.len(), INPUT);
+    let count = word(&record[..n], 0);
     let held = call::least(count, n / CALL);
-    let differ = differing(&input[..n], held);
+    let differ = differing(&record[..n], held);
     tell(
+        rt,
         count as u64,
         std::num::wrapping_add_u64(differ, (count - held) as u64),
-    );
+    )
 }
 
-fn tell(count: u64, differ: u64) {
-    io::print_decimal(1, count);
-    io::write_all(1, b" calls replayed, ");
-    io::print_decimal(1, differ);
-    io::write_all(1, b" differ\n");
+fn tell(rt: &HostRuntime, count: u64, differ: u64) -> io::Result<()> {
+    println!(rt; "{count} calls replayed, {differ} differ")
 }
 
 // How many of the calls differ; they start after the number of calls.

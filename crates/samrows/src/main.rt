@@ -1,9 +1,10 @@
 // `samrows`: reads a job from standard input, and writes its text to standard output (docs/RULES.md, "The job program").
 #![tactic(auto)]
-use libc::{STDIN_FILENO, STDOUT_FILENO};
+use std::io;
+use std::io::Write;
 
-fn main() {
+fn main(rt: HostRuntime) -> io::Result<()> {
     let mut text = [0u8; job::TEXT];
-    let count = job_file::read_job(STDIN_FILENO, &mut text);
-    io::write_all(STDOUT_FILENO, &text[..count]);
+    let count = job_file::read_job(&mut rt.stdin(), &mut text)?;
+    rt.stdout().write_all(&text[..count])
 }

@@ -1,30 +1,29 @@
-// Runs each file that the arguments name as `samrows` runs its standard input, and writes the texts one after another.
+// Runs each file that the arguments name as `samrows` runs its standard input, and writes the texts one after another. A file that
+// can't be opened is told on standard error, and the next one follows.
 #![tactic(auto)]
-use libc::STDOUT_FILENO;
+use std::env;
+use std::fs::File;
+use std::io;
+use std::io::Write;
 
-fn main() {
-    run_all(os::arg_count());
+fn main(rt: HostRuntime) -> io::Result<()> {
+    for path in env::args(&rt)?.skip(1) {
+        run_file(&rt, path.as_str())?;
+    }
+    Ok(())
 }
 
-fn run_all(count: usize) {
-    let mut i = 1;
-    while i < count {
-        run_file(i);
-        i += 1;
+// The job in the file of a name.
+fn run_file(rt: &HostRuntime, path: &str) -> io::Result<()> {
+    match File::open(rt, path) {
+        Ok(file) => write_text(rt, file),
+        Err(error) => eprintln!(rt; "{path}: {error}"),
     }
 }
 
-// The job in the file that argument i names.
-fn run_file(i: usize) {
-    let mut path = io::buffer();
-    let k = os::arg(i, &mut path);
-    let fd = os::open_read(&path[..k]);
-    if fd < 0 {
-        os::fail(&path[..k]);
-        return;
-    }
+// The text of the job in an open file.
+fn write_text(rt: &HostRuntime, mut file: File) -> io::Result<()> {
     let mut text = [0u8; job::TEXT];
-    let count = job_file::read_job(fd, &mut text);
-    io::write_all(STDOUT_FILENO, &text[..count]);
-    libc::close(fd);
+    let count = job_file::read_job(&mut file, &mut text)?;
+    rt.stdout().write_all(&text[..count])
 }
