@@ -1,6 +1,7 @@
 // A block by position, where the reader's record stands in the stream: its head out of one window, and four residuals of one length
 // out of one or two. Nothing here is read twice, and no branch asks whether a word is to be fetched.
 #![tactic(auto)]
+
 ghost use Rattle.std.specs.Prelude.{◌≡◌, ◌+◌, ◌-◌, ◌*◌, ◌/◌, ◌%◌, ◌^◌, ◌<◌, ◌≤◌, length, if◌then◌else◌, nat_eq};
 ghost use Rattle.std.specs.Int.Signed.{mag};
 ghost use Rattle.v0_parse_window.specs.ByWindow.{residual, Room, length_in, HeadAt, last_start, Plans, short_length, short, Group};

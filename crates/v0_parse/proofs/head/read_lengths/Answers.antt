@@ -8,16 +8,16 @@ use Rattle.v0_parse.proofs.HeadLaws.{lengths_made}
 use Rattle.v0_parse.proofs.head.read_lengths.Goals as goal
 
 pub read_length-a-requires : goal.read_length-a-requires
-read_length-a-requires c = (c.requires.0.each 0, rw (to_z-of_z w32 (get_or c.args.lengths 0 (pos 0)) (record { sfits = c.read_length-arg-1.given })) (c.requires.1.each 0))
+read_length-a-requires c = (c.requires.0.each 0, rw (to_z-of_z w32 (get_or c.args.lengths 0 (pos 0)) (search rules)) (c.requires.1.each 0))
 
 pub read_length-b-requires : goal.read_length-b-requires
-read_length-b-requires c = (c.requires.0.each 1, rw (to_z-of_z w32 (get_or c.args.lengths 1 (pos 0)) (record { sfits = c.read_length-arg-2-1.given })) (c.requires.1.each 1))
+read_length-b-requires c = (c.requires.0.each 1, rw (to_z-of_z w32 (get_or c.args.lengths 1 (pos 0)) (search rules)) (c.requires.1.each 1))
 
 pub read_length-c-requires : goal.read_length-c-requires
-read_length-c-requires c = (c.requires.0.each 2, rw (to_z-of_z w32 (get_or c.args.lengths 2 (pos 0)) (record { sfits = c.read_length-arg-3-1.given })) (c.requires.1.each 2))
+read_length-c-requires c = (c.requires.0.each 2, rw (to_z-of_z w32 (get_or c.args.lengths 2 (pos 0)) (search rules)) (c.requires.1.each 2))
 
 pub read_length-d-requires : goal.read_length-d-requires
-read_length-d-requires c = (c.requires.0.each 3, rw (to_z-of_z w32 (get_or c.args.lengths 3 (pos 0)) (record { sfits = c.read_length-arg-4-1.given })) (c.requires.1.each 3))
+read_length-d-requires c = (c.requires.0.each 3, rw (to_z-of_z w32 (get_or c.args.lengths 3 (pos 0)) (search rules)) (c.requires.1.each 3))
 
 pub returns : goal.returns
 returns c =
