@@ -2,12 +2,8 @@
 use Rattle.std.proofs.Common.{refl}
 use Rattle.rules.specs.Frame.{tabulate}
 use Rattle.rules.specs.V2.{position}
-use Rattle.v2_differences.proofs.table.Statement.{statement}
-use Rattle.v2_differences.proofs.table.Tie as tie
+use Rattle.v2_differences.proofs.table.Goals as goal
 
-returns : tie.Need-returns
+pub returns : goal.returns
 unfolding tabulate position
 returns c = refl
-
-pub table-spec : {M : Type 1} → statement M
-table-spec = tie.close (tie.spec returns)
