@@ -1,5 +1,6 @@
 // The host's reader: it borrows the stream and steps through it, thin over the core by value.
 #![tactic(auto)]
+
 ghost use Rattle.std.specs.Prelude.{not, ◌≡◌, eqb};
 ghost use Rattle.rules.specs.Reader.{fresh, read};
 ghost use Rattle.read_ph1bits.specs.Host.{stepped, moved};

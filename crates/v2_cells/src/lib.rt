@@ -1,5 +1,6 @@
 // What a V2 block does with a frame's cells: the base that it predicts from, its samples and its marks.
 #![tactic(auto)]
+
 ghost use Rattle.std.specs.Prelude.{◌≡◌, ◌+◌, ◌*◌};
 ghost use Rattle.v2_cells.specs.Places.{Placed};
 

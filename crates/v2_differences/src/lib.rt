@@ -1,5 +1,6 @@
 // What V2 reads of a block last: its differences, out of windows where the reader's record stands in the stream, else two by two.
 #![tactic(auto)]
+
 ghost use Rattle.std.specs.Prelude.{◌≡◌, ℕ, ◌+◌, ◌<◌, slice_index};
 ghost use Rattle.rules.specs.V2.{differences_from};
 ghost use Rattle.read_window.specs.Window.{Standing};

@@ -13,13 +13,13 @@ returns-then-depth-g c =
     let m = c.loop-j in
     c.of.ensures
     ∙ sym (flagged_are _ _ _ _ _ _ c.read_flags-f.ensures ∙ m.invariant.1
-    ∙ length_too_long _ _ _ _ _ c.loop-j-test.taken _ _ _ _ c.colour_of-c.ensures.0 _ c.next_length-g.ensures c.if-depth-g.true)
+    ∙ length_too_long _ _ _ _ _ c.loop-j-test.true _ _ _ _ c.colour_of-c.ensures.answered _ c.next_length-g.ensures c.if-depth-g.true)
 
 pub loop-j-preserved : goal.loop-j-preserved
 loop-j-preserved c =
     let m = c.loop-j in (
-      omega (arith, c.loop-j-test.taken),
-      m.invariant.1 ∙ length_goes_on _ _ _ _ _ c.loop-j-test.taken _ _ _ _ c.colour_of-c.ensures.0 _ c.next_length-g.ensures c.if-depth-g.false,
+      omega (arith, c.loop-j-test.true),
+      m.invariant.1 ∙ length_goes_on _ _ _ _ _ c.loop-j-test.true _ _ _ _ c.colour_of-c.ensures.answered _ c.next_length-g.ensures c.if-depth-g.false,
     )
 
 pub returns : goal.returns

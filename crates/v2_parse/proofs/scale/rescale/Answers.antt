@@ -17,4 +17,4 @@ stepped-requires c =
 pub returns : goal.returns
 returns c =
     rw (to_z-of_z w32 c.stepped.result (record { sfits = c.stepped.type_inv }))
-    (rescaled_step _ _ _ _ c.get-code.ensures _ (ne_eqb _ _ c.if-code-eq3.false) (rw (to_z-of_z w32 c.args.scale c.fits.scale) at c.stepped.ensures))
+    (rescaled_step _ _ _ _ c.get-code.ensures _ (ne_eqb _ _ c.if-code-eq3.false) (rw (to_z-of_z w32 c.args.scale c.ranges.scale) at c.stepped.ensures))

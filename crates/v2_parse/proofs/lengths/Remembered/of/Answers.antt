@@ -6,4 +6,4 @@ use Rattle.v2_parse.proofs.lengths.Remembered.of.Goals as goal
 
 pub returns : goal.returns
 returns c =
-    three _ (good_length (e_arr (e_int w32) 2) 3 c.args.lengths _ c.well-formed.0)
+    three _ (good_length (e_arr (e_int w32) 2) 3 c.args.lengths _ c.well_formed.0)

@@ -1,0 +1,8 @@
+-- Even samples repeat the first of the two before the block, odd ones the second.
+use Rattle.rules.specs.Frame.{tabulate}
+use Rattle.rules.specs.V2.{base_cell, repeated}
+use Rattle.v2_cells.proofs.base.repeat.Goals as goal
+
+pub returns : goal.returns
+unfolding tabulate base_cell repeated
+returns c = rw (c.before-a.ensures, c.before-b.ensures)
