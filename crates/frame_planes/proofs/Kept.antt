@@ -1,10 +1,10 @@
 -- Planes have as many samples as their frame, and what holds for each sample of the one holds for each of the other.
 use Prim.Native.Nat.{ℕ, zero, suc, ◌+◌, ◌*◌}
 use mathlib.Core.Path.{◌≡◌, ap, ap₂, ◌∙◌}
-use mathlib.Core.List.{List, ◌++◌, flatten, flat_map}
+use mathlib.Core.List.{List, flatten, flat_map}
 use native.Mathlib.Omega.{arith}
 use native.Mathlib.Nat.{mul_comm}
-use lib.ListN.{length, take, drop, length-append, length-drop}
+use lib.ListN.{length, drop, length-append, length-drop}
 use Rattle.rules.specs.declared.answer.Size.{Size}
 use Rattle.rules.specs.Frame.{cells}
 use Rattle.rules.proofs.Cells.{All, all_append, all_take, all_drop}

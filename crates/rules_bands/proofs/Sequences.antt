@@ -151,7 +151,7 @@ tells_after c before done n t e = record {
 to_all_ready : (c : Cut) {before done ns : List ℕ} → Turns c done ns → Tells c before done → AllReady c before ns
 to_all_ready c end t = Sequence.end
 to_all_ready c {before} (next {done = done} {n = n} e rest) t =
-    Sequence.next (to_ready c before done n t e) (to_all_ready c rest (tells_after c before done n t e))
+    Sequence.next (to_ready c before done n t e) (to_all_ready c {before = n ∷ before} rest (tells_after c before done n t e))
 
 from_all_ready : (c : Cut) {before done ns : List ℕ} → AllReady c before ns → Tells c before done → Turns c done ns
 from_all_ready c Sequence.end t = end
@@ -167,7 +167,7 @@ backwards (n ∷ ns) bs = backwards ns (n ∷ bs)
 tells_end : (c : Cut) {before done ns : List ℕ} → Turns c done ns → Tells c before done → Tells c (backwards ns before) (done_after c done ns)
 unfolding backwards done_after
 tells_end c end t = t
-tells_end c {before} (next {done = done} {n = n} e rest) t = tells_end c rest (tells_after c before done n t e)
+tells_end c {before} (next {done = done} {n = n} e rest) t = tells_end c {before = n ∷ before} rest (tells_after c before done n t e)
 
 among_cons : {X : Type 0} {m n : ℕ} {bs : List ℕ} (ns : List ℕ) → Among m (n ∷ bs) → (Among m (n ∷ ns) → X) → (Among m bs → X) → X
 among_cons ns here l r = l here
@@ -193,6 +193,7 @@ backwards_among m bs (later {m = n} a) = backwards_among m (n ∷ bs) a
 no_more : (c : Cut) (m : ℕ) {before ns : List ℕ} → AllReady c before ns → Among m before → Among m ns → ⊥
 no_more c m (Sequence.next r rest) a here = r.not_done a
 no_more c m (Sequence.next r rest) a (later b) = no_more c m rest (later a) b
+no_more c m Sequence.end a b = elim b [ ]
 
 to_once : (c : Cut) (m : ℕ) {before ns : List ℕ} → AllReady c before ns → Among m ns → Once m ns
 to_once c m (Sequence.next r rest) here = now (λ b. no_more c m rest here b)
@@ -200,6 +201,7 @@ to_once c m (Sequence.next {before = before} {n = n} {ns = ns} r rest) (later b)
     by_cases (ℕ_discrete n m)
     (λ e. absurd (no_more c m rest (subst (λ (x : ℕ). Among x (n ∷ before)) e here) b))
     (λ e. Sequence.after e (to_once c m rest b))
+to_once c m Sequence.end b = elim b [ ]
 
 once_among : {m : ℕ} {ns : List ℕ} → Once m ns → Among m ns
 once_among (now h) = here

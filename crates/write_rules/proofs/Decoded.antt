@@ -8,7 +8,7 @@ use lib.ListN.{length, take, drop}
 use lib.Seq.{length-take-le}
 use borrow.Author.Tests.{eqb-true}
 use Rattle.rules.specs.Frame.{cells}
-use Rattle.rules.specs.Answer.{Decoder, direct, two_phase, Ask, Lent, done_with, done, refusal, stream_answer, answer, frame_samples, frame_marks, marks, unless_refused, samples_after, map_after}
+use Rattle.rules.specs.Answer.{Decoder, direct, two_phase, v2, Ask, Lent, done_with, done, refusal, stream_answer, answer, frame_samples, frame_marks, marks, unless_refused, samples_after, map_after}
 use Rattle.rules.proofs.Cells.{All}
 use Rattle.rules.proofs.Isolation.{IsV0, is_direct, is_two_phase}
 use Rattle.rules.proofs.Refusals.{samples_enough}
@@ -37,16 +37,19 @@ module _ (c : Call) (below : All (λ b. b < 256) c.stream) (fewer : length c.str
   unfolding frame_samples
   samples_of direct is_direct old e = back.direct_back old e
   samples_of two_phase is_two_phase old e = back.two_phase_back old e
+  samples_of v2 v0 old e = elim v0 [ ]
 
   marks_of : (d : Decoder) → IsV0 d → All (λ x. x ≡ 0) (marks (again c n k d))
   unfolding frame_marks
   marks_of direct is_direct = back.no_marks
   marks_of two_phase is_two_phase = back.no_marks
+  marks_of v2 v0 = elim v0 [ ]
 
   answer_of : (d : Decoder) → IsV0 d → stream_answer d (take n (stream_after c)) (take k (offsets_after c)) c.size ≡ done
   unfolding stream_answer
   answer_of direct is_direct = ap done_with (frame_none (take n (stream_after c)) (take k (offsets_after c)) c.size back.no_filler)
   answer_of two_phase is_two_phase = refl
+  answer_of v2 v0 = elim v0 [ ]
 
   module _ (d : Decoder) (v0 : IsV0 d) (l : Lent) (lends : refusal (again c n k d) l ≡ 0) where
     pub answered_done : answer (again c n k d) l ≡ done

@@ -1,8 +1,6 @@
-use Prim.Native.Nat.{◌+◌, ◌-◌, ◌*◌, ◌≤◌}
 use mathlib.Core.Path.{◌∙◌}
 use native.Mathlib.Omega.{arith}
 use native.Mathlib.Nat.{mul_comm}
-use Rattle.rules.specs.Frame.{cells}
 use Rattle.frame_planes.proofs.FrameLaws.{row_room, row_lent, back_length, back_none, back_more, back_all}
 use Rattle.frame_planes.proofs.from_planes.Goals as goal
 
@@ -10,22 +8,22 @@ pub loop-row-init : goal.loop-row-init
 loop-row-init c = back_none _ _ _
 
 pub overflow_mul-at : goal.overflow_mul-at
-overflow_mul-at c = omega (arith, (let row_in_here : (let z = c.args.size in (c.loop-row.row * z.width + z.width ≤ cells z) × (cells z ≤ 268_435_456)) = row_room c.args.size c.loop-row.row c.requires.within (omega arith) in row_in_here), c.requires.written)
+overflow_mul-at c = omega (arith, row_room c.args.size c.loop-row.row c.requires.within (omega arith), c.requires.written)
 
 pub overflow_add-end : goal.overflow_add-end
-overflow_add-end c = omega (arith, (let row_in_here : (let z = c.args.size in (c.loop-row.row * z.width + z.width ≤ cells z) × (cells z ≤ 268_435_456)) = row_room c.args.size c.loop-row.row c.requires.within (omega arith) in row_in_here), c.requires.written)
+overflow_add-end c = omega (arith, row_room c.args.size c.loop-row.row c.requires.within (omega arith), c.requires.written)
 
 pub offset_bounds-samples-at : goal.offset_bounds-samples-at
-offset_bounds-samples-at c = omega (arith, (let row_in_here : (let z = c.args.size in (c.loop-row.row * z.width + z.width ≤ cells z) × (cells z ≤ 268_435_456)) = row_room c.args.size c.loop-row.row c.requires.within (omega arith) in row_in_here), c.requires.written)
+offset_bounds-samples-at c = omega (arith, row_room c.args.size c.loop-row.row c.requires.within (omega arith), c.requires.written)
 
 pub slice_bounds-take_frame_row-count : goal.slice_bounds-take_frame_row-count
-slice_bounds-take_frame_row-count c = omega (arith, (let row_in_here : (let z = c.args.size in (c.loop-row.row * z.width + z.width ≤ cells z) × (cells z ≤ 268_435_456)) = row_room c.args.size c.loop-row.row c.requires.within (omega arith) in row_in_here), c.requires.written)
+slice_bounds-take_frame_row-count c = omega (arith, row_room c.args.size c.loop-row.row c.requires.within (omega arith), c.requires.written)
 
 pub slice_bounds-take_frame_row-start : goal.slice_bounds-take_frame_row-start
-slice_bounds-take_frame_row-start c = omega (arith, (let row_in_here : (let z = c.args.size in (c.loop-row.row * z.width + z.width ≤ cells z) × (cells z ≤ 268_435_456)) = row_room c.args.size c.loop-row.row c.requires.within (omega arith) in row_in_here), c.requires.written)
+slice_bounds-take_frame_row-start c = omega (arith, row_room c.args.size c.loop-row.row c.requires.within (omega arith), c.requires.written)
 
 pub slice_bounds-take_frame_row-end : goal.slice_bounds-take_frame_row-end
-slice_bounds-take_frame_row-end c = omega (arith, (let row_in_here : (let z = c.args.size in (c.loop-row.row * z.width + z.width ≤ cells z) × (cells z ≤ 268_435_456)) = row_room c.args.size c.loop-row.row c.requires.within (omega arith) in row_in_here), c.requires.written)
+slice_bounds-take_frame_row-end c = omega (arith, row_room c.args.size c.loop-row.row c.requires.within (omega arith), c.requires.written)
 
 pub take_frame_row-requires : goal.take_frame_row-requires
 take_frame_row-requires c =
@@ -40,7 +38,7 @@ loop-row-preserved c =
     let t = c.take_frame_row in
     let r = row_room a.size l.row p.within (omega arith) in
     let wide = (row_lent a.size l.row a.planes.now a.samples.now l.samples p (omega arith) l.invariant.kept).written in
-    back_more _ (omega (arith, back_length a.size a.planes.now)) (omega (arith, l.invariant.kept, p.written)) (t.auto.1.1.1.0 ∙ wide) t.ensures l.invariant
+    back_more _ (omega (arith, back_length a.size a.planes.now)) (omega (arith, l.invariant.kept, p.written)) (t.auto.to ∙ wide) t.ensures l.invariant
 
 pub returns : goal.returns
 returns c =

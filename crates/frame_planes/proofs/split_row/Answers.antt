@@ -1,4 +1,3 @@
-use Prim.Native.Nat.{◌-◌}
 use mathlib.Core.Path.{sym, ◌∙◌}
 use Rattle.frame_planes.proofs.Lists.{columns_length, columns_get}
 use Rattle.frame_planes.proofs.Written.{written_none, written_more, written_all}

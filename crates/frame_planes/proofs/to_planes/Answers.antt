@@ -19,15 +19,15 @@ pub offset_bounds-planes-half : goal.offset_bounds-planes-half
 offset_bounds-planes-half c = omega (arith, half_room _ _ _ c.requires)
 
 pub slice_bounds-put_rows-count : goal.slice_bounds-put_rows-count
-slice_bounds-put_rows-count c = second_room _ _ _ c.requires c.put_rows.new.1.1.1.0 c.put_rows.auto.1.1.1.0
+slice_bounds-put_rows-count c = second_room _ _ _ c.requires c.put_rows.new.half c.put_rows.auto.half
 
 pub slice_bounds-put_rows-start : goal.slice_bounds-put_rows-start
-slice_bounds-put_rows-start c = second_room _ _ _ c.requires c.put_rows.new.1.1.1.0 c.put_rows.auto.1.1.1.0
+slice_bounds-put_rows-start c = second_room _ _ _ c.requires c.put_rows.new.half c.put_rows.auto.half
 
 pub put_rows-requires-2 : goal.put_rows-requires-2
-put_rows-requires-2 c = second_lent _ _ _ c.requires c.put_rows.new.1.1.1.0 c.put_rows.auto.1.1.1.0
+put_rows-requires-2 c = second_lent _ _ _ c.requires c.put_rows.new.half c.put_rows.auto.half
 
 pub returns : goal.returns
 returns c =
     let first = c.put_rows in
-    both_halves _ _ _ c.requires first.last.1.1.1.0 first.kept.1.1.1.0 _ first.ensures c.put_rows-2.ensures
+    both_halves _ _ _ c.requires first.new.half first.auto.half _ first.ensures c.put_rows-2.ensures

@@ -1,4 +1,3 @@
-use Prim.Native.Nat.{◌-◌}
 use mathlib.Core.Path.{sym, ◌∙◌}
 use native.Mathlib.Omega.{arith}
 use Rattle.rules_bands.proofs.CheckLaws.{some_column, count_most, some_blocks_left, band_most, block_most, wrong_length, at_first, at_end, outside, not_ready, ready_then}
