@@ -1,4 +1,4 @@
-use Rattle.std.proofs.Common.{◌-◌, ◌≤◌, get_or, refl, arith}
+use Rattle.std.proofs.Common.{◌≤◌, get_or, refl, arith}
 use Rattle.v2_differences.proofs.FourLaws.{reached_start, reached_more, reached_end}
 use Rattle.v2_differences.proofs.by_windows.Goals as goal
 
