@@ -20,10 +20,14 @@ loop-col-init c = (c.frame.invariant.1.0, (refl, row_starts _ _ _ _ _ _ _ _ _ _ 
 
 pub read_block-read-requires : goal.read_block-read-requires
 read_block-read-requires c =
-    let g = c.loop-col.invariant in (
+    let g = c.loop-col.invariant in
+    let room = block_inside c.args.size c.frame.row c.loop-col.col c.frame-test.true c.loop-col-test.true in (
       record {
         depth = depth_is _ _ c.read_header-start.ensures;
-        inside = record { placed = placed _ _ _ _ c.requires.width c.requires.height c.frame-test.true c.loop-col-test.true c.loop-col.invariant.1.1.whole_blocks; room = omega (arith, g.0, (block_inside c.args.size c.frame.row c.loop-col.col c.frame-test.true c.loop-col-test.true)) };
+        inside = record {
+          placed = placed _ _ _ _ c.requires.width c.requires.height c.frame-test.true c.loop-col-test.true c.loop-col.invariant.1.1.whole_blocks;
+          room = omega (arith, g.0, room);
+        };
         motion = g.1.1.motion;
         scale = g.1.1.scale;
       },
@@ -42,7 +46,9 @@ store-requires c =
 
 pub mark_ended_block-requires : goal.mark_ended_block-requires
 mark_ended_block-requires c =
-    markable _ _ _ _ _ _ _ _ _ _ _ (sym c.read_block-read.ensures.outcome ∙ c.in-Next.is) c.loop-col.invariant.1.1.motion (placed _ _ _ _ c.requires.width c.requires.height c.frame-test.true c.loop-col-test.true c.loop-col.invariant.1.1.whole_blocks) (block_inside c.args.size c.frame.row c.loop-col.col c.frame-test.true c.loop-col-test.true) (c.loop-col.invariant.1.0 ∙ c.frame.invariant.1.1.0) c.requires.map_lent
+    let place = placed _ _ _ _ c.requires.width c.requires.height c.frame-test.true c.loop-col-test.true c.loop-col.invariant.1.1.whole_blocks in
+    let room = block_inside c.args.size c.frame.row c.loop-col.col c.frame-test.true c.loop-col-test.true in
+    markable _ _ _ _ _ _ _ _ _ _ _ (sym c.read_block-read.ensures.outcome ∙ c.in-Next.is) c.loop-col.invariant.1.1.motion place room (c.loop-col.invariant.1.0 ∙ c.frame.invariant.1.1.0) c.requires.map_lent
 
 pub overflow_add-col-in-loop-col : goal.overflow_add-col-in-loop-col
 overflow_add-col-in-loop-col c = omega (arith, c.loop-col-test.true, c.requires.width)
