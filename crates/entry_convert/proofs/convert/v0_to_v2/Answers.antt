@@ -18,38 +18,38 @@ overflow_mul-n c = record {
   fits = omega (
     arith,
     ((let known_decoded_here : (let l = c.decode_v0_reference_map.new in Decoded ((let asked_here : (Call) = let a = c.args in
-        call a.src.now a.offsets.now a.width a.height a.samples.now a.map.now a.stream.now in asked_here)) l.1.1.1.1.0 l.1.1.1.1.1.0) = decoded ((let known_lent_here : (Lent ((let asked_here : (Call) = let a = c.args in
+        call a.src.now a.offsets.now a.width a.height a.samples.now a.map.now a.stream.now in asked_here)) l.out l.map) = decoded ((let known_lent_here : (Lent ((let asked_here : (Call) = let a = c.args in
         call a.src.now a.offsets.now a.width a.height a.samples.now a.map.now a.stream.now in asked_here))) = lent refl c.is_too_small.ensures c.refuse-refusal.ensures c.if-refusal-ne0.false in known_lent_here)) c.decode_v0_reference_map.ensures in known_decoded_here)).lent.room.few,
   );
 }
 
 pub slice_bounds-write_decoded-end : goal.slice_bounds-write_decoded-end
 slice_bounds-write_decoded-end c = samples_room ((let known_decoded_here : (let l = c.decode_v0_reference_map.new in Decoded ((let asked_here : (Call) = let a = c.args in
-    call a.src.now a.offsets.now a.width a.height a.samples.now a.map.now a.stream.now in asked_here)) l.1.1.1.1.0 l.1.1.1.1.1.0) = decoded ((let known_lent_here : (Lent ((let asked_here : (Call) = let a = c.args in
+    call a.src.now a.offsets.now a.width a.height a.samples.now a.map.now a.stream.now in asked_here)) l.out l.map) = decoded ((let known_lent_here : (Lent ((let asked_here : (Call) = let a = c.args in
     call a.src.now a.offsets.now a.width a.height a.samples.now a.map.now a.stream.now in asked_here))) = lent refl c.is_too_small.ensures c.refuse-refusal.ensures c.if-refusal-ne0.false in known_lent_here)) c.decode_v0_reference_map.ensures in known_decoded_here))
 
 pub slice_bounds-write_decoded-end-2 : goal.slice_bounds-write_decoded-end-2
 slice_bounds-write_decoded-end-2 c = sym (length-take-le _ _ (samples_room ((let known_decoded_here : (let l = c.decode_v0_reference_map.new in Decoded ((let asked_here : (Call) = let a = c.args in
-    call a.src.now a.offsets.now a.width a.height a.samples.now a.map.now a.stream.now in asked_here)) l.1.1.1.1.0 l.1.1.1.1.1.0) = decoded ((let known_lent_here : (Lent ((let asked_here : (Call) = let a = c.args in
+    call a.src.now a.offsets.now a.width a.height a.samples.now a.map.now a.stream.now in asked_here)) l.out l.map) = decoded ((let known_lent_here : (Lent ((let asked_here : (Call) = let a = c.args in
     call a.src.now a.offsets.now a.width a.height a.samples.now a.map.now a.stream.now in asked_here))) = lent refl c.is_too_small.ensures c.refuse-refusal.ensures c.if-refusal-ne0.false in known_lent_here)) c.decode_v0_reference_map.ensures in known_decoded_here))))
 
 pub slice_bounds-write_decoded-end-3 : goal.slice_bounds-write_decoded-end-3
 slice_bounds-write_decoded-end-3 c = map_room ((let known_decoded_here : (let l = c.decode_v0_reference_map.new in Decoded ((let asked_here : (Call) = let a = c.args in
-    call a.src.now a.offsets.now a.width a.height a.samples.now a.map.now a.stream.now in asked_here)) l.1.1.1.1.0 l.1.1.1.1.1.0) = decoded ((let known_lent_here : (Lent ((let asked_here : (Call) = let a = c.args in
+    call a.src.now a.offsets.now a.width a.height a.samples.now a.map.now a.stream.now in asked_here)) l.out l.map) = decoded ((let known_lent_here : (Lent ((let asked_here : (Call) = let a = c.args in
     call a.src.now a.offsets.now a.width a.height a.samples.now a.map.now a.stream.now in asked_here))) = lent refl c.is_too_small.ensures c.refuse-refusal.ensures c.if-refusal-ne0.false in known_lent_here)) c.decode_v0_reference_map.ensures in known_decoded_here))
 
 pub slice_bounds-write_decoded-end-4 : goal.slice_bounds-write_decoded-end-4
 slice_bounds-write_decoded-end-4 c = sym (length-take-le _ _ (map_room ((let known_decoded_here : (let l = c.decode_v0_reference_map.new in Decoded ((let asked_here : (Call) = let a = c.args in
-    call a.src.now a.offsets.now a.width a.height a.samples.now a.map.now a.stream.now in asked_here)) l.1.1.1.1.0 l.1.1.1.1.1.0) = decoded ((let known_lent_here : (Lent ((let asked_here : (Call) = let a = c.args in
+    call a.src.now a.offsets.now a.width a.height a.samples.now a.map.now a.stream.now in asked_here)) l.out l.map) = decoded ((let known_lent_here : (Lent ((let asked_here : (Call) = let a = c.args in
     call a.src.now a.offsets.now a.width a.height a.samples.now a.map.now a.stream.now in asked_here))) = lent refl c.is_too_small.ensures c.refuse-refusal.ensures c.if-refusal-ne0.false in known_lent_here)) c.decode_v0_reference_map.ensures in known_decoded_here))))
 
 pub write_decoded-requires : goal.write_decoded-requires
 write_decoded-requires c = frame_fits ((let known_decoded_here : (let l = c.decode_v0_reference_map.new in Decoded ((let asked_here : (Call) = let a = c.args in
-    call a.src.now a.offsets.now a.width a.height a.samples.now a.map.now a.stream.now in asked_here)) l.1.1.1.1.0 l.1.1.1.1.1.0) = decoded ((let known_lent_here : (Lent ((let asked_here : (Call) = let a = c.args in
+    call a.src.now a.offsets.now a.width a.height a.samples.now a.map.now a.stream.now in asked_here)) l.out l.map) = decoded ((let known_lent_here : (Lent ((let asked_here : (Call) = let a = c.args in
     call a.src.now a.offsets.now a.width a.height a.samples.now a.map.now a.stream.now in asked_here))) = lent refl c.is_too_small.ensures c.refuse-refusal.ensures c.if-refusal-ne0.false in known_lent_here)) c.decode_v0_reference_map.ensures in known_decoded_here)) c.if-width-ne0.false
 
 pub returns : goal.returns
 returns c =
     converted ((let known_decoded_here : (let l = c.decode_v0_reference_map.new in Decoded ((let asked_here : (Call) = let a = c.args in
-    call a.src.now a.offsets.now a.width a.height a.samples.now a.map.now a.stream.now in asked_here)) l.1.1.1.1.0 l.1.1.1.1.1.0) = decoded ((let known_lent_here : (Lent ((let asked_here : (Call) = let a = c.args in
+    call a.src.now a.offsets.now a.width a.height a.samples.now a.map.now a.stream.now in asked_here)) l.out l.map) = decoded ((let known_lent_here : (Lent ((let asked_here : (Call) = let a = c.args in
     call a.src.now a.offsets.now a.width a.height a.samples.now a.map.now a.stream.now in asked_here))) = lent refl c.is_too_small.ensures c.refuse-refusal.ensures c.if-refusal-ne0.false in known_lent_here)) c.decode_v0_reference_map.ensures in known_decoded_here)) c.if-width-ne0.false c.write_decoded.ensures

@@ -28,7 +28,7 @@ put_row-at-requires c = record {
 
 pub loop-row-preserved : goal.loop-row-preserved
 loop-row-preserved c =
-    (omega arith, left_step (rows_parts _ _ _ _ _ c.loop-row-test.taken c.loop-row.invariant.1) c.put_row-at.ensures)
+    (omega arith, left_step (rows_parts _ _ _ _ _ c.loop-row-test.true c.loop-row.invariant.1) c.put_row-at.ensures)
 
 pub returns : goal.returns
 returns c = left_end (no_rows _ _ _ _ _ c.loop-row-test.false c.loop-row.invariant.1)

@@ -12,7 +12,7 @@ put_sample-at-requires c = part_room _ (samples_parts _ _ _ _ c.loop-i-test.true
 
 pub loop-i-preserved : goal.loop-i-preserved
 loop-i-preserved c =
-    (omega arith, left_step (samples_parts _ _ _ _ c.loop-i-test.taken c.requires.map_len c.wide.ensures c.loop-i.invariant.1) c.put_sample-at.ensures)
+    (omega arith, left_step (samples_parts _ _ _ _ c.loop-i-test.true c.requires.map_len c.wide.ensures c.loop-i.invariant.1) c.put_sample-at.ensures)
 
 pub returns : goal.returns
 returns c = left_end (no_samples _ _ _ c.loop-i-test.false c.loop-i.invariant.1)
