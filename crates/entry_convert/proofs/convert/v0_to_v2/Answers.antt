@@ -52,4 +52,4 @@ pub returns : goal.returns
 returns c =
     converted ((let known_decoded_here : (let l = c.decode_v0_reference_map.new in Decoded ((let asked_here : (Call) = let a = c.args in
     call a.src.now a.offsets.now a.width a.height a.samples.now a.map.now a.stream.now in asked_here)) l.out l.map) = decoded ((let known_lent_here : (Lent ((let asked_here : (Call) = let a = c.args in
-    call a.src.now a.offsets.now a.width a.height a.samples.now a.map.now a.stream.now in asked_here))) = lent refl c.is_too_small.ensures c.refuse-refusal.ensures c.if-refusal-ne0.false in known_lent_here)) c.decode_v0_reference_map.ensures in known_decoded_here)) c.if-width-ne0.false c.write_decoded.ensures
+    call a.src.now a.offsets.now a.width a.height a.samples.now a.map.now a.stream.now in asked_here))) = lent refl c.is_too_small.ensures c.refuse-refusal.ensures c.if-refusal-ne0.false in known_lent_here)) c.decode_v0_reference_map.ensures in known_decoded_here)) c.if-width-ne0.false (c.write_decoded.ensures.answered, c.write_decoded.ensures.stream)

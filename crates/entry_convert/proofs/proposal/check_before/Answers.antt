@@ -2,6 +2,7 @@
 use mathlib.Core.Path.{sym}
 use native.Mathlib.Omega.{arith}
 use lib.Seq.{length-take-le}
+use Rattle.write_packed.specs.Proposal.{proposal}
 use Rattle.entry_convert.proofs.ProposalLaws.{MeantLent, meant_lent, AllLent, all_lent, Clean, clean, early_before, short_before, checkable, fault_before, long_before, done_before}
 use Rattle.entry_convert.proofs.proposal.check_before.Goals as goal
 
