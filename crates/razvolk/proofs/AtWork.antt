@@ -9,7 +9,8 @@ use mathlib.Core.List.{List, [], ◌∷◌, ◌++◌}
 use mathlib.Core.Option.{none, some, none-ne-some}
 use lib.ListN.{length, get_or, take, drop, take-append-drop}
 use lib.Dec.{lit≤}
-use denote.Ref.{Bor}
+use denote.Bor.{Bor}
+use denote.MutBor.{MutBor}
 use borrow.Fn.Kinds.{Out}
 use Rattle.rules.specs.declared.answer.Answer.{Answer}
 use Rattle.rules.specs.Answer.{Ask, ask, buffers, lengths, answer, samples_after, map_after, scratch_after}
@@ -45,9 +46,12 @@ use Rattle.razvolk.proofs.Isolation as Exports
 
 -- ── A call for every input ──
 
--- A slice that is lent: no contract asks where it lies.
+-- A slice that is lent, to read or to write: no contract asks where it lies.
 abbrev slice : List ℕ → Bor (List ℕ)
 slice xs = record { ref_ptr = (0, 0); now = xs }
+
+abbrev mut_slice : List ℕ → MutBor (List ℕ)
+mut_slice xs = record { ref_ptr = (0, 0); ghost_name = 0; now = xs }
 
 module _ (s offsets : List ℕ) (w h : ℕ) (samples : List ℕ) where
   abbrev direct_ask : Ask
@@ -60,8 +64,8 @@ module _ (s offsets : List ℕ) (w h : ℕ) (samples : List ℕ) where
   v2_ask = ask Answer.v2 s [] w h
 
   -- What a V0 decoder is lent, and leaves: stream, offsets and size, samples, and what else its parameters are.
-  abbrev lent : {X : Type 0} → List ℕ → X → Bor (List ℕ) × (Bor (List ℕ) × (ℕ × (ℕ × (Bor (List ℕ) × X))))
-  lent samples others = (slice s, (slice offsets, (w, (h, (slice samples, others)))))
+  abbrev lent : {X : Type 0} → List ℕ → X → Bor (List ℕ) × (Bor (List ℕ) × (ℕ × (ℕ × (MutBor (List ℕ) × X))))
+  lent samples others = (slice s, (slice offsets, (w, (h, (mut_slice samples, others)))))
 
   -- A call that is lent samples alone, and one that is lent bytes, too, for a map or scratch: by what it answers and leaves.
   abbrev alone : {L : Out 3 direct-kinds.ps direct-kinds.r} (told : Answer) (left : List ℕ)
@@ -69,9 +73,9 @@ module _ (s offsets : List ℕ) (w h : ℕ) (samples : List ℕ) where
   alone told left learnt = record { κs = ([], ([], ([], tt))); args = lent samples tt; result = told; exit = lent left tt; learnt = learnt }
 
   abbrev with_bytes : {L : Out 4 direct-map-kinds.ps direct-map-kinds.r} (bytes : List ℕ) (told : Answer) (left bytes_left : List ℕ)
-      → L ([], ([], ([], ([], tt)))) (lent samples (slice bytes, tt)) told (lent left (slice bytes_left, tt)) → Made direct-map-kinds.ps direct-map-kinds.r L
+      → L ([], ([], ([], ([], tt)))) (lent samples (mut_slice bytes, tt)) told (lent left (mut_slice bytes_left, tt)) → Made direct-map-kinds.ps direct-map-kinds.r L
   with_bytes bytes told left bytes_left learnt =
-      record { κs = ([], ([], ([], ([], tt)))); args = lent samples (slice bytes, tt); result = told; exit = lent left (slice bytes_left, tt); learnt = learnt }
+      record { κs = ([], ([], ([], ([], tt)))); args = lent samples (mut_slice bytes, tt); result = told; exit = lent left (mut_slice bytes_left, tt); learnt = learnt }
 
   abbrev pub direct_call : Export
   direct_call =
@@ -97,9 +101,9 @@ module _ (s offsets : List ℕ) (w h : ℕ) (samples : List ℕ) where
       Exports.v2
       (record {
         κs = ([], ([], tt));
-        args = (slice s, (w, (h, (slice samples, tt))));
+        args = (slice s, (w, (h, (mut_slice samples, tt))));
         result = answer v2_ask (lengths (buffers samples none none));
-        exit = (slice s, (w, (h, (slice (samples_after v2_ask (lengths (buffers samples none none)) samples), tt))));
+        exit = (slice s, (w, (h, (mut_slice (samples_after v2_ask (lengths (buffers samples none none)) samples), tt))));
         learnt = record { answered = refl; samples = refl; map = refl; scratch = refl };
       })
 
@@ -108,9 +112,9 @@ module _ (s offsets : List ℕ) (w h : ℕ) (samples : List ℕ) where
       Exports.v2_map
       (record {
         κs = ([], ([], ([], tt)));
-        args = (slice s, (w, (h, (slice samples, (slice map, tt)))));
+        args = (slice s, (w, (h, (mut_slice samples, (mut_slice map, tt)))));
         result = answer v2_ask (lengths (buffers samples (some map) none));
-        exit = (slice s, (w, (h, (slice (samples_after v2_ask (lengths (buffers samples (some map) none)) samples), (slice (map_after v2_ask (lengths (buffers samples (some map) none)) map), tt)))));
+        exit = (slice s, (w, (h, (mut_slice (samples_after v2_ask (lengths (buffers samples (some map) none)) samples), (mut_slice (map_after v2_ask (lengths (buffers samples (some map) none)) map), tt)))));
         learnt = record { answered = refl; samples = refl; map = refl; scratch = refl };
       })
 
@@ -124,9 +128,9 @@ module _ (s offsets : List ℕ) (w h : ℕ) (samples : List ℕ) where
       Exports.banded
       (record {
         κs = ([], ([], ([], ([], ([], tt)))));
-        args = lent samples (slice scratch, (bands, (block_width, (slice steps, tt))));
+        args = lent samples (mut_slice scratch, (bands, (block_width, (slice steps, tt))));
         result = Bands.answer asked;
-        exit = lent (Bands.samples_after asked) (slice (Bands.scratch_after asked), (bands, (block_width, (slice steps, tt))));
+        exit = lent (Bands.samples_after asked) (mut_slice (Bands.scratch_after asked), (bands, (block_width, (slice steps, tt))));
         learnt = record { answered = refl; samples = refl; scratch = refl };
       })
 
@@ -221,7 +225,7 @@ convert_call s offsets w h samples map stream =
     let c = Convert.call s offsets w h samples map stream in
     record {
       κs = ([], ([], ([], ([], ([], tt)))));
-      args = (slice s, (slice offsets, (w, (h, (slice samples, (slice map, (slice stream, tt)))))));
+      args = (slice s, (slice offsets, (w, (h, (mut_slice samples, (mut_slice map, (mut_slice stream, tt)))))));
       result = Convert.if_decoded c (Convert.late_answer w h (Convert.frame_of c) (Convert.marks_of c) (length stream)) (Writers.refused (Convert.early c));
       exit = (
         slice s,
@@ -232,10 +236,10 @@ convert_call s offsets w h samples map stream =
             (
               h,
               (
-                slice (Convert.if_decoded c (Convert.decoded_samples c) samples),
+                mut_slice (Convert.if_decoded c (Convert.decoded_samples c) samples),
                 (
-                  slice (Convert.if_decoded c (Convert.decoded_map c) map),
-                  (slice (Convert.if_decoded c (Convert.late_stream w h (Convert.frame_of c) (Convert.marks_of c) stream) stream), tt),
+                  mut_slice (Convert.if_decoded c (Convert.decoded_map c) map),
+                  (mut_slice (Convert.if_decoded c (Convert.late_stream w h (Convert.frame_of c) (Convert.marks_of c) stream) stream), tt),
                 ),
               ),
             ),
@@ -249,9 +253,9 @@ abbrev pub to_planes_call : List ℕ → ℕ → ℕ → List ℕ → ToPlanes
 to_planes_call samples w h planes =
     record {
       κs = ([], ([], tt));
-      args = (slice samples, (w, (h, (slice planes, tt))));
+      args = (slice samples, (w, (h, (mut_slice planes, tt))));
       result = Moved.answer w h samples planes;
-      exit = (slice samples, (w, (h, (slice (Moved.after to_planes w h samples planes), tt))));
+      exit = (slice samples, (w, (h, (mut_slice (Moved.after to_planes w h samples planes), tt))));
       learnt = (refl, refl);
     }
 
@@ -259,9 +263,9 @@ abbrev pub from_planes_call : List ℕ → ℕ → ℕ → List ℕ → FromPlan
 from_planes_call planes w h samples =
     record {
       κs = ([], ([], tt));
-      args = (slice planes, (w, (h, (slice samples, tt))));
+      args = (slice planes, (w, (h, (mut_slice samples, tt))));
       result = Moved.answer w h planes samples;
-      exit = (slice planes, (w, (h, (slice (Moved.after from_planes w h planes samples), tt))));
+      exit = (slice planes, (w, (h, (mut_slice (Moved.after from_planes w h planes samples), tt))));
       learnt = (refl, refl);
     }
 
