@@ -1,4 +1,3 @@
-use Prim.Native.Nat.{◌-◌}
 use native.Mathlib.Omega.{arith}
 use Rattle.frame_map.proofs.MapLaws.{filling_begun, filling_on, filled}
 use Rattle.frame_map.proofs.fill_edge.Goals as goal

@@ -1,5 +1,4 @@
 use mathlib.Core.Path.{refl}
-use Prim.Native.Nat.{◌-◌}
 use native.Mathlib.Omega.{arith}
 use Rattle.frame_map.proofs.MapLaws.{filling_begun, filling_on, filled, one_filled}
 use Rattle.frame_map.proofs.fill_whole.Goals as goal
