@@ -1,5 +1,6 @@
 // `samrows`: reads a job from standard input, and writes its text to standard output (docs/RULES.md, "The job program").
 #![tactic(auto)]
+
 use std::io;
 use std::io::Write;
 

@@ -1,10 +1,10 @@
 // Runs each file that the arguments name as `samrows` runs its standard input, and writes the texts one after another. A file that
 // can't be opened is told on standard error, and the next one follows.
 #![tactic(auto)]
-use std::env;
+
 use std::fs::File;
-use std::io;
 use std::io::Write;
+use std::{env, io};
 
 fn main(rt: HostRuntime) -> io::Result<()> {
     for path in env::args(&rt)?.skip(1) {
