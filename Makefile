@@ -102,7 +102,7 @@ ROWS =
 load: wheel
 	PYTHON=$(PYTHON) python/load/run $(LOAD) $(made)/load.json $(ROWS)
 
-# Every wrong edit that the proofs must refuse, also those of crates/*/must-fail/more, which cost too much for the gate
+# Every wrong edit that the proofs must refuse, also those of crates/*/must-fail-more, which cost too much for the gate
 # (docs/TESTING.md, "Wrong edits").
 refuse:
 	$(need_rt)

@@ -301,7 +301,7 @@ mod tests {
             file("rust/tool/src/options.rs", "    pub png: Option<PathBuf>,"),
             file("rust/tool/Cargo.toml", "name = \"razvolk-tool\"\n"),
             file("tests/try", ""),
-            file("crates/low/must-fail/more/one_less.edit", ""),
+            file("crates/low/must-fail-more/one_less.edit", ""),
         ])
     }
 
