@@ -118,8 +118,8 @@ COUNT = 0
 mutate:
 	nice -n 19 python3 tests/mutate.py --crate $(CRATE) --file '$(FILE)' --since '$(SINCE)' --count $(COUNT) --seed $(SEED)
 
-# What the check cost before and after each landing, tree by tree, from nothing: two hours on a machine that does nothing else. The
-# figures are appended to the file; those that it has are not measured again.
+# What the check cost before and after each landing, tree by tree, from nothing, with the toolchain of these trees: two hours on a
+# machine that does nothing else. The figures are appended to the file; those that it has are not measured again.
 landings:
 	tests/landings.py measure --ci docs/landings.tsv
 	tests/landings.py draw docs/landings.tsv docs/landings.svg

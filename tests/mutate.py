@@ -4,8 +4,8 @@
     tests/mutate.py [--crate rules] [--file V2] [--since COMMIT] [--count 100] [--seed 1] [--workers 2]
 
 The definitions are those of the files of crates/CRATE/specs that an entry's contract rests on, or that STATED names; with --since
-those of lines that are new since a commit. The changes are made in a copy of the crate below target/mutate that has the worked
-examples, no theorem and no function. At first some are checked at once, by `rt check`: each is a file of its own beside the
+those of lines that are new since a commit. The changes are made in a copy of the crate among the temporary files that has the
+worked examples, no theorem and no function. At first some are checked at once, by `rt check`: each is a file of its own beside the
 definitions, with its own copy of what rests on it in one file of examples. What passes is made alone and checked with all
 examples; what passes that with the theorems and the functions, too, and at last once more from nothing by `rt verdict`: where
 these alone refuse a change, it may be that a function would only have to follow it, so such changes are printed, too. A change
@@ -25,6 +25,7 @@ import shutil
 import signal
 import subprocess
 import sys
+import tempfile
 import threading
 from collections import Counter
 from pathlib import Path
@@ -702,8 +703,8 @@ class Copy:
 class Worker:
     """Tells of a change whether the examples refuse it, and if they don't whether the theorems do."""
 
-    def __init__(self, crate, number):
-        self.crate, self.home = crate, ROOT / "target" / "mutate" / crate / str(number)
+    def __init__(self, crate, home):
+        self.crate, self.home = crate, home
         self.examples = Copy(crate, self.home / "examples", True)
 
     @functools.cached_property
@@ -742,7 +743,7 @@ class Worker:
         for change, errors in zip(changes, each or []):
             no_definition = [line for line in errors if "/specs/" in line.split(": error: ")[0]]
             if errors:
-                yield change, ALL[0 if no_definition else 1], (no_definition or errors)[0].replace(f"{ROOT}/target/mutate/", "")
+                yield change, ALL[0 if no_definition else 1], (no_definition or errors)[0]
 
     def outcome(self, change):
         status, said = self.examples.said_of(change, ["check"])
@@ -757,7 +758,7 @@ class Worker:
             return "no answer", said[-300:]
         where = [line for line in errors if IN_EXAMPLES.search(line)]
         first = (where or errors or [said[-300:]])[0]
-        return ("refused by an example" if where else "refused by a law"), first.replace(f"{ROOT}/target/mutate/", "")
+        return ("refused by an example" if where else "refused by a law"), first
 
 
 def new_lines(commit, path):
@@ -821,7 +822,7 @@ def try_all(changes, done, crate, workers, log):
     log.write_text("".join(f"{line}\n" for line in done.values()))
 
     def work(number):
-        worker = Worker(crate, number)
+        worker = Worker(crate, Path(copies) / str(number))
         while True:
             try:
                 some = left.get_nowait()
@@ -834,11 +835,13 @@ def try_all(changes, done, crate, workers, log):
                     if found not in SETTLED:
                         print(f"{found}: {change}", flush=True)
 
-    threads = [threading.Thread(target=work, args=(n,)) for n in range(min(workers, max(1, len(changes))))]
-    for thread in threads:
-        thread.start()
-    for thread in threads:
-        thread.join()
+    # Not in the repository, where `rt ci` refuses another crates.txt.
+    with tempfile.TemporaryDirectory(prefix="mutate-") as copies:
+        threads = [threading.Thread(target=work, args=(n,)) for n in range(min(workers, max(1, len(changes))))]
+        for thread in threads:
+            thread.start()
+        for thread in threads:
+            thread.join()
 
 
 def figures(name, lines):
