@@ -1,5 +1,6 @@
 // The entries that decode nothing: refusals are tested before anything is written. Nothing is asked of a caller.
 #![tactic(auto)]
+
 pub mod blanks;
 pub mod colour;
 pub mod export;

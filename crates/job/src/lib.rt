@@ -1,6 +1,7 @@
 // The job of `samrows` as a function on slices, by docs/RULES.md, "The job program". Its text is written into a lent array that has
 // room for every text.
 #![tactic(auto)]
+
 mod input;
 mod lines;
 

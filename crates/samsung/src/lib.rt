@@ -1,6 +1,7 @@
 // The entry points of the decoders: refusals 1 to 4 are tested before anything is written, then the frame is decoded. Nothing is
 // asked of a caller.
 #![tactic(auto)]
+
 pub mod clean;
 pub mod direct;
 pub mod in_bands;

@@ -1,5 +1,6 @@
 // Phase two of a V0 frame and the exchange, block by block in the sequence of a list of steps.
 #![tactic(auto)]
+
 ghost use Rattle.std.specs.Prelude.{◌≡◌, ◌-◌, ◌/◌, ◌≤◌, min, length, drop, ◌++◌};
 ghost use Rattle.rules.specs.V0.{sample_kind};
 ghost use Rattle.rules.specs.Answer.{scratch_bytes};

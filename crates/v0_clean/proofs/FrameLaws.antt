@@ -15,7 +15,7 @@ use Rattle.rules_clean.specs.Verdict.{row_fault, fault_at, rows_verdict, verdict
 use Rattle.v0_direct.specs.declared.run.Run.{Run}
 use Rattle.v0_clean.specs.OffsetsLent.{OffsetsLent, InRow, FourLent}
 use Rattle.v0_clean.specs.Row.{fault_from, Decides, Passed}
-use Rattle.v0_clean.specs.Rows.{RowsIn, RowsPassed, or_after, in_order, four_from, Parted}
+use Rattle.v0_clean.specs.Rows.{RowsIn, RowsPassed, in_order, four_from, Parted}
 use Rattle.v0_clean.specs.declared.Part.{Part}
 use Rattle.v0_clean.specs.declared.heads.Rows.{Rows}
 

@@ -36,7 +36,7 @@ use Rattle.v0_direct.specs.declared.run.Run.{Run}
 use Rattle.v0_clean.specs.OffsetsLent.{InRow}
 use Rattle.v0_clean.specs.Block.{seen}
 use Rattle.v0_clean.specs.Row.{Placed, fault_from, Passed}
-use Rattle.v0_clean.specs.Heads.{row_of, point, Tracked, RoomAt, NextHead, Moved, PassedAt, Ready, TrackOf, TracksOf, TracksAt, AllTracked, AllPassed, AllMoved, HeadsAt, HeadsNear, TracksRoom, RowsReady, RowsOf, all_four, roomy, all_short, blocks_on, least_on, all_ready, run_on, side_by_side, RowsReach}
+use Rattle.v0_clean.specs.Heads.{row_of, point, Tracked, NextHead, Moved, PassedAt, Ready, TrackOf, TracksOf, TracksAt, AllTracked, AllPassed, AllMoved, HeadsAt, HeadsNear, TracksRoom, RowsReady, RowsOf, all_four, roomy, all_short, blocks_on, least_on, all_ready, run_on, side_by_side, RowsReach}
 use Rattle.v0_clean.specs.Rows.{Four, RowsPlaced, RowsPassed}
 use Rattle.v0_clean.specs.declared.heads.Heads.{Heads}
 use Rattle.v0_clean.specs.declared.heads.Rows.{Rows}

@@ -2,6 +2,7 @@
 // the direct decoder reads them, by the same functions, but that an inner block's residuals are passed over where they are there;
 // nothing is written, since the frame that the others would write to has no cells.
 #![tactic(auto)]
+
 ghost use Rattle.std.specs.Prelude.{◌≡◌, true, ◌&&◌, ltb, ◌+◌, ◌≤◌, ◌<◌, ◌^◌};
 ghost use Rattle.v0_cells.specs.Places.{InFrame};
 ghost use Rattle.v0_parse.specs.Block.{whole_block};

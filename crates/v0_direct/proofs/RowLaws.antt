@@ -1,12 +1,9 @@
 -- A row: what is left of its blocks comes to the whole row, and its lengths stay near 0.
 use mathlib.Core.Path.{◌≡◌, refl, sym, ap, ap₂, ◌∙◌}
-use mathlib.Core.Bool.{true, false}
 use mathlib.Core.List.{List, [], ◌∷◌, ◌++◌}
 use Prim.Native.Nat.{ℕ, suc, ◌+◌, ◌-◌, ◌*◌, ◌/◌, ◌%◌, ◌≤◌, ◌<◌}
 use native.Mathlib.Omega.{arith}
-use lib.Dec.{leb}
 use lib.ListN.{length}
-use borrow.Author.Tests.{leb-true}
 use Rattle.rules.specs.Reader.{has_filler}
 use Rattle.rules.specs.Frame.{ended}
 use Rattle.rules.specs.V0.{Block, Blocks, Kind, apply, write, write_all, sample_kind, head, predictor, order, blocks, row_blocks, fresh_row}
@@ -16,7 +13,7 @@ use Rattle.rules.specs.declared.reader.Bits.{Bits}
 use Rattle.rules.specs.declared.v0.V0Row.{V0Row}
 use Rattle.rules.specs.declared.v0.V0Head.{V0Head}
 use Rattle.v0_parse.specs.Lengths.{Within, furthest}
-use Rattle.v0_cells.specs.Places.{InFrame, Inner}
+use Rattle.v0_cells.specs.Places.{InFrame}
 use Rattle.v0_direct.specs.FrameLent.{InRow, BlockLent, RunLent}
 use Rattle.v0_direct.specs.Block.{samples_of, block_ops, after_block, Decoded, BlockRun, none, also, Ran}
 use Rattle.v0_parse.proofs.HeadLaws.{within_more, fresh_within, head_within}

@@ -1,5 +1,6 @@
 // The direct V0 decoder from block to frame, by docs/RULES.md, "V0" and "The map".
 #![tactic(auto)]
+
 ghost use Rattle.std.specs.Prelude.{◌≡◌};
 ghost use Rattle.v0_cells.specs.Places.{InFrame};
 ghost use Rattle.v0_direct.specs.Run.{inner};

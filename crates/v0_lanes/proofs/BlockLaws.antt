@@ -20,6 +20,11 @@ pub record Ending (q l e₀ e₁ e₂ e₃ : ℕ) : Type 0 where
   pub third : e₂ ≡ q + 4 * byte0 l + 4 * byte1 l + 4 * byte2 l
   pub fourth : e₃ ≡ q + 4 * byte0 l + 4 * byte1 l + 4 * byte2 l + 4 * byte3 l
 
+-- The same from four equations.
+pub endings : (q l e₀ e₁ e₂ e₃ : ℕ) → e₀ ≡ q + 4 * byte0 l → e₁ ≡ q + 4 * byte0 l + 4 * byte1 l → e₂ ≡ q + 4 * byte0 l + 4 * byte1 l + 4 * byte2 l
+    → e₃ ≡ q + 4 * byte0 l + 4 * byte1 l + 4 * byte2 l + 4 * byte3 l → Ending q l e₀ e₁ e₂ e₃
+endings q l e₀ e₁ e₂ e₃ a b c d = record { first = a; second = b; third = c; fourth = d }
+
 module _ {s : List ℕ} {base q l e₀ e₁ e₂ e₃ : ℕ} (packed : Packed l) (ahead : Ahead s base q residuals_ahead) (ends : Ending q l e₀ e₁ e₂ e₃) (a b c d : ℕ)
     (first : Group s base (e₀ - 4 * byte0 l) (byte0 l) (lanes_of a)) (second : Group s base (e₁ - 4 * byte1 l) (byte1 l) (lanes_of b))
     (third : Group s base (e₂ - 4 * byte2 l) (byte2 l) (lanes_of c)) (fourth : Group s base (e₃ - 4 * byte3 l) (byte3 l) (lanes_of d)) (up : Bool) where

@@ -1,5 +1,5 @@
 -- A packed head is the head that the rules read, where its bits are those of a window.
-use Rattle.std.proofs.Common.{◌≡◌, ℕ, zero, suc, ◌+◌, ◌-◌, ◌/◌, ◌%◌, ◌^◌, ◌<◌, ◌≤◌, ltb, List, [], ◌∷◌, get_or, ℤ, pos, sym, refl, ap, subst, arith, w32, SFits}
+use Rattle.std.proofs.Common.{◌≡◌, ℕ, zero, suc, ◌+◌, ◌<◌, ◌≤◌, ltb, List, [], ◌∷◌, get_or, ℤ, pos, sym, refl, ap, subst, arith, w32, SFits}
 use lib.IntN.{sub_ℕ}
 use lib.Signed.{mag}
 use mir.ValLaws.{to_z-of_z}

@@ -1,5 +1,5 @@
 -- A block's residuals, from where their lanes came to their own columns: what phase one stores, and before the next block's or after them.
-use Rattle.std.proofs.Common.{◌≡◌, ℕ, ◌+◌, ◌<◌, ◌≤◌, ltb, ◌≢◌, List, [], ◌∷◌, map, length, get_or, set, sym, refl, ap, ◌∙◌, subst, arith, length-set, get_or-set_other, get_or-set_same, lt-ltb}
+use Rattle.std.proofs.Common.{◌≡◌, ℕ, ◌+◌, ◌<◌, ◌≤◌, ltb, ◌≢◌, List, [], ◌∷◌, map, length, get_or, set, refl, ap, ◌∙◌, subst, arith, length-set, get_or-set_other, get_or-set_same, lt-ltb}
 use native.Mathlib.Decide.{ℕ_discrete}
 use Rattle.rules.specs.V0.{order, sample_kind}
 use Rattle.rules.specs.Phases.{store_samples}

@@ -1,5 +1,5 @@
 -- Four numbers side by side in one number: four residuals of one length in lanes of 16 bits, four lengths in bytes.
-use Rattle.std.specs.Prelude.{ℕ, ◌+◌, ◌-◌, ◌*◌, ◌/◌, ◌%◌, ◌^◌, ◌<◌, List, [], ◌∷◌}
+use Rattle.std.specs.Prelude.{ℕ, ◌+◌, ◌*◌, ◌/◌, ◌%◌, ◌^◌, ◌<◌, List, [], ◌∷◌}
 use Rattle.v0_parse_window.specs.ByWindow.{residual}
 
 -- Four lanes of k bits, the last one lowest.

@@ -1,5 +1,6 @@
 // Four residuals of one length in lanes of one number, and four lengths in its bytes.
 #![tactic(auto)]
+
 pub mod blocks;
 pub mod lengths;
 pub mod predictions;

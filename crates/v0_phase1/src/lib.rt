@@ -1,5 +1,6 @@
 // Phase one: a row's residuals to its samples, and the directions of its blocks to the scratch.
 #![tactic(auto)]
+
 mod run;
 
 ghost use Rattle.std.specs.Prelude.{◌≡◌, cond, ◌++◌, map, ◌+◌, ◌-◌, ◌≤◌, ◌<◌, ltb, length, get_or, set, drop};

@@ -1,5 +1,6 @@
 // Phase two: the prediction of each sample from row 2 on, added to the residual that phase one left in its place.
 #![tactic(auto)]
+
 ghost use Rattle.std.specs.Prelude.{◌≡◌, ◌+◌, ◌-◌, ◌*◌, ◌%◌, ◌<◌, ◌≤◌, true, false, [], ◌∷◌, length, take, drop};
 ghost use Rattle.rules.specs.V0.{order, blocks_in};
 ghost use Rattle.rules.specs.Phases.{late_predictor, predict_samples, predict_blocks, sample_stage};

@@ -1,5 +1,5 @@
 -- Differences by position are those that the reader's state reads: the sixteen of a block out of four windows.
-use Rattle.std.proofs.Common.{◌≡◌, ℕ, zero, suc, ◌+◌, ◌-◌, ◌*◌, ◌/◌, ◌%◌, ◌^◌, ◌<◌, ◌≤◌, min, true, ◌&&◌, leb, List, length, get_or, set, ℤ, pos, sym, refl, ◌∙◌, arith, le-leb, leb-true}
+use Rattle.std.proofs.Common.{◌≡◌, ℕ, zero, suc, ◌+◌, ◌-◌, ◌*◌, ◌/◌, ◌^◌, ◌<◌, ◌≤◌, min, true, ◌&&◌, leb, List, length, get_or, set, ℤ, sym, refl, ◌∙◌, arith, le-leb, leb-true}
 use Rattle.rules.specs.Reader.{word_at, signed, read_signed}
 use Rattle.rules.specs.V2.{position, differences_from}
 use Rattle.rules.specs.declared.reader.Bits.{Bits}

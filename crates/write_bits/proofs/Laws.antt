@@ -23,7 +23,7 @@ use Rattle.write_rules.proofs.BitLists as BitLists
 use Rattle.write_rules.proofs.BitLists.{bits_length, bits_split, bits_join}
 use Rattle.write_rules.proofs.BlockLength.{block_length_is}
 use Rattle.write_rules.proofs.Blocks.{opening_widths, opening, lengths_most}
-use Rattle.write_rules.proofs.PendingLaws.{same_state, Wrote, wrote, wrote_none, wrote_both}
+use Rattle.write_rules.proofs.PendingLaws.{same_state, Wrote, wrote_none, wrote_both}
 use Rattle.write_rules.proofs.Smallest.{smallest_most}
 use Rattle.write_rules.proofs.WeightLaws.{heaviest, weight_short, smallest_by_weight}
 use Rattle.write_bits.specs.Block.{numbers, number_bits, numbers_bits, opening_number, Lengths}

@@ -1,5 +1,6 @@
 // Bits written into a lent buffer, word by word, and a block of V0 or V2. What waits for its word is passed by value.
 #![tactic(auto)]
+
 ghost use Rattle.std.specs.Prelude.{◌≡◌, [], ◌∷◌, ◌++◌, ◌+◌, ◌*◌, ◌-◌, ◌/◌, ◌%◌, ◌^◌, ◌≤◌, ◌<◌, max, false, length, replicate};
 ghost use Rattle.std.proofs.lemmas.List.Edits.{sets};
 ghost use Rattle.write_rules.specs.Writer.{bits_of, gap, Unit, word_bytes, smallest, lengths_for, block_bits};

@@ -12,7 +12,7 @@ use Rattle.rules.specs.Frame.{cells}
 use Rattle.rules.specs.V0.{decoded}
 use Rattle.rules.specs.Map.{v0_map}
 use Rattle.rules.specs.Answer as Plain
-use Rattle.rules.specs.Answer.{Decoder, direct, two_phase, Ask, Lent, done_with, done, refusal, stream_answer, frame_samples, frame_marks, unless_refused, samples_after, map_after}
+use Rattle.rules.specs.Answer.{Decoder, direct, two_phase, v2, Ask, Lent, done_with, done, refusal, stream_answer, frame_samples, frame_marks, unless_refused, samples_after, map_after}
 use Rattle.rules.proofs.Cells.{all_take}
 use Rattle.rules.proofs.Isolation.{Samples, IsV0, is_direct, is_two_phase}
 use Rattle.rules.proofs.Origins.{unmarked_same}
@@ -80,16 +80,19 @@ module _ (p : Proposal) (scratch : List ℕ) (low : Samples scratch) (a : Accept
   unfolding frame_samples
   samples_of direct is_direct old e below = decoded_back old e below
   samples_of two_phase is_two_phase old e below = two_phase_direct p.stream p.offsets p.size old e ∙ decoded_back old e below
+  samples_of v2 v0 old e below = elim v0 [ ]
 
   marks_of : (d : Decoder) → IsV0 d → frame_marks d p.stream p.offsets p.size ≡ replicate (cells p.size) 0
   unfolding frame_marks
   marks_of direct is_direct = marks_0
   marks_of two_phase is_two_phase = marks_0
+  marks_of v2 v0 = elim v0 [ ]
 
   answer_of : (d : Decoder) → IsV0 d → stream_answer d p.stream p.offsets p.size ≡ done
   unfolding stream_answer
   answer_of direct is_direct = ap done_with clean.no_filler
   answer_of two_phase is_two_phase = refl
+  answer_of v2 v0 = elim v0 [ ]
 
   module _ (d : Decoder) (v0 : IsV0 d) (l : Lent) (lends : refusal (asked_of d p) l ≡ 0) where
     pub answered_done : Plain.answer (asked_of d p) l ≡ done

@@ -3,7 +3,7 @@
 -- anywhere past what was written.
 use Prim.Native.Nat.{ℕ, ◌^◌, ◌≤◌, ◌<◌}
 use mathlib.Core.Path.{◌≡◌, refl, sym, ap, ap₂, ◌∙◌}
-use mathlib.Core.List.{List, ◌++◌}
+use mathlib.Core.List.{◌++◌}
 use mathlib.Core.Option
 use mathlib.Core.Option.{none, some}
 use native.Mathlib.Omega.{arith}
@@ -11,7 +11,7 @@ use lib.ListN.{length, take, drop, replicate, length-append}
 use lib.Seq.{take-length}
 use Rattle.rules.specs.Frame.{cells}
 use Rattle.rules.specs.Answer as Plain
-use Rattle.rules.specs.Answer.{Decoder, direct, two_phase, done}
+use Rattle.rules.specs.Answer.{Decoder, direct, two_phase, v2, done}
 use Rattle.rules.proofs.Cells.{All}
 use Rattle.rules.proofs.Isolation.{Returned, IsV0, is_direct, is_two_phase}
 use Rattle.rules_clean.proofs.Calls.{taken_done}
@@ -66,6 +66,7 @@ module _ (w : Wrote) (n k : ℕ) (q : Kept w n k) where
   unfolding Plain.frame_marks
   marks_are direct is_direct = clean_map _ _ _ clean_left
   marks_are two_phase is_two_phase = clean_map _ _ _ clean_left
+  marks_are v2 v0 = elim v0 [ ]
 
   again_is : (d : Decoder) → asked_of d (kept w n k) ≡ again w.call n k d
   again_is d =

@@ -1,4 +1,3 @@
-use Prim.Native.Nat.{◌-◌}
 use native.Mathlib.Omega.{arith}
 use Rattle.frame_blank.proofs.FrameLaws.{row_room, row_lent, rows_blanked_none, rows_blanked_more, rows_blanked_all}
 use Rattle.frame_blank.proofs.blank_frame.Goals as goal
@@ -30,4 +29,8 @@ loop-row-preserved c =
     rows_blanked_more c.loop-row.invariant c.requires (omega arith) _ _ _ r.ensures
 
 pub returns : goal.returns
-returns c = rows_blanked_all (omega arith) c.requires c.loop-row.invariant
+returns c =
+    let r = rows_blanked_all (omega arith) c.requires c.loop-row.invariant in record {
+      samples = r.0;
+      runs = r.1;
+    }

@@ -1,10 +1,8 @@
-use Prim.Native.Nat.{◌-◌}
-use mathlib.Core.Bool.{true}
 use mathlib.Core.Path.{sym, ◌∙◌}
 use native.Mathlib.Omega.{arith}
-use Rattle.frame_blank.proofs.ByteLaws.{zero_unmarked}
+use Rattle.frame_blank.proofs.ByteLaws.{zero_unmarked, other_marked}
 use Rattle.frame_blank.proofs.RunLaws.{stretch_more}
-use Rattle.frame_blank.proofs.RowLaws.{filled_none, filled_unmarked, filled_run, listed_none, listed_passed, run_room, listed_run, row_blanked, row_unmarked}
+use Rattle.frame_blank.proofs.RowLaws.{filled_none, filled_unmarked, filled_run, listed_none, listed_passed, run_within, run_room, listed_run, row_blanked, row_unmarked}
 use Rattle.frame_blank.proofs.blank_row.Goals as goal
 
 pub returns-then-greatest_of-eq0 : goal.returns-then-greatest_of-eq0
@@ -22,39 +20,39 @@ loop-col-preserved-then-map-col-eq0 c =
     (listed_passed l.invariant.0 (omega arith) none, filled_unmarked a.fill a.samples.now a.map.now l.invariant.1 (omega arith) none)
 
 pub set_run-requires : goal.set_run-requires
-set_run-requires c =
-    let d = c.before.before.before in
-    omega (arith, run_in d, (at-loop d).loop.invariant.1.kept, (at-start (at-loop d)).pre.written)
+set_run-requires c = omega (arith, run_within c.loop-col.invariant.0 (omega arith) (other_marked _ c.if-map-col-eq0.false) _ c.stretch_at-columns.ensures, c.loop-col.invariant.1.kept, c.requires.written)
 
 pub put_run-requires : goal.put_run-requires
 put_run-requires c =
-    let d = after-stretch-at c.before.before in
-    let p = (at-start (at-loop d)).pre in
-    (run_room (at-loop d).loop.inv.0 (omega arith) (met d) _ d.stretch-at.ensures p.room, (p.few, (omega (arith, p.wide), omega (arith, p.wide, run_in d))))
+    let p = c.requires in
+    let l = c.loop-col.invariant.0 in
+    let m = other_marked _ c.if-map-col-eq0.false in
+    let s = c.stretch_at-columns.ensures in
+    (run_room l (omega arith) m _ s p.room, (p.few, (omega (arith, p.wide), omega (arith, p.wide, run_within l (omega arith) m _ s))))
 
 pub overflow_add-at : goal.overflow_add-at
 overflow_add-at c =
-    let d = after-stretch-at (after-samples c) in
-    let l = at-loop d in
-    omega (arith, run_room l.loop.inv.0 (omega arith) (met d) _ d.stretch-at.ensures (at-start l).pre.room, l.loop.inv.0.kept, list-fits l)
+    let l = c.loop-col.invariant.0 in
+    omega (arith, run_room l (omega arith) (other_marked _ c.if-map-col-eq0.false) _ c.stretch_at-columns.ensures c.requires.room, l.kept)
 
 pub overflow_add-col-else-map-col-eq0 : goal.overflow_add-col-else-map-col-eq0
-overflow_add-col-else-map-col-eq0 c = omega (arith, run_in (after-stretch-at (after-samples c)))
+overflow_add-col-else-map-col-eq0 c =
+    omega (arith, run_within c.loop-col.invariant.0 (omega arith) (other_marked _ c.if-map-col-eq0.false) _ c.stretch_at-columns.ensures)
 
 pub loop-col-smaller : goal.loop-col-smaller
 loop-col-smaller c =
-    let d = after-stretch-at (after-samples c) in
-    let l = at-loop d in
-    omega (arith, stretch_more (at-start l).args.map.now l.loop.col (omega arith) (met d), d.stretch-at.ensures, run_in d)
+    let m = other_marked _ c.if-map-col-eq0.false in
+    let s = c.stretch_at-columns.ensures in
+    omega (arith, stretch_more c.args.map.now c.loop-col.col (omega arith) m, s, run_within c.loop-col.invariant.0 (omega arith) m _ s)
 
 pub loop-col-preserved : goal.loop-col-preserved
 loop-col-preserved c =
-    let d = after-stretch-at (after-samples c) in
-    let l = (at-loop d).loop in
-    let s = at-start (at-loop d) in
-    let a = s.args in (
-      listed_run l.inv.0 (omega arith) (met d) d.stretch-at.result d.stretch-at.ensures _ c.before.before.put-run.ensures,
-      filled_run a.fill a.samples.now a.map.now d.stretch-at.result _ _ l.inv.1 s.pre.written (run_in d) d.stretch-at.ensures (after-samples c).before.before.before.turns_at.ensures (after-samples c).before.set-run.ensures,
+    let a = c.args in
+    let l = c.loop-col in
+    let m = other_marked _ c.if-map-col-eq0.false in
+    let s = c.stretch_at-columns in (
+      listed_run l.invariant.0 (omega arith) m s.result s.ensures _ c.put_run.ensures,
+      filled_run a.fill a.samples.now a.map.now s.result _ _ l.invariant.1 c.requires.written (run_within l.invariant.0 (omega arith) m s.result s.ensures) s.ensures c.turns_at-turns.ensures c.set_run.ensures,
     )
 
 pub returns : goal.returns

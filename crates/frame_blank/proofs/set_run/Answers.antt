@@ -1,4 +1,3 @@
-use Prim.Native.Nat.{◌-◌}
 use native.Mathlib.Omega.{arith}
 use lib.ListN.{length-set}
 use Rattle.frame_blank.proofs.RowLaws.{turned_none, turned_two, turned_last, turned_all}

@@ -1,4 +1,3 @@
-use Prim.Native.Nat.{◌-◌}
 use native.Mathlib.Omega.{arith}
 use Rattle.frame_blank.proofs.ByteLaws.{zero_unmarked, other_marked}
 use Rattle.frame_blank.proofs.RunLaws.{stretch_more, stretch_stops, stretch_gone}

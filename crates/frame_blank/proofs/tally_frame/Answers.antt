@@ -1,4 +1,3 @@
-use Prim.Native.Nat.{◌-◌}
 use native.Mathlib.Omega.{arith}
 use Rattle.frame_blank.proofs.FrameLaws.{row_room, row_length, rows_tallied_none, rows_tallied_more, tallied_few, rows_tallied_all}
 use Rattle.frame_blank.proofs.tally_frame.Goals as goal

@@ -7,7 +7,7 @@ use Rattle.frame_blank.proofs.turns_at.Goals as goal
 
 pub returns-in-Stated : goal.returns-in-Stated
 unfolding turns
-returns-in-Stated c = rw c.fill-1.given.1
+returns-in-Stated c = rw c.in-Stated.is
 
 pub returns-in-Unstated : goal.returns-in-Unstated
 unfolding turns

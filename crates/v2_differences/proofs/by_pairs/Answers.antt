@@ -1,4 +1,4 @@
-use Rattle.std.proofs.Common.{◌-◌, sym, refl, ◌∙◌, arith, w32, rules}
+use Rattle.std.proofs.Common.{sym, refl, ◌∙◌, arith, w32, rules}
 use mir.ValLaws.{to_z-of_z}
 use Rattle.v2_differences.proofs.DifferenceLaws.{difference_end}
 use Rattle.v2_differences.proofs.PairLaws.{pair_more}

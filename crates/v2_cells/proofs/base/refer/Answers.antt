@@ -1,4 +1,3 @@
-use Prim.Native.Nat.{◌-◌}
 use native.Mathlib.Omega.{arith}
 use Rattle.v2_cells.proofs.BaseLaws.{along_inside}
 use Rattle.v2_cells.proofs.Fill.{filled_none, filled_more, filled_all}

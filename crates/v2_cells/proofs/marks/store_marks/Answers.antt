@@ -1,4 +1,3 @@
-use Prim.Native.Nat.{◌-◌}
 use Rattle.v2_cells.proofs.Fill.{stored_none, stored_more, stored_all}
 use Rattle.v2_cells.proofs.marks.store_marks.Goals as goal
 

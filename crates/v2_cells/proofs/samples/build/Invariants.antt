@@ -2,8 +2,6 @@
 use Prim.Native.Nat.{◌-◌}
 use lib.IntN.{pos}
 use lib.ListN.{get_or}
-use mir.Syntax.{w32}
-use mir.Val.{to_z}
 use Rattle.rules.specs.V2.{sample}
 use Rattle.v2_cells.proofs.Fill.{Filled}
 use Rattle.v2_cells.proofs.samples.build.Given as goal

@@ -1,4 +1,3 @@
-use Prim.Native.Nat.{◌-◌}
 use native.Mathlib.Omega.{arith}
 use Rattle.v2_cells.proofs.Fill.{stored_none, stored_more, stored_all}
 use Rattle.v2_cells.proofs.samples.store.Goals as goal

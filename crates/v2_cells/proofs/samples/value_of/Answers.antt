@@ -10,12 +10,14 @@ use Rattle.v2_cells.proofs.samples.value_of.Goals as goal
 pub unscaled-requires : goal.unscaled-requires
 unscaled-requires c =
     let a = c.args in
-    rw (to_z-of_z w32 a.d c.ranges.d) (record { sfits = rw ((let none_here : (c.args.scale ≡ pos 0) = sym (to_z-of_z w32 c.args.scale c.ranges.scale) ∙ ap (to_z w32) c.if-scale-eq0.true in none_here), value_unscaled a.base a.d) at c.requires.whole })
+    let none : a.scale ≡ pos 0 = sym (to_z-of_z w32 a.scale c.ranges.scale) ∙ ap (to_z w32) c.if-scale-eq0.true in
+    rw (to_z-of_z w32 a.d c.ranges.d) (record { sfits = rw (none, value_unscaled a.base a.d) at c.requires.whole })
 
 pub returns-then-scale-eq0 : goal.returns-then-scale-eq0
 returns-then-scale-eq0 c =
     let a = c.args in
-    rw (to_z-of_z w32 c.unscaled.result (record { sfits = c.unscaled.type_inv }), (let none_here : (c.args.scale ≡ pos 0) = sym (to_z-of_z w32 c.args.scale c.ranges.scale) ∙ ap (to_z w32) c.if-scale-eq0.true in none_here), value_unscaled a.base a.d) (rw (to_z-of_z w32 a.d c.ranges.d) at c.unscaled.ensures)
+    let none : a.scale ≡ pos 0 = sym (to_z-of_z w32 a.scale c.ranges.scale) ∙ ap (to_z w32) c.if-scale-eq0.true in
+    rw (to_z-of_z w32 c.unscaled.result (record { sfits = c.unscaled.type_inv }), none, value_unscaled a.base a.d) (rw (to_z-of_z w32 a.d c.ranges.d) at c.unscaled.ensures)
 
 pub returns : goal.returns
 returns c =

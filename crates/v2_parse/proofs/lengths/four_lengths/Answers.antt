@@ -1,4 +1,4 @@
-use Rattle.std.proofs.Common.{◌-◌, false, sym, refl, ◌∙◌, arith}
+use Rattle.std.proofs.Common.{sym, refl, ◌∙◌, arith}
 use Rattle.v2_parse.proofs.LengthLaws.{length_goes_on, length_too_long, lengths_end, flagged_are, flag_below}
 use Rattle.v2_parse.proofs.lengths.four_lengths.Goals as goal
 

@@ -1,0 +1,31 @@
+-- A row from its beginning on.
+use mathlib.Core.Path.{◌≡◌, ◌∙◌}
+use native.Mathlib.Omega.{arith}
+use lib.ListN.{get_or}
+use Rattle.rules_clean.specs.Verdict.{row_fault}
+use Rattle.v0_clean.specs.Row.{Decides}
+use Rattle.v0_clean.proofs.RowLaws.{row_begun}
+use Rattle.v0_clean.proofs.FrameLaws.{row_lent, row_found, row_clean}
+use Rattle.v0_clean.proofs.check_row.Goals as goal
+
+pub offset_bounds-offsets-row : goal.offset_bounds-offsets-row
+offset_bounds-offsets-row c = omega arith
+
+pub bounds-offsets-row : goal.bounds-offsets-row
+bounds-offsets-row c = omega arith
+
+pub check_from-fault-requires : goal.check_from-fault-requires
+check_from-fault-requires c = let p = c.requires in (row_lent p.1 p.0, ((let begun_here : (let a = c.args in Decides a.src.now a.size a.row (row_fault a.src.now a.size a.row (get_or a.offsets.now a.row 0)) (record { col = 0; state = c.fresh-state.result })) = let a = c.args in row_begun a.src.now a.size a.row _ c.fresh-state.result c.fresh-state.ensures in begun_here)).placed)
+
+pub told-requires : goal.told-requires
+told-requires c = let p = c.requires in omega (arith, p.0.height, p.1)
+
+pub returns-then-fault-ne0 : goal.returns-then-fault-ne0
+returns-then-fault-ne0 c =
+    let a = c.args in
+    c.told.ensures ∙ row_found a.src.now a.offsets.now a.size a.row c.check_from-fault.result ((let fault_here : (let a = c.args in c.check_from-fault.result ≡ row_fault a.src.now a.size a.row (get_or a.offsets.now a.row 0)) = c.check_from-fault.ensures ∙ ((let begun_here : (let a = c.args in Decides a.src.now a.size a.row (row_fault a.src.now a.size a.row (get_or a.offsets.now a.row 0)) (record { col = 0; state = c.fresh-state.result })) = let a = c.args in row_begun a.src.now a.size a.row _ c.fresh-state.result c.fresh-state.ensures in begun_here)).left in fault_here)) c.if-fault-ne0.true
+
+pub returns : goal.returns
+returns c =
+    let a = c.args in
+    c.done.ensures ∙ row_clean a.src.now a.offsets.now a.size a.row c.check_from-fault.result ((let fault_here : (let a = c.args in c.check_from-fault.result ≡ row_fault a.src.now a.size a.row (get_or a.offsets.now a.row 0)) = c.check_from-fault.ensures ∙ ((let begun_here : (let a = c.args in Decides a.src.now a.size a.row (row_fault a.src.now a.size a.row (get_or a.offsets.now a.row 0)) (record { col = 0; state = c.fresh-state.result })) = let a = c.args in row_begun a.src.now a.size a.row _ c.fresh-state.result c.fresh-state.ensures in begun_here)).left in fault_here)) c.if-fault-ne0.false

@@ -1,0 +1,26 @@
+-- The block after a run goes on from it.
+use native.Mathlib.Omega.{arith}
+use Rattle.v0_phase1.specs.Ran.{also}
+use Rattle.v0_phase1.proofs.ResidualLaws.{near_enough}
+use Rattle.v0_phase1.proofs.RunLaws.{ran_further, ran_samples, ran_directions, ran_within}
+use Rattle.v0_phase1.proofs.parse_some.Goals as goal
+
+pub parse_block-after-requires : goal.parse_block-after-requires
+parse_block-after-requires c =
+    let l = c.requires in let r = c.parse_run-run.ensures.ran in
+    record {
+      near = near_enough _ c.parse_run-run.result.k (omega (arith, l.row.width)) (ran_within l.near r);
+      row = record {
+        width = l.row.width;
+        samples_lent = omega (arith, ran_samples r, l.row.samples_lent);
+        directions_lent = omega (arith, ran_directions r, l.row.directions_lent);
+      };
+      block_in = omega arith;
+    }
+
+pub returns-then-at-blocks_in : goal.returns-then-at-blocks_in
+returns-then-at-blocks_in c =
+    (also c.parse_run-run.ensures.ran (omega arith) c.parse_block-after.auto.out c.parse_block-after.ensures, omega (arith, ran_further c.parse_run-run.ensures.ran))
+
+pub returns : goal.returns
+returns c = (c.parse_run-run.ensures.ran, omega (arith, c.requires.block_in))

@@ -1,0 +1,10 @@
+-- A weight is below 2^17.
+use native.Mathlib.Omega.{arith}
+use Rattle.write_bits.proofs.Laws.{weight_low, weight_high}
+use Rattle.write_bits.proofs.weight_of.Goals as goal
+
+pub returns-then-x-lt32768 : goal.returns-then-x-lt32768
+returns-then-x-lt32768 c = weight_low c.args.d (omega arith)
+
+pub returns : goal.returns
+returns c = weight_high c.args.d (omega arith)

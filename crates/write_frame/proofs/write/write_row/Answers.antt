@@ -1,0 +1,63 @@
+use mathlib.Core.Path.{sym, ◌∙◌}
+use Prim.Native.Nat.{◌≤◌}
+use native.Mathlib.Omega.{arith}
+use Rattle.write_rules.proofs.PendingLaws.{wrote}
+use Rattle.write_frame.specs.Frames.{coding}
+use Rattle.write_frame.proofs.CodingLaws.{unit_is, width_is, coding_unit, format_unit, block_short, block_lent}
+use Rattle.write_frame.proofs.RowLaws.{row_begun, block_room, row_on, fourth, end_is, row_gone}
+use Rattle.write_frame.proofs.write.write_row.Goals as goal
+
+pub none-p-requires : goal.none-p-requires
+none-p-requires c = tt
+
+pub loop-col-init : goal.loop-col-init
+loop-col-init c = row_begun _ _ _ _ _ c.none-p.ensures
+
+pub numbers_of-d-requires : goal.numbers_of-d-requires
+numbers_of-d-requires c =
+    block_lent c.requires.0 c.requires.1 (omega arith) c.loop-col.invariant.whole
+
+pub put_block-p-requires : goal.put_block-p-requires
+put_block-p-requires c =
+    let a = c.args in
+    let l = c.loop-col in
+    let e = c.numbers_of-d.ensures in
+    (l.invariant.wrote.count_small, block_short _ _ _ _ _ _ c.requires.0 c.requires.1 _ e, block_room (coding_unit _ _ _ _) l.invariant _ e (omega (arith, width_is a.width a.height a.samples.now a.format)) c.requires.3)
+
+pub overflow_add-col : goal.overflow_add-col
+overflow_add-col c =
+    let a = c.args in
+    let l = c.loop-col in
+    record { fits = omega (arith, l.invariant.most, width_is a.width a.height a.samples.now a.format, c.requires.0.wide) }
+
+pub loop-col-smaller : goal.loop-col-smaller
+loop-col-smaller c = let a = c.args in let l = c.loop-col in omega (arith, l.invariant.most, width_is a.width a.height a.samples.now a.format)
+
+pub loop-col-preserved : goal.loop-col-preserved
+loop-col-preserved c =
+    let a = c.args in
+    let l = c.loop-col in
+    row_on (coding_unit _ _ _ _) l.invariant _ _ _ c.numbers_of-d.ensures (omega (arith, width_is a.width a.height a.samples.now a.format)) (wrote c.put_block-p.ensures)
+
+pub unit_of-requires : goal.unit_of-requires
+unit_of-requires c = tt
+
+pub finish-q-requires : goal.finish-q-requires
+finish-q-requires c =
+    let a = c.args in
+    let l = c.loop-col in
+    let e = c.unit_of.ensures in
+    let v = e ∙ sym (unit_is a.width a.height a.samples.now a.format) in
+    let past : (coding a.format a.width a.height a.samples.now).width ≤ l.col = omega (arith, width_is a.width a.height a.samples.now a.format) in (
+      rw e (format_unit a.format),
+      l.invariant.wrote.count_small,
+      fourth (coding_unit _ _ _ _) l.invariant _ v (rw e c.requires.2) past,
+      omega (arith, end_is (coding_unit _ _ _ _) l.invariant _ v (rw e c.requires.2) past, l.invariant.wrote.length_is, c.requires.3),
+    )
+
+pub returns : goal.returns
+returns c =
+    let a = c.args in
+    let l = c.loop-col in
+    let e = c.unit_of.ensures in
+    row_gone (coding_unit _ _ _ _) l.invariant _ (e ∙ sym (unit_is a.width a.height a.samples.now a.format)) (rw e c.requires.2) (omega (arith, width_is a.width a.height a.samples.now a.format)) _ _ (wrote c.finish-q.ensures)
