@@ -107,11 +107,13 @@ v0_samples : (k : Decoder) → IsV0 k → (s o : List ℕ) (z : Size) (f : List 
 unfolding frame_samples
 v0_samples direct is_direct s o z f e = refl
 v0_samples two_phase is_two_phase s o z f e = two_phase_direct s o z f e
+v0_samples v2 x s o z f e = elim x [ ]
 
 v0_marks : (k : Decoder) → IsV0 k → (s o : List ℕ) (z : Size) → frame_marks k s o z ≡ v0_map s o z
 unfolding frame_marks
 v0_marks direct is_direct s o z = refl
 v0_marks two_phase is_two_phase s o z = refl
+v0_marks v2 x s o z = elim x [ ]
 
 decoded_kept : (s o o' : List ℕ) (z : Size) (r : ℕ) → AgreeBefore r o o' → (f : List ℕ) (i : ℕ) → i < whole_pairs r * z.width
     → get_or (V0.decoded s o z f) i 0 ≡ get_or (V0.decoded s o' z f) i 0

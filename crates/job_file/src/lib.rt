@@ -2,6 +2,7 @@
 // its text made, which the program then writes. No contract can say which bytes a reader gives; that what is made of them is the
 // job's text of some input is `read_job`'s.
 #![tactic(auto)]
+
 ghost use Rattle.std.specs.Prelude.{◌≡◌, true, ◌≤◌, length, IfOk, OnErr};
 ghost use Rattle.rules.specs.Job.{most_input};
 ghost use Rattle.job.specs.Written.{Holds};
