@@ -1,6 +1,7 @@
 // The exports for C and Rust hosts: `rt staticlib razvolk` writes the archive. Each export is one call, with its entry's whole
 // contract; every slice is a pointer and then a length in elements.
 #![tactic(auto)]
+
 pub mod blanks;
 pub mod clean;
 pub mod colour;

@@ -2,13 +2,12 @@
 // how many differ. Past the end of the file every number reads as the reader's filler, what is larger than the buffers is cut to
 // them, and a call for which the file has no bytes counts as one that differs: so a broken record shows as calls that differ.
 #![tactic(auto)]
+
 mod call;
 mod samples;
 
 use call::{differs, end_at, word};
-use std::env;
-use std::fs;
-use std::io;
+use std::{env, fs, io};
 
 const INPUT: usize = 140_000;
 

@@ -1,5 +1,5 @@
 -- A head by position is the one that the record reads: its nine bits at once, then one length after another.
-use Rattle.std.proofs.Common.{◌≡◌, ℕ, zero, ◌+◌, ◌-◌, ◌*◌, ◌/◌, ◌%◌, ◌^◌, ◌<◌, ◌≤◌, Bool, true, false, cond, eqb, List, [], ◌∷◌, length, get_or, ℤ, pos, sym, refl, ap, ◌∙◌, arith, w32, SFits, to_z, of_z, eqb-true}
+use Rattle.std.proofs.Common.{◌≡◌, ℕ, ◌+◌, ◌-◌, ◌*◌, ◌/◌, ◌%◌, ◌^◌, ◌<◌, ◌≤◌, Bool, true, false, cond, eqb, List, [], ◌∷◌, length, get_or, ℤ, pos, sym, refl, ap, ◌∙◌, arith, w32, SFits, to_z, of_z, eqb-true}
 use lib.Signed.{mag}
 use mir.ValLaws.{to_z-of_z}
 use mir.Facts.{to_z_pos}

@@ -1,6 +1,5 @@
-use Prim.Native.Nat.{◌+◌, ◌*◌, ◌≤◌}
+use Prim.Native.Nat.{◌+◌, ◌*◌}
 use native.Mathlib.Omega.{arith}
-use Rattle.rules.specs.Frame.{cells}
 use Rattle.frame_planes.proofs.HalfLaws.{put_none, put_more, put_all}
 use Rattle.frame_planes.proofs.FrameLaws.{row_room, parity_row, parity_rows, parity_row_length, put_lent}
 use Rattle.frame_planes.proofs.put_rows.Goals as goal
@@ -9,22 +8,22 @@ pub loop-k-init : goal.loop-k-init
 loop-k-init c = put_none _ _ _ _
 
 pub overflow_mul-at-in-loop-k : goal.overflow_mul-at-in-loop-k
-overflow_mul-at-in-loop-k c = omega (arith, (let row_in_here : (let a = c.args in ((2 * c.loop-k.k + a.parity) * a.size.width + a.size.width ≤ cells a.size) × (cells a.size ≤ 268_435_456)) = row_room c.args.size (2 * c.loop-k.k + c.args.parity) c.requires.within (omega (arith, c.requires.bit)) in row_in_here), c.requires.read)
+overflow_mul-at-in-loop-k c = omega (arith, row_room c.args.size (2 * c.loop-k.k + c.args.parity) c.requires.within (omega (arith, c.requires.bit)), c.requires.read)
 
 pub overflow_add-end : goal.overflow_add-end
-overflow_add-end c = omega (arith, (let row_in_here : (let a = c.args in ((2 * c.loop-k.k + a.parity) * a.size.width + a.size.width ≤ cells a.size) × (cells a.size ≤ 268_435_456)) = row_room c.args.size (2 * c.loop-k.k + c.args.parity) c.requires.within (omega (arith, c.requires.bit)) in row_in_here), c.requires.read)
+overflow_add-end c = omega (arith, row_room c.args.size (2 * c.loop-k.k + c.args.parity) c.requires.within (omega (arith, c.requires.bit)), c.requires.read)
 
 pub offset_bounds-samples-at : goal.offset_bounds-samples-at
-offset_bounds-samples-at c = omega (arith, (let row_in_here : (let a = c.args in ((2 * c.loop-k.k + a.parity) * a.size.width + a.size.width ≤ cells a.size) × (cells a.size ≤ 268_435_456)) = row_room c.args.size (2 * c.loop-k.k + c.args.parity) c.requires.within (omega (arith, c.requires.bit)) in row_in_here), c.requires.read)
+offset_bounds-samples-at c = omega (arith, row_room c.args.size (2 * c.loop-k.k + c.args.parity) c.requires.within (omega (arith, c.requires.bit)), c.requires.read)
 
 pub slice_bounds-put_row-count : goal.slice_bounds-put_row-count
-slice_bounds-put_row-count c = omega (arith, (let row_in_here : (let a = c.args in ((2 * c.loop-k.k + a.parity) * a.size.width + a.size.width ≤ cells a.size) × (cells a.size ≤ 268_435_456)) = row_room c.args.size (2 * c.loop-k.k + c.args.parity) c.requires.within (omega (arith, c.requires.bit)) in row_in_here), c.requires.read)
+slice_bounds-put_row-count c = omega (arith, row_room c.args.size (2 * c.loop-k.k + c.args.parity) c.requires.within (omega (arith, c.requires.bit)), c.requires.read)
 
 pub slice_bounds-put_row-start : goal.slice_bounds-put_row-start
-slice_bounds-put_row-start c = omega (arith, (let row_in_here : (let a = c.args in ((2 * c.loop-k.k + a.parity) * a.size.width + a.size.width ≤ cells a.size) × (cells a.size ≤ 268_435_456)) = row_room c.args.size (2 * c.loop-k.k + c.args.parity) c.requires.within (omega (arith, c.requires.bit)) in row_in_here), c.requires.read)
+slice_bounds-put_row-start c = omega (arith, row_room c.args.size (2 * c.loop-k.k + c.args.parity) c.requires.within (omega (arith, c.requires.bit)), c.requires.read)
 
 pub slice_bounds-put_row-end : goal.slice_bounds-put_row-end
-slice_bounds-put_row-end c = omega (arith, (let row_in_here : (let a = c.args in ((2 * c.loop-k.k + a.parity) * a.size.width + a.size.width ≤ cells a.size) × (cells a.size ≤ 268_435_456)) = row_room c.args.size (2 * c.loop-k.k + c.args.parity) c.requires.within (omega (arith, c.requires.bit)) in row_in_here), c.requires.read)
+slice_bounds-put_row-end c = omega (arith, row_room c.args.size (2 * c.loop-k.k + c.args.parity) c.requires.within (omega (arith, c.requires.bit)), c.requires.read)
 
 pub put_row-requires : goal.put_row-requires
 put_row-requires c =

@@ -1,6 +1,6 @@
 -- The bits less what two's complement takes off, in 64 signed bits; the difference has 32.
 use mathlib.Core.Path.{◌≡◌}
-use Prim.Native.Nat.{ℕ, ◌<◌, ◌^◌}
+use Prim.Native.Nat.{ℕ, ◌*◌, ◌/◌, ◌<◌, ◌≤◌, ◌^◌}
 use native.Mathlib.Omega.{arith}
 use lib.IntN.{pos, ◌-ℤ◌}
 use lib.Pow.{pow_mono}
@@ -16,24 +16,34 @@ use Rattle.read_fields.proofs.signed_of.Goals as goal
 read_back : (n : ℕ) → n < 2 ^ 63 → to_z w64 n ≡ pos n
 read_back n h = simp (lt-ltb n (2 ^ 63) h)
 
+-- What is taken off fits, and the difference is the number.
+module _ {k v s : ℕ} (most : k ≤ 32) (below : v < 2 ^ k) (off : s ≡ v * 2 / 2 ^ k * 2 ^ k) where
+  small : s < 2 ^ 63
+  small = omega (arith, off, sign_most k v below, pow_mono most)
+
+  difference : to_z w64 v -ℤ to_z w64 s ≡ signed k v
+  difference = rw (read_back v (omega (arith, pow_mono most)), read_back s small, off) (signed_is k v below)
+
+  bound : mag (signed k v) < 2 ^ 31
+  bound = signed_mag 31 k v most below
+
+  wide : SFits w64 (signed k v)
+  wide = record { sfits = omega (arith, bound) }
+
 pub overflow_cast-result-2 : goal.overflow_cast-result-2
-overflow_cast-result-2 c = record { sfits = (let small_here : (c.sign_part.result < 2 ^ 63) = omega (arith, c.sign_part.ensures, sign_most c.args.k c.args.v c.requires.1, pow_mono c.requires.0) in small_here) }
+overflow_cast-result-2 c = record { sfits = small c.requires.0 c.requires.1 c.sign_part.ensures }
 
 pub overflow_sub-result : goal.overflow_sub-result
-overflow_sub-result c = rw ((let difference_here : (let a = c.args in to_z w64 a.v -ℤ to_z w64 c.sign_part.result ≡ signed a.k a.v) = let a = c.args in
-    rw (read_back a.v (omega arith), read_back c.sign_part.result ((let small_here : (c.sign_part.result < 2 ^ 63) = omega (arith, c.sign_part.ensures, sign_most c.args.k c.args.v c.requires.1, pow_mono c.requires.0) in small_here)), c.sign_part.ensures) (signed_is a.k a.v c.requires.1) in difference_here)) ((let wide_here : (let a = c.args in SFits w64 (signed a.k a.v)) = record { sfits = omega (arith, (let bound_here : (let a = c.args in mag (signed a.k a.v) < 2 ^ 31) = signed_mag 31 c.args.k c.args.v c.requires.0 c.requires.1 in bound_here)) } in wide_here))
+overflow_sub-result c = let p = c.requires in let s = c.sign_part.ensures in rw (difference p.0 p.1 s) (wide p.0 p.1 s)
 
 pub overflow_cast-result-3 : goal.overflow_cast-result-3
-overflow_cast-result-3 c = rw (
-  (let difference_here : (let a = c.args in to_z w64 a.v -ℤ to_z w64 c.sign_part.result ≡ signed a.k a.v) = let a = c.args in
-      rw (read_back a.v (omega arith), read_back c.sign_part.result ((let small_here : (c.sign_part.result < 2 ^ 63) = omega (arith, c.sign_part.ensures, sign_most c.args.k c.args.v c.requires.1, pow_mono c.requires.0) in small_here)), c.sign_part.ensures) (signed_is a.k a.v c.requires.1) in difference_here),
-  to_z-of_z w64 _ ((let wide_here : (let a = c.args in SFits w64 (signed a.k a.v)) = record { sfits = omega (arith, (let bound_here : (let a = c.args in mag (signed a.k a.v) < 2 ^ 31) = signed_mag 31 c.args.k c.args.v c.requires.0 c.requires.1 in bound_here)) } in wide_here)),
-) (record { sfits = (let bound_here : (let a = c.args in mag (signed a.k a.v) < 2 ^ 31) = signed_mag 31 c.args.k c.args.v c.requires.0 c.requires.1 in bound_here) })
+overflow_cast-result-3 c =
+    let p = c.requires in
+    let s = c.sign_part.ensures in
+    rw (difference p.0 p.1 s, to_z-of_z w64 _ (wide p.0 p.1 s)) (record { sfits = bound p.0 p.1 s })
 
 pub returns : goal.returns
-returns c = rw (
-  (let difference_here : (let a = c.args in to_z w64 a.v -ℤ to_z w64 c.sign_part.result ≡ signed a.k a.v) = let a = c.args in
-      rw (read_back a.v (omega arith), read_back c.sign_part.result ((let small_here : (c.sign_part.result < 2 ^ 63) = omega (arith, c.sign_part.ensures, sign_most c.args.k c.args.v c.requires.1, pow_mono c.requires.0) in small_here)), c.sign_part.ensures) (signed_is a.k a.v c.requires.1) in difference_here),
-  to_z-of_z w64 _ ((let wide_here : (let a = c.args in SFits w64 (signed a.k a.v)) = record { sfits = omega (arith, (let bound_here : (let a = c.args in mag (signed a.k a.v) < 2 ^ 31) = signed_mag 31 c.args.k c.args.v c.requires.0 c.requires.1 in bound_here)) } in wide_here)),
-  to_z-of_z w32 _ (record { sfits = (let bound_here : (let a = c.args in mag (signed a.k a.v) < 2 ^ 31) = signed_mag 31 c.args.k c.args.v c.requires.0 c.requires.1 in bound_here) }),
-)
+returns c =
+    let p = c.requires in
+    let s = c.sign_part.ensures in
+    rw (difference p.0 p.1 s, to_z-of_z w64 _ (wide p.0 p.1 s), to_z-of_z w32 _ (record { sfits = bound p.0 p.1 s }))

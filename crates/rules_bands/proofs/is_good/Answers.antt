@@ -22,7 +22,7 @@ pub bounds-steps-i : goal.bounds-steps-i
 bounds-steps-i c = omega arith
 
 pub overflow_cast-n : goal.overflow_cast-n
-overflow_cast-n c = omega (arith, c.shared_slice_known-in-loop-i-1.given c.loop-i.i)
+overflow_cast-n c = omega (arith, c.type_inv.steps c.loop-i.i)
 
 pub returns-then-count-n : goal.returns-then-count-n
 returns-then-count-n c = outside _ _ _ _ c.requires.0 c.requires.1 _ c.blocks_in_band-blocks.ensures _ (omega (arith, c.if-steps-count.false)) _ _ c.loop-i.invariant.1 c.loop-i-test.true c.if-count-n.true

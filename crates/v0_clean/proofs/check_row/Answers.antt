@@ -1,9 +1,6 @@
 -- A row from its beginning on.
-use mathlib.Core.Path.{◌≡◌, ◌∙◌}
+use mathlib.Core.Path.{◌∙◌}
 use native.Mathlib.Omega.{arith}
-use lib.ListN.{get_or}
-use Rattle.rules_clean.specs.Verdict.{row_fault}
-use Rattle.v0_clean.specs.Row.{Decides}
 use Rattle.v0_clean.proofs.RowLaws.{row_begun}
 use Rattle.v0_clean.proofs.FrameLaws.{row_lent, row_found, row_clean}
 use Rattle.v0_clean.proofs.check_row.Goals as goal
@@ -15,7 +12,7 @@ pub bounds-offsets-row : goal.bounds-offsets-row
 bounds-offsets-row c = omega arith
 
 pub check_from-fault-requires : goal.check_from-fault-requires
-check_from-fault-requires c = let p = c.requires in (row_lent p.1 p.0, ((let begun_here : (let a = c.args in Decides a.src.now a.size a.row (row_fault a.src.now a.size a.row (get_or a.offsets.now a.row 0)) (record { col = 0; state = c.fresh-state.result })) = let a = c.args in row_begun a.src.now a.size a.row _ c.fresh-state.result c.fresh-state.ensures in begun_here)).placed)
+check_from-fault-requires c = let p = c.requires in (row_lent p.1 p.0, (row_begun c.args.src.now c.args.size c.args.row _ c.fresh-state.result c.fresh-state.ensures).placed)
 
 pub told-requires : goal.told-requires
 told-requires c = let p = c.requires in omega (arith, p.0.height, p.1)
@@ -23,9 +20,9 @@ told-requires c = let p = c.requires in omega (arith, p.0.height, p.1)
 pub returns-then-fault-ne0 : goal.returns-then-fault-ne0
 returns-then-fault-ne0 c =
     let a = c.args in
-    c.told.ensures ∙ row_found a.src.now a.offsets.now a.size a.row c.check_from-fault.result ((let fault_here : (let a = c.args in c.check_from-fault.result ≡ row_fault a.src.now a.size a.row (get_or a.offsets.now a.row 0)) = c.check_from-fault.ensures ∙ ((let begun_here : (let a = c.args in Decides a.src.now a.size a.row (row_fault a.src.now a.size a.row (get_or a.offsets.now a.row 0)) (record { col = 0; state = c.fresh-state.result })) = let a = c.args in row_begun a.src.now a.size a.row _ c.fresh-state.result c.fresh-state.ensures in begun_here)).left in fault_here)) c.if-fault-ne0.true
+    c.told.ensures ∙ row_found a.src.now a.offsets.now a.size a.row c.check_from-fault.result (c.check_from-fault.ensures ∙ (row_begun c.args.src.now c.args.size c.args.row _ c.fresh-state.result c.fresh-state.ensures).left) c.if-fault-ne0.true
 
 pub returns : goal.returns
 returns c =
     let a = c.args in
-    c.done.ensures ∙ row_clean a.src.now a.offsets.now a.size a.row c.check_from-fault.result ((let fault_here : (let a = c.args in c.check_from-fault.result ≡ row_fault a.src.now a.size a.row (get_or a.offsets.now a.row 0)) = c.check_from-fault.ensures ∙ ((let begun_here : (let a = c.args in Decides a.src.now a.size a.row (row_fault a.src.now a.size a.row (get_or a.offsets.now a.row 0)) (record { col = 0; state = c.fresh-state.result })) = let a = c.args in row_begun a.src.now a.size a.row _ c.fresh-state.result c.fresh-state.ensures in begun_here)).left in fault_here)) c.if-fault-ne0.false
+    c.done.ensures ∙ row_clean a.src.now a.offsets.now a.size a.row c.check_from-fault.result (c.check_from-fault.ensures ∙ (row_begun c.args.src.now c.args.size c.args.row _ c.fresh-state.result c.fresh-state.ensures).left) c.if-fault-ne0.false

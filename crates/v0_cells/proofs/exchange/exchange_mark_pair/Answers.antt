@@ -1,4 +1,4 @@
-use Rattle.std.proofs.Common.{◌-◌, arith}
+use Rattle.std.proofs.Common.{arith}
 use Rattle.v0_cells.proofs.ExchangeLaws.{pair_fits, pairing_begun, pairing_on, paired, paired_all}
 use Rattle.v0_cells.proofs.exchange.exchange_mark_pair.Goals as goal
 

@@ -1,4 +1,4 @@
-use Rattle.std.proofs.Common.{◌-◌, arith}
+use Rattle.std.proofs.Common.{arith}
 use Rattle.rules.specs.V0.{sample_kind}
 use Rattle.rules.specs.Map.{v0_marks}
 use Rattle.v0_cells.proofs.ExchangeLaws.{paired_all, pairs_begun, pairs_on, pairs_done, samples_in_pair, marks_in_pair}

@@ -1,4 +1,4 @@
-use Rattle.std.proofs.Common.{◌-◌, arith}
+use Rattle.std.proofs.Common.{arith}
 use Rattle.v0_cells.proofs.StagedLaws.{made_none, made_on, staged, choice_up}
 use Rattle.v0_cells.proofs.inner.mark_up.Goals as goal
 

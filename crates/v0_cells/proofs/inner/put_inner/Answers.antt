@@ -1,4 +1,4 @@
-use Rattle.std.proofs.Common.{◌-◌, arith}
+use Rattle.std.proofs.Common.{arith}
 use Rattle.v0_cells.proofs.InnerLaws.{putting_begun, putting_on, putting_done}
 use Rattle.v0_cells.proofs.inner.put_inner.Goals as goal
 

@@ -1,4 +1,4 @@
-use Rattle.std.proofs.Common.{◌-◌, refl, arith}
+use Rattle.std.proofs.Common.{refl, arith}
 use Rattle.v0_cells.proofs.StagedLaws.{storing_begun, storing_on, storing_done}
 use Rattle.v0_cells.proofs.inner.store_samples.Goals as goal
 

@@ -1,5 +1,4 @@
 use mathlib.Core.Path.{refl}
-use Prim.Native.Nat.{◌<◌}
 use native.Mathlib.Omega.{arith}
 use Rattle.rules.specs.V0.{sample_kind}
 use Rattle.rules.specs.Map.{v0_marks}
@@ -18,7 +17,7 @@ bounds-offsets-row c = omega arith
 pub decode_row-missing-requires : goal.decode_row-missing-requires
 decode_row-missing-requires c =
     record {
-      in_row = row_lent _ _ _ _ _ _ c.requires _ _ _ _ ((let row_left_here : c.loop-row.row < c.args.count = omega arith in row_left_here)) c.loop-row.invariant;
+      in_row = row_lent _ _ _ _ _ _ c.requires _ _ _ _ (omega arith) c.loop-row.invariant;
       tables = record { of_lanes = c.fill_lanes.ensures; of_heads = c.fill_heads.ensures };
     }
 
@@ -28,11 +27,11 @@ overflow_add-row c = omega arith
 pub exchange_pairs-requires : goal.exchange_pairs-requires
 exchange_pairs-requires c =
     let d = c.decode_row-missing.ensures in
-    freed_lent _ _ _ _ _ _ c.requires _ _ _ _ _ _ _ _ _ ((let row_left_here : c.loop-row.row < c.args.count = omega arith in row_left_here)) d.samples d.marks c.freed_pairs.ensures c.freed_pairs-in-loop-row.ensures c.loop-row.invariant
+    freed_lent _ _ _ _ _ _ c.requires _ _ _ _ _ _ _ _ _ (omega arith) d.samples d.marks c.freed_pairs.ensures c.freed_pairs-in-loop-row.ensures c.loop-row.invariant
 
 pub overflow_add-row-in-loop-row : goal.overflow_add-row-in-loop-row
 overflow_add-row-in-loop-row c =
-    record { fits = omega (arith, (let row_left_here : c.loop-row.row < c.args.count = omega arith in row_left_here), c.requires.1, c.requires.0.height) }
+    record { fits = omega (arith, c.requires.1, c.requires.0.height) }
 
 pub loop-row-smaller : goal.loop-row-smaller
 loop-row-smaller c = omega arith
@@ -40,7 +39,7 @@ loop-row-smaller c = omega arith
 pub loop-row-preserved : goal.loop-row-preserved
 loop-row-preserved c =
     let d = c.decode_row-missing.ensures in
-    going_on _ _ _ _ _ _ _ _ _ _ _ _ _ _ _ _ _ _ _ ((let row_left_here : c.loop-row.row < c.args.count = omega arith in row_left_here)) refl d.missing d.samples d.marks c.held_sum-filler.ensures
+    going_on _ _ _ _ _ _ _ _ _ _ _ _ _ _ _ _ _ _ _ (omega arith) refl d.missing d.samples d.marks c.held_sum-filler.ensures
     c.freed_pairs.ensures c.freed_pairs-in-loop-row.ensures c.exchange_pairs.ensures.samples c.exchange_pairs.ensures.marks c.loop-row.invariant
 
 pub returns : goal.returns

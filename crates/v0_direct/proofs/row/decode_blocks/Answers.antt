@@ -1,5 +1,4 @@
 -- The run, then the block after it.
-use Prim.Native.Nat.{◌*◌, ◌≤◌}
 use native.Mathlib.Omega.{arith}
 use Rattle.v0_cells.proofs.CellLaws.{product}
 use Rattle.v0_direct.proofs.RowLaws.{block_after, ran_on}
@@ -10,13 +9,22 @@ decode_block-state-requires c =
     block_after c.requires.in_frame.0 (omega arith) c.decode_run-run.ensures.ran c.requires.in_frame.1 c.decode_run-run.auto.out c.decode_run-run.auto.map
 
 pub overflow_mul-row : goal.overflow_mul-row
-overflow_mul-row c = record { fits = omega (arith, (let fit_here : (let a = c.args in a.at.row * a.at.size.width ≤ 268_550_144) = let i = c.requires.in_frame.0 in product _ _ (omega (arith, i.row_in, i.height)) (omega (arith, i.width)) in fit_here)) }
+overflow_mul-row c =
+    let i = c.requires.in_frame.0 in
+    let fit = product c.args.at.row c.args.at.size.width (omega (arith, i.row_in, i.height)) (omega (arith, i.width)) in
+    record { fits = omega (arith, fit) }
 
 pub overflow_add-row : goal.overflow_add-row
-overflow_add-row c = record { fits = omega (arith, (let fit_here : (let a = c.args in a.at.row * a.at.size.width ≤ 268_550_144) = let i = c.requires.in_frame.0 in product _ _ (omega (arith, i.row_in, i.height)) (omega (arith, i.width)) in fit_here), c.requires.in_frame.0.width) }
+overflow_add-row c =
+    let i = c.requires.in_frame.0 in
+    let fit = product c.args.at.row c.args.at.size.width (omega (arith, i.row_in, i.height)) (omega (arith, i.width)) in
+    record { fits = omega (arith, fit, i.width) }
 
 pub end_block-requires : goal.end_block-requires
-end_block-requires c = omega (arith, (let fit_here : (let a = c.args in a.at.row * a.at.size.width ≤ 268_550_144) = let i = c.requires.in_frame.0 in product _ _ (omega (arith, i.row_in, i.height)) (omega (arith, i.width)) in fit_here), c.requires.in_frame.0.width)
+end_block-requires c =
+    let i = c.requires.in_frame.0 in
+    let fit = product c.args.at.row c.args.at.size.width (omega (arith, i.row_in, i.height)) (omega (arith, i.width)) in
+    omega (arith, fit, i.width)
 
 pub overflow_add-result : goal.overflow_add-result
 overflow_add-result c = record { fits = omega (arith, c.requires.in_frame.0.width) }

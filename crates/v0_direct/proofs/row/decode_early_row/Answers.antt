@@ -1,5 +1,4 @@
 use mathlib.Core.Path.{refl}
-use Prim.Native.Nat.{◌*◌, ◌≤◌}
 use native.Mathlib.Omega.{arith}
 use Rattle.rules.specs.V0.{sample_kind}
 use Rattle.v0_cells.proofs.CellLaws.{product}
@@ -16,13 +15,22 @@ decode_edge-state-requires c =
     block_after b.0 (omega arith) (none_ran c.args.src.now {st = l.state} b.0 b.1) b.1 refl refl
 
 pub overflow_mul-row : goal.overflow_mul-row
-overflow_mul-row c = record { fits = omega (arith, (let fit_here : (let a = c.args in a.row * a.size.width ≤ 268_550_144) = let i = c.requires in product _ _ (omega (arith, i.row_in, i.height)) (omega (arith, i.width)) in fit_here)) }
+overflow_mul-row c =
+    let i = c.requires in
+    let fit = product c.args.row c.args.size.width (omega (arith, i.row_in, i.height)) (omega (arith, i.width)) in
+    record { fits = omega (arith, fit) }
 
 pub overflow_add-row : goal.overflow_add-row
-overflow_add-row c = record { fits = omega (arith, (let fit_here : (let a = c.args in a.row * a.size.width ≤ 268_550_144) = let i = c.requires in product _ _ (omega (arith, i.row_in, i.height)) (omega (arith, i.width)) in fit_here), c.requires.width) }
+overflow_add-row c =
+    let i = c.requires in
+    let fit = product c.args.row c.args.size.width (omega (arith, i.row_in, i.height)) (omega (arith, i.width)) in
+    record { fits = omega (arith, fit, i.width) }
 
 pub end_block-requires : goal.end_block-requires
-end_block-requires c = omega (arith, (let fit_here : (let a = c.args in a.row * a.size.width ≤ 268_550_144) = let i = c.requires in product _ _ (omega (arith, i.row_in, i.height)) (omega (arith, i.width)) in fit_here), c.requires.width)
+end_block-requires c =
+    let i = c.requires in
+    let fit = product c.args.row c.args.size.width (omega (arith, i.row_in, i.height)) (omega (arith, i.width)) in
+    omega (arith, fit, i.width)
 
 pub overflow_add-col : goal.overflow_add-col
 overflow_add-col c = record { fits = omega (arith, c.requires.width) }

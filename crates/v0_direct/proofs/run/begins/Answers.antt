@@ -4,12 +4,9 @@ use mathlib.Core.List.{List}
 use mathlib.Core.Path.{◌≡◌, sym, ◌∙◌}
 use Prim.Native.Nat.{ℕ}
 use native.Mathlib.Omega.{arith}
-use lib.Dec.{eqb}
 use borrow.Author.Tests.{eq-eqb, ne_eqb}
 use Rattle.rules.specs.declared.reader.Bits.{Bits}
 use Rattle.read_window.specs.Window.{Standing}
-use Rattle.v0_parse_window.specs.ByWindow.{short}
-use Rattle.v0_direct.specs.Run.{inner}
 use Rattle.v0_direct.proofs.RunLaws.{begins_edge, begins_missing, begins_long, begins_if}
 use Rattle.v0_direct.proofs.run.begins.Goals as goal
 
@@ -25,20 +22,20 @@ returns-then-not-is_inner c =
 
 pub returns-then-bits-ne0 : goal.returns-then-bits-ne0
 returns-then-bits-ne0 c = record {
-  answered = begins_missing _ _ _ _ _ ((let within_here : (let a = c.args.at in inner a.size a.row a.col ≡ true) = sym c.is_inner.ensures ∙ c.if-not-is_inner.false in within_here)) (ne_eqb _ _ c.if-bits-ne0.true);
+  answered = begins_missing _ _ _ _ _ (sym c.is_inner.ensures ∙ c.if-not-is_inner.false) (ne_eqb _ _ c.if-bits-ne0.true);
   stands = not_standing _ _;
 }
 
 pub returns-then-not-are_short : goal.returns-then-not-are_short
 returns-then-not-are_short c =
     record {
-      answered = begins_long _ _ _ _ _ ((let within_here : (let a = c.args.at in inner a.size a.row a.col ≡ true) = sym c.is_inner.ensures ∙ c.if-not-is_inner.false in within_here)) ((let clear_here : (eqb c.args.state.bits.filler 0 ≡ true) = eq-eqb _ _ c.if-bits-ne0.false in clear_here)) (sym c.are_short.ensures ∙ c.if-not-are_short.true);
+      answered = begins_long _ _ _ _ _ (sym c.is_inner.ensures ∙ c.if-not-is_inner.false) (eq-eqb _ _ c.if-bits-ne0.false) (sym c.are_short.ensures ∙ c.if-not-are_short.true);
       stands = not_standing _ _;
     }
 
 pub returns : goal.returns
 returns c =
     record {
-      answered = c.stands_within.ensures.answered ∙ begins_if _ _ _ _ _ ((let within_here : (let a = c.args.at in inner a.size a.row a.col ≡ true) = sym c.is_inner.ensures ∙ c.if-not-is_inner.false in within_here)) ((let clear_here : (eqb c.args.state.bits.filler 0 ≡ true) = eq-eqb _ _ c.if-bits-ne0.false in clear_here)) ((let few_here : (short c.args.state.lengths ≡ true) = sym c.are_short.ensures ∙ c.if-not-are_short.false in few_here));
+      answered = c.stands_within.ensures.answered ∙ begins_if _ _ _ _ _ (sym c.is_inner.ensures ∙ c.if-not-is_inner.false) (eq-eqb _ _ c.if-bits-ne0.false) (sym c.are_short.ensures ∙ c.if-not-are_short.false);
       stands = c.stands_within.ensures.stands;
     }

@@ -16,37 +16,37 @@ pub returns-then-k-eq1 : goal.returns-then-k-eq1
 returns-then-k-eq1 c = search shape_far
 
 pub overflow_sub-result-then-k-eq2 : goal.overflow_sub-result-then-k-eq2
-overflow_sub-result-then-k-eq2 c = let p = (let small_here : (Power c.args.n c.power-t.result) = power_of c.args.n c.power-t.result c.requires c.power-t.ensures in small_here) in omega arith
+overflow_sub-result-then-k-eq2 c = let p : Power c.args.n c.power-t.result = power_of c.args.n c.power-t.result c.requires c.power-t.ensures in omega arith
 
 pub overflow_mul-result : goal.overflow_mul-result
-overflow_mul-result c = let p = (let small_here : (Power c.args.n c.power-t.result) = power_of c.args.n c.power-t.result c.requires c.power-t.ensures in small_here) in record { fits = omega arith }
+overflow_mul-result c = let p : Power c.args.n c.power-t.result = power_of c.args.n c.power-t.result c.requires c.power-t.ensures in record { fits = omega arith }
 
 pub overflow_sub-result-then-k-eq2-2 : goal.overflow_sub-result-then-k-eq2-2
-overflow_sub-result-then-k-eq2-2 c = let p = (let small_here : (Power c.args.n c.power-t.result) = power_of c.args.n c.power-t.result c.requires c.power-t.ensures in small_here) in omega arith
+overflow_sub-result-then-k-eq2-2 c = let p : Power c.args.n c.power-t.result = power_of c.args.n c.power-t.result c.requires c.power-t.ensures in omega arith
 
 pub overflow_add-result : goal.overflow_add-result
-overflow_add-result c = let p = (let small_here : (Power c.args.n c.power-t.result) = power_of c.args.n c.power-t.result c.requires c.power-t.ensures in small_here) in record { fits = omega arith }
+overflow_add-result c = let p : Power c.args.n c.power-t.result = power_of c.args.n c.power-t.result c.requires c.power-t.ensures in record { fits = omega arith }
 
 pub returns-then-k-eq2 : goal.returns-then-k-eq2
 returns-then-k-eq2 c = search shape_mask
 
 pub overflow_sub-result-then-k-eq3 : goal.overflow_sub-result-then-k-eq3
-overflow_sub-result-then-k-eq3 c = let p = (let small_here : (Power c.args.n c.power-t.result) = power_of c.args.n c.power-t.result c.requires c.power-t.ensures in small_here) in omega arith
+overflow_sub-result-then-k-eq3 c = let p : Power c.args.n c.power-t.result = power_of c.args.n c.power-t.result c.requires c.power-t.ensures in omega arith
 
 pub returns-then-k-eq3 : goal.returns-then-k-eq3
 returns-then-k-eq3 c = search shape_near
 
 pub overflow_mul-result-then-k-eq4 : goal.overflow_mul-result-then-k-eq4
-overflow_mul-result-then-k-eq4 c = let p = (let small_here : (Power c.args.n c.power-t.result) = power_of c.args.n c.power-t.result c.requires c.power-t.ensures in small_here) in record { fits = omega arith }
+overflow_mul-result-then-k-eq4 c = let p : Power c.args.n c.power-t.result = power_of c.args.n c.power-t.result c.requires c.power-t.ensures in record { fits = omega arith }
 
 pub returns-then-k-eq4 : goal.returns-then-k-eq4
 returns-then-k-eq4 c = search shape_signs
 
 pub nonzero_div-result-2 : goal.nonzero_div-result-2
-nonzero_div-result-2 c = let p = (let small_here : (Power c.args.n c.power-t.result) = power_of c.args.n c.power-t.result c.requires c.power-t.ensures in small_here) in p.some
+nonzero_div-result-2 c = let p : Power c.args.n c.power-t.result = power_of c.args.n c.power-t.result c.requires c.power-t.ensures in p.some
 
 pub overflow_sub-result-2 : goal.overflow_sub-result-2
-overflow_sub-result-2 c = let p = (let small_here : (Power c.args.n c.power-t.result) = power_of c.args.n c.power-t.result c.requires c.power-t.ensures in small_here) in p.twice
+overflow_sub-result-2 c = let p : Power c.args.n c.power-t.result = power_of c.args.n c.power-t.result c.requires c.power-t.ensures in p.twice
 
 pub returns : goal.returns
 returns c = search shape_fill

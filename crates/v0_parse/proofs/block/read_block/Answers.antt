@@ -1,6 +1,5 @@
 -- The head, and the residuals after it where the block is read whole; past the end every such block is of ones.
-use mathlib.Core.Path.{◌≡◌, ◌∙◌}
-use lib.ListN.{length}
+use mathlib.Core.Path.{◌∙◌}
 use Rattle.v0_parse.proofs.BlockLaws.{whole_read, head_read}
 use Rattle.v0_parse.proofs.PastLaws.{past_whole}
 use borrow.Author.Rules.{rules}
@@ -11,7 +10,7 @@ ones_block-requires c = let x = c.is_past.ensures c.if-is_past.true in (x.few, x
 
 pub returns-then-is_past : goal.returns-then-is_past
 returns-then-is_past c = let a = c.args in
-    rw c.if-whole.true (c.ones_block.ensures ∙ past_whole a.src.now a.row.bits (c.is_past.ensures c.if-is_past.true) a.row.lengths ((let four_lengths_here : (length c.args.row.lengths ≡ 4) = search rules in four_lengths_here)))
+    rw c.if-whole.true (c.ones_block.ensures ∙ past_whole a.src.now a.row.bits (c.is_past.ensures c.if-is_past.true) a.row.lengths (search rules))
 
 pub returns-then-whole : goal.returns-then-whole
 returns-then-whole c = rw c.if-whole.true (whole_read _ _ _ _ c.read_head-head.ensures c.read_residuals.ensures)

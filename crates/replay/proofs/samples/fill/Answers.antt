@@ -1,0 +1,11 @@
+use Rattle.std.proofs.Common.{◌-◌, refl, arith, length-set}
+use Rattle.replay.proofs.samples.fill.Goals as goal
+
+pub loop-i-init : goal.loop-i-init
+loop-i-init c = (omega arith, refl)
+
+pub loop-i-smaller : goal.loop-i-smaller
+loop-i-smaller c = simp length-set (omega arith)
+
+pub loop-i-preserved : goal.loop-i-preserved
+loop-i-preserved c = (simp length-set (omega arith), simp length-set c.loop-i.invariant.1)
