@@ -11,8 +11,8 @@ need_rt = @command -v rt >/dev/null || { echo 'rt, the Rattle toolchain, is not 
 # The main job: proves and builds the program, and decodes the example with it.
 run:
 	$(need_rt)
-	@echo 'Proving what is not proved yet: some five minutes the first time, and a line for each crate.'
-	@tests/rt-lines target/rt.log rt check samrows
+	@echo 'Proving what is not proved yet: some minutes the first time, and a line for each crate.'
+	@tests/rt-lines target/rt.log dist/program samrows
 	target/bin/samrows < crates/samrows/stdin
 
 # The gate.
@@ -23,9 +23,9 @@ test:
 # The archive for C and Rust, and the shared library of it: proves what they are made of, and compiles it.
 archive: $(archive) $(shared)
 
-$(archive): crates.txt $(shell find crates -type f)
+$(archive): crates.txt dist/archive $(shell find crates -name out -prune -o -type f -print)
 	$(need_rt)
-	@tests/rt-lines target/rt.log rt staticlib razvolk
+	@tests/rt-lines target/rt.log dist/archive
 
 $(shared): $(archive) include/razvolk.h dist/shared
 	dist/shared $(archive) include/razvolk.h $@
@@ -102,7 +102,7 @@ ROWS =
 load: wheel
 	PYTHON=$(PYTHON) python/load/run $(LOAD) $(made)/load.json $(ROWS)
 
-# Every wrong edit that the proofs must refuse, also those of crates/*/must-fail/more, which cost too much for the gate
+# Every wrong edit that the proofs must refuse, also those of crates/*/must-fail-more, which cost too much for the gate
 # (docs/TESTING.md, "Wrong edits").
 refuse:
 	$(need_rt)
@@ -116,10 +116,10 @@ FILE =
 SINCE =
 COUNT = 0
 mutate:
-	RT_JOBS=1 nice -n 19 python3 tests/mutate.py --crate $(CRATE) --file '$(FILE)' --since '$(SINCE)' --count $(COUNT) --seed $(SEED)
+	nice -n 19 python3 tests/mutate.py --crate $(CRATE) --file '$(FILE)' --since '$(SINCE)' --count $(COUNT) --seed $(SEED)
 
-# What the check cost before and after each landing, tree by tree, from nothing: two hours on a machine that does nothing else. The
-# figures are appended to the file; those that it has are not measured again.
+# What the check cost before and after each landing, tree by tree, from nothing, with the toolchain of these trees: two hours on a
+# machine that does nothing else. The figures are appended to the file; those that it has are not measured again.
 landings:
 	tests/landings.py measure --ci docs/landings.tsv
 	tests/landings.py draw docs/landings.tsv docs/landings.svg
@@ -221,6 +221,7 @@ soak: $(archive)
 	$(cargo_run) --quiet -p razvolk --example soak -- 5000
 
 fmt:
-	rt fmt
+	$(need_rt)
+	for name in crates/*/; do (cd $$name && rt fmt) || exit 1; done
 	cd rust && cargo fmt --all
 	tests/tool-cargo fmt

@@ -5,7 +5,7 @@
 //!
 //! - the one that `RAZVOLK_ARCHIVE` names; a relative path is taken from the workspace's folder;
 //! - `lib/librazvolk.a` in the crate, as a release has it;
-//! - `target/staticlib/librazvolk.a` in the repository, which `rt staticlib razvolk` makes there.
+//! - `target/staticlib/librazvolk.a` in the repository, which `dist/archive` makes there.
 
 use std::path::{Path, PathBuf};
 use std::time::SystemTime;
@@ -56,7 +56,7 @@ fn made(root: &Path) -> Result<PathBuf, String> {
     for source in [&archive].into_iter().chain(&sources) {
         println!("cargo::rerun-if-changed={}", source.display());
     }
-    let make = "`rt staticlib razvolk`, in the repository's folder, proves and makes it";
+    let make = "`dist/archive`, in the repository's folder, proves and makes it";
     let Some(at) = written(&archive) else {
         return Err(format!("no archive at {}: {make}; RAZVOLK_ARCHIVE names one made elsewhere", archive.display()));
     };
@@ -70,7 +70,9 @@ fn made(root: &Path) -> Result<PathBuf, String> {
 fn sources_below(folder: &Path, sources: &mut Vec<PathBuf>) -> io::Result<()> {
     for entry in fs::read_dir(folder)? {
         let path = entry?.path();
-        if path.is_dir() {
+        if path.ends_with("out") {
+            // What rt keeps of a crate, which has copies of sources.
+        } else if path.is_dir() {
             sources_below(&path, sources)?;
         } else if path.extension().is_some_and(|extension| extension == "rt") {
             sources.push(path);

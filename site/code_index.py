@@ -11,6 +11,11 @@ from rattle import Function, functions
 from repository import Repository, crate_of
 
 
+# A function's parameters, and a clause with a name of its own.
+PARAMETER = re.compile(r"(\w+): ")
+CLAUSE = re.compile(r"^(\s*(?:requires|ensures)) \w+(?= \{)", re.M)
+
+
 def is_spec(key: Key) -> bool:
     """Whether an item is a definition of specs/."""
     return key[1].startswith("specs.")
@@ -45,6 +50,12 @@ class Code:
         """The items that a part of a file cites."""
         return [key for key in cited(text, self.scopes[path]) if key in self.items]
 
+    def cited_by(self, function: Function) -> list[Key]:
+        """The items that a function's contract cites; its parameters and its clauses' own names are none."""
+        known = frozenset(["result", *PARAMETER.findall(function.signature)])
+        clauses = CLAUSE.sub(r"\1", function.contract)
+        return [key for key in cited(clauses, self.scopes[function.path], known) if key in self.items]
+
     @cached_property
     def item_cites(self) -> dict[Key, list[Key]]:
         """The items that each item cites, in its signature or its body."""
@@ -54,7 +65,7 @@ class Code:
     @cached_property
     def contracts(self) -> dict[str, list[Key]]:
         """The items that each function's contract cites."""
-        return {function.full: self.cited_in(function.path, function.contract) for function in self.functions}
+        return {function.full: self.cited_by(function) for function in self.functions}
 
     @cached_property
     def function(self) -> dict[str, Function]:

@@ -8,9 +8,9 @@ from html import escape
 
 TOKEN = re.compile(
     r"(?P<c1>(?<!\S)(?:--|//)[^\n]*)"
-    r"|(?P<mi>(?<![\w′-])(?:0x[0-9A-Fa-f_]+|0b[01_]+|\d[\d_]*)(?![\w′-]))"
-    r"|(?P<word>[\w′·-]+(?:\.(?=[\w_])[\w′-]+)?)"
-    r"|(?P<o>[→≡∷λ⌜⌝×≤≢⊎∸≟])"
+    r"|(?P<mi>(?<![\w'-])(?:0x[0-9A-Fa-f_]+|0b[01_]+|\d[\d_]*)(?![\w'-]))"
+    r"|(?P<word>[\w'-]+(?:\.(?=[\w_])[\w'-]+)?)"
+    r"|(?P<o>[→≡∷λ×≤≢⊎∸≟◌])"
 )
 KEYWORDS = frozenset(
     "use pub record data where let in unfolding unfoldable abbrev module mod with fn extern if else match while for return "

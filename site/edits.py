@@ -80,9 +80,9 @@ def at_stake(code: Code, change: Change) -> tuple[set[Key], set[Key]]:
 
 
 def edits(code: Code) -> list[Edit]:
-    """All wrong edits: those of the gate, and those beside it in must-fail/more."""
+    """All wrong edits: those of the gate, and those beside it in must-fail-more."""
     found: list[Edit] = []
-    for path in code.repository.paths("crates/*/must-fail/**/*.edit"):
+    for path in code.repository.paths("crates/*/must-fail*/*.edit"):
         text = code.repository.text(path)
         changes = read_changes(crate_of(path), text, code)
         stakes = [at_stake(code, change) for change in changes]
@@ -91,7 +91,7 @@ def edits(code: Code) -> list[Edit]:
             Edit(
                 path=path,
                 name=path.rsplit("/", 1)[1].removesuffix(".edit"),
-                in_gate=path.count("/") == 3,
+                in_gate="/must-fail/" in path,
                 comment=comment,
                 changes=tuple(changes),
                 changed=frozenset(key for changed, _ in stakes for key in changed),

@@ -6,8 +6,8 @@ import re
 from dataclasses import dataclass
 
 USE = re.compile(r"^\s*(?:pub |ghost )*use (?P<path>[^\s;{]+?)(?:\.\{(?P<names>[^}]*)\}| as (?P<alias>[^\s;]+))?;?\s*$", re.M)
-TOKEN = re.compile(r"[^\s(){};,\"⌜⌝]+")
-BOUND = re.compile(r"λ ([^.⌜]+)\.|[({]([^:(){}=]+) : |\blet (\S+) =")
+TOKEN = re.compile(r"[^\s(){};,\"]+")
+BOUND = re.compile(r"λ ([^.]+)\.|[({]([^:(){}=]+) : |\blet (\S+) =")
 COMMENT = re.compile(r"(?<!\S)--[^\n]*|//[^\n]*|^\s*unfolding [^\n]*", re.M)
 
 # Names of fields where they are declared or given, which are no citations.
@@ -26,11 +26,11 @@ def module_of(path: str) -> Module:
 
 
 def named_module(path: str) -> Module | None:
-    """The module of a crate that a `use` line names: `Rattle·rules·specs.specs.V0` is `specs.V0` of `rules`."""
-    if not path.startswith("Rattle·"):
+    """The module of a crate that a `use` line names: `Rattle.rules.specs.V0` is `specs.V0` of `rules`. The library has none."""
+    if not path.startswith("Rattle.") or path.startswith("Rattle.std."):
         return None
-    crate, _, inner = path.removeprefix("Rattle·").partition(".")
-    return crate.split("·")[0], inner
+    crate, _, inner = path.removeprefix("Rattle.").partition(".")
+    return crate, inner
 
 
 @dataclass
@@ -49,7 +49,8 @@ class Scope:
         if rest and first in self.aliases:
             module = self.aliases[first]
             return (*module, rest.split(".")[0])
-        return self.names.get(word)
+        # What follows the dot otherwise is a field.
+        return self.names.get(first)
 
 
 def scope_of(text: str, own: Module | None = None, defined: list[str] | None = None) -> Scope:
@@ -64,9 +65,9 @@ def scope_of(text: str, own: Module | None = None, defined: list[str] | None = N
         for word in (used["names"] or "").split(","):
             name, _, alias = word.strip().partition(" as ")
             if name:
-                scope.names[(alias or name).strip("_ ")] = (*module, name)
+                scope.names[(alias or name).strip("◌ ")] = (*module, name)
     if own is not None:
-        scope.names.update({name.strip("_"): (*own, name) for name in defined or []})
+        scope.names.update({name.strip("◌"): (*own, name) for name in defined or []})
     return scope
 
 
@@ -76,9 +77,9 @@ def bound_in(text: str) -> set[str]:
     return {word for group in groups for word in group.split()}
 
 
-def cited(text: str, scope: Scope) -> list[Key]:
-    """The items that a text cites, each once, in their order."""
+def cited(text: str, scope: Scope, known: frozenset[str] = frozenset()) -> list[Key]:
+    """The items that a text cites, each once, in their order; names that are known there are none."""
     code = FIELD.sub(" ", COMMENT.sub("", text))
-    bound = bound_in(code)
-    keys = (scope.key(token) for token in TOKEN.findall(code) if token not in bound)
+    bound = bound_in(code) | known
+    keys = (scope.key(token) for token in TOKEN.findall(code) if token.partition(".")[0] not in bound)
     return list(dict.fromkeys(key for key in keys if key is not None))

@@ -19,7 +19,7 @@ from panels import Panels
 from rattle import Function
 from rule_pages import mark
 
-FIELD = re.compile(r"((?:^  --.*\n)*)^  pub (p(\d+)-\S+) : (.*)$", re.M)
+FIELD = re.compile(r"((?:^  --.*\n)*)^  pub (p(\d+)_\S+) : (.*)$", re.M)
 LINE = re.compile(r"^- \*\*P(\d+) (.+?)\.\*\* ", re.M)
 
 

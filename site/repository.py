@@ -38,7 +38,8 @@ class Repository:
         """The crates in the sequence of crates.txt."""
         lines = (line.split("#")[0] for line in self.text("crates.txt").splitlines())
         parted = (line.partition(":") for line in lines if ":" in line)
-        found = (Crate(name.strip(), tuple(uses.split())) for name, _, uses in parted)
+        # Words on how a crate is built may follow its name.
+        found = (Crate(name.split()[0], tuple(uses.split())) for name, _, uses in parted)
         return {crate.name: crate for crate in found}
 
     @cached_property

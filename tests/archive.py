@@ -36,6 +36,12 @@ def run(*words: object) -> str:
     return done.stdout
 
 
+def copied_crates(folder: Path) -> None:
+    """Copies the crates into a folder, without what rt keeps of them."""
+    shutil.copytree(TOP / "crates", folder / "crates", ignore=lambda at, _: ["out"] if Path(at).parent == TOP / "crates" else [])
+    shutil.copy(TOP / "crates.txt", folder)
+
+
 def compiler() -> list[str]:
     return os.environ.get("CC", "cc").split()
 

@@ -1,5 +1,6 @@
 #!/usr/bin/env python3
-"""What the check of all crates costs before and after each landing of a request.
+"""What the check of all crates costs before and after each landing of a request. `rt` in the path must be the version of the
+toolchain that these trees were written for.
 
     tests/landings.py measure [--ci] FILE    proves each landing's tree and the tree before it, from nothing
     tests/landings.py draw FILE PICTURE      draws the curve of FILE, as PICTURE's ending says (python3-matplotlib)

@@ -4,10 +4,10 @@
     tests/mutate.py [--crate rules] [--file V2] [--since COMMIT] [--count 100] [--seed 1] [--workers 2]
 
 The definitions are those of the files of crates/CRATE/specs that an entry's contract rests on, or that STATED names; with --since
-those of lines that are new since a commit. The changes are made in a copy of the crate below target/mutate that has the worked
-examples, no theorem and no function. At first some are checked at once, by `rt dev`: each is a file of its own beside the
+those of lines that are new since a commit. The changes are made in a copy of the crate among the temporary files that has the
+worked examples, no theorem and no function. At first some are checked at once, by `rt check`: each is a file of its own beside the
 definitions, with its own copy of what rests on it in one file of examples. What passes is made alone and checked with all
-examples; what passes that with the theorems and the functions, too, and at last once more from nothing by `rt check`: where
+examples; what passes that with the theorems and the functions, too, and at last once more from nothing by `rt verdict`: where
 these alone refuse a change, it may be that a function would only have to follow it, so such changes are printed, too. A change
 that is no definition (its file no longer parses or has no type) is counted apart. The last lines have the figures, of each file
 and of all; target/mutate/CRATE.txt has every change with its outcome. A run that was broken off goes on with --resume. With
@@ -25,6 +25,7 @@ import shutil
 import signal
 import subprocess
 import sys
+import tempfile
 import threading
 from collections import Counter
 from pathlib import Path
@@ -66,11 +67,10 @@ def tokens(text, start, end):
 LEVELS = {"||": (30, "l"), "&&": (35, "l"), "∷": (67, "r"), "++": (65, "l"), "+": (65, "l"), "-": (65, "l"), "*": (70, "l")}
 LEVELS |= {"/": (70, "l"), "%": (70, "l"), "^": (75, "r"), "+ℤ": (65, "l"), "*ℤ": (70, "l")}
 
-# Where the names that a change may bring in come from.
-NATURALS, BOOLEANS, INTEGERS = "Prim.Native.Nat", "mathlib.Core.Bool", "lib.IntN"
-HOMES = {name: NATURALS for name in ("_+_", "_-_", "_*_", "_/_", "_%_", "min", "max", "suc")}
-HOMES |= {name: BOOLEANS for name in ("true", "false", "_&&_", "_||_")} | {"ltb": "lib.Dec", "leb": "lib.Dec"}
-HOMES |= {name: INTEGERS for name in ("pos", "negsuc", "_+ℤ_", "_*ℤ_")}
+# The names that a change may bring in, and where they come from.
+PRELUDE = "Rattle.std.specs.Prelude"
+BROUGHT = ("◌+◌", "◌-◌", "◌*◌", "◌/◌", "◌%◌", "min", "max", "suc", "true", "false", "◌&&◌", "◌||◌", "ltb", "leb")
+BROUGHT += ("pos", "negsuc", "◌+ℤ◌", "◌*ℤ◌")
 
 
 class Node:
@@ -133,11 +133,12 @@ class Parser:
                 while self.take().text != "}":
                     pass
             elif text.startswith(".") and len(text) > 1:
-                field = self.take()
-                node = Node("field", node.start, field.end, [node], text[1:])
-                node.field = field
+                node = fields_of(node, self.take())
             else:
                 argument = self.atom()
+                # What follows a bracket at once is a field of what it holds.
+                while (self.peek() or "").startswith(".") and self.found[self.at].start == argument.end:
+                    argument = fields_of(argument, self.take())
                 if node.kind == "call":
                     node.parts.append(argument)
                     node.end = argument.end
@@ -151,8 +152,14 @@ class Parser:
             return Node("paren", token.start, self.take(")").end, [inner])
         if token.text == "record":
             return self.record(token)
-        kind = "number" if NUMBER.fullmatch(token.text) else "name"
-        return Node(kind, token.start, token.end, name=token.text)
+        if NUMBER.fullmatch(token.text):
+            return Node("number", token.start, token.end, name=token.text)
+        # A module's name begins with a capital, and a dot after another name with a field.
+        parts = token.text.split(".")
+        count = 2 if parts[0][:1].isupper() and len(parts) > 1 else 1
+        name = ".".join(parts[:count])
+        node = Node("name", token.start, token.start + len(name), name=name)
+        return fields_of(node, Token(token.text[len(name) :], node.end))
 
     def record(self, first):
         self.take("{")
@@ -166,6 +173,16 @@ class Parser:
         node = Node("record", first.start, self.take("}").end, values)
         node.names = names
         return node
+
+
+def fields_of(node, token):
+    """A part's field, and that one's, as `.size.width` after it names them."""
+    at = token.start
+    for name in token.text.split(".")[1:]:
+        field = Token(f".{name}", at)
+        node = Node("field", node.start, field.end, [node], name)
+        node.field, at = field, field.end
+    return node
 
 
 def bare(node):
@@ -253,7 +270,7 @@ def records(crate):
 
 # ---- What rests on what
 
-USE = re.compile(r"^(?:ghost )?use Rattle·(\w+?)(?:·\w+)?\.(specs|proofs)\.([\w.]+?)(?:\.\{([^}]*)\}| as ([^\s;]+));?$", re.M)
+USE = re.compile(r"^(?:ghost )?use Rattle\.(?!std\.)(\w+)\.(specs|proofs)\.([\w.]+?)(?:\.\{([^}]*)\}| as ([^\s;]+));?$", re.M)
 STARTS = re.compile(r"^ {0,2}(?:abbrev |unfoldable )?(?:pub )?(?:record |data )?([^\s(){}:=]+)", re.M)
 CONTRACT = re.compile(r"^pub (?:extern \"C\" )?fn .*?^\{", re.M | re.S)
 
@@ -272,7 +289,7 @@ class Module(NamedTuple):
     @property
     def used_as(self):
         """How other files of its crate call it."""
-        return f"Rattle·{self.crate}·{self.kind}.{self.kind}.{self.name}"
+        return f"Rattle.{self.crate}.{self.kind}.{self.name}"
 
 
 class Source:
@@ -303,12 +320,12 @@ class Source:
 
     def meant(self, text):
         """What the words of a text mean, as file and name."""
-        for word in set(re.findall(r"[^\s(){};,⌜⌝]+", text)):
-            alias, _, name = word.rpartition(".")
-            if alias in self.modules:
-                yield self.modules[alias], name
-            if word in self.names:
-                yield self.names[word]
+        for word in set(re.findall(r"[^\s(){};,]+", text)):
+            first, *more = word.split(".")
+            if first in self.modules and more:
+                yield self.modules[first], more[0]
+            elif first in self.names:
+                yield self.names[first]
 
 
 @functools.cache
@@ -386,8 +403,9 @@ class Change:
         for start, end, new in sorted(self.edits, reverse=True):
             text = text[:start] + new + text[end:]
         words = {word for edit in self.edits for word in re.findall(r"[^\s(){};]+", edit[2])}
-        new = [name for name in HOMES if name.strip("_") in words and not self.file.brings(name)]
-        return re.sub(r"^(?=use )", "".join(f"use {HOMES[name]}.{{{name}}}\n" for name in new), text, count=1, flags=re.M)
+        new = [name for name in BROUGHT if name.strip("◌") in words and not self.file.brings(name)]
+        brought = f"use {PRELUDE}.{{{', '.join(new)}}}\n" if new else ""
+        return re.sub(r"^(?=use )", brought, text, count=1, flags=re.M)
 
     def __str__(self):
         return f"{self.file.path.stem}.antt:{self.line}:{self.column}: {self.name}: {self.what}"
@@ -522,7 +540,7 @@ class Changes:
 
     def parameters(self, name, count):
         """The types of a function's parameters; None where they aren't known."""
-        if name == "getD":
+        if name in ("get_or", "slice_index"):
             return [None, "ℕ", "ℕ", None][:count]
         file, _, name = name.rpartition(".")
         files = [self.files[file]] if file in self.files else [self.clause.file, *self.files.values()]
@@ -551,7 +569,7 @@ class Changes:
 def needed(crate):
     """A crate and the crates of the repository that it rests on."""
     lines = (line.split("#")[0] for line in (ROOT / "crates.txt").read_text().splitlines())
-    uses = {line.split(":")[0].strip(): line.split(":")[1].split() for line in lines if ":" in line}
+    uses = {line.split()[0].rstrip(":"): line.split(":")[1].split() for line in lines if ":" in line}
     found, left = [], [crate]
     while left:
         name = left.pop()
@@ -561,37 +579,30 @@ def needed(crate):
     return {name: uses[name] for name in found}
 
 
+def kept_by_rt(folder, names):
+    """What a copy of the crates leaves out: what rt keeps of each."""
+    return ["out", "must-fail", "must-fail-more"] if Path(folder).parent == ROOT / "crates" else []
+
+
 class Copy:
     """The crate with all that it rests on, in a folder of its own, proved as it is; each change is made in it and taken back.
     Of `examples` it has the worked examples, and no theorem and no function."""
 
     def __init__(self, crate, home, examples):
         self.crate, self.home = crate, home
-        self.saved, self.base = home / "target" / "inc" / crate, home / "base"
+        self.saved, self.base = home / "crates" / crate / "out", home / "base"
         shutil.rmtree(home, ignore_errors=True)
         for name in (crates := needed(crate)):
-            kept = shutil.ignore_patterns("must-fail")
-            shutil.copytree(ROOT / "crates" / name, home / "crates" / name, ignore=kept)
+            shutil.copytree(ROOT / "crates" / name, home / "crates" / name, ignore=kept_by_rt)
         (home / "crates.txt").write_text("".join(f"{' '.join([name + ':', *uses])}\n" for name, uses in crates.items()))
-        for name in crates:
-            self.take_over(ROOT / "target" / "rlib" / f"{name}.rlib", home / "target" / "rlib" / f"{name}.rlib")
-            self.take_over(ROOT / "target" / "stamp" / name, home / "target" / "stamp" / name)
         if examples:
             self.leave_examples(home / "crates" / crate / "proofs")
             self.leave_types(home / "crates" / crate / "src")
-        status, said = self.rt("dev")
+        # What is proved already, here or in another checkout, rt does not prove again.
+        status, said = self.rt("check")
         if status != 0:
             raise RuntimeError(f"{home}: the crate as it is is not proved:\n{said}")
-        shutil.copytree(self.saved, self.base)
-
-    @staticmethod
-    def take_over(proved, to):
-        """What is proved already need not be proved again in a copy."""
-        to.parent.mkdir(parents=True, exist_ok=True)
-        if proved.is_dir():
-            shutil.copytree(proved, to, symlinks=True, copy_function=os.link)
-        elif proved.is_file():
-            shutil.copy2(proved, to)
+        shutil.copytree(self.saved, self.base, symlinks=True)
 
     def restore(self):
         """Brings back what was saved of the crate as it is: the files that differ in time or size."""
@@ -602,6 +613,8 @@ class Copy:
         for path, stat in base.items():
             if path not in now or (now[path].st_mtime_ns, now[path].st_size) != (stat.st_mtime_ns, stat.st_size):
                 (self.saved / path).parent.mkdir(parents=True, exist_ok=True)
+                # Another checkout may share the file.
+                (self.saved / path).unlink(missing_ok=True)
                 shutil.copy2(self.base / path, self.saved / path)
 
     @staticmethod
@@ -633,7 +646,7 @@ class Copy:
         texts = {kind: lib.read_text() for kind, lib in libs.items()}
         for n, change in enumerate(changes):
             self.write_copies(change, moved, f"Change{n}", libs)
-        status, said = self.rt("dev")
+        status, said = self.rt("check")
         for kind, lib in libs.items():
             lib.write_text(texts[kind])
             for path in lib.parent.glob("Change*"):
@@ -659,8 +672,8 @@ class Copy:
 
     def rt(self, verb):
         run = subprocess.Popen(
-            ["rt", verb, self.crate],
-            cwd=self.home,
+            ["rt", verb, "--jobs", "1"],
+            cwd=self.home / "crates" / self.crate,
             stdout=subprocess.PIPE,
             stderr=subprocess.STDOUT,
             text=True,
@@ -690,8 +703,8 @@ class Copy:
 class Worker:
     """Tells of a change whether the examples refuse it, and if they don't whether the theorems do."""
 
-    def __init__(self, crate, number):
-        self.crate, self.home = crate, ROOT / "target" / "mutate" / crate / str(number)
+    def __init__(self, crate, home):
+        self.crate, self.home = crate, home
         self.examples = Copy(crate, self.home / "examples", True)
 
     @functools.cached_property
@@ -730,12 +743,12 @@ class Worker:
         for change, errors in zip(changes, each or []):
             no_definition = [line for line in errors if "/specs/" in line.split(": error: ")[0]]
             if errors:
-                yield change, ALL[0 if no_definition else 1], (no_definition or errors)[0].replace(f"{ROOT}/target/mutate/", "")
+                yield change, ALL[0 if no_definition else 1], (no_definition or errors)[0]
 
     def outcome(self, change):
-        status, said = self.examples.said_of(change, ["dev"])
+        status, said = self.examples.said_of(change, ["check"])
         if status == 0:
-            status, said = self.whole.said_of(change, ["dev", "check"])
+            status, said = self.whole.said_of(change, ["check", "verdict"])
         if status == 0:
             return "STILL PROVES", ""
         errors = [line for line in said.splitlines() if ": error: " in line]
@@ -745,7 +758,7 @@ class Worker:
             return "no answer", said[-300:]
         where = [line for line in errors if IN_EXAMPLES.search(line)]
         first = (where or errors or [said[-300:]])[0]
-        return ("refused by an example" if where else "refused by a law"), first.replace(f"{ROOT}/target/mutate/", "")
+        return ("refused by an example" if where else "refused by a law"), first
 
 
 def new_lines(commit, path):
@@ -809,7 +822,7 @@ def try_all(changes, done, crate, workers, log):
     log.write_text("".join(f"{line}\n" for line in done.values()))
 
     def work(number):
-        worker = Worker(crate, number)
+        worker = Worker(crate, Path(copies) / str(number))
         while True:
             try:
                 some = left.get_nowait()
@@ -822,11 +835,13 @@ def try_all(changes, done, crate, workers, log):
                     if found not in SETTLED:
                         print(f"{found}: {change}", flush=True)
 
-    threads = [threading.Thread(target=work, args=(n,)) for n in range(min(workers, max(1, len(changes))))]
-    for thread in threads:
-        thread.start()
-    for thread in threads:
-        thread.join()
+    # Not in the repository, where `rt ci` refuses another crates.txt.
+    with tempfile.TemporaryDirectory(prefix="mutate-") as copies:
+        threads = [threading.Thread(target=work, args=(n,)) for n in range(min(workers, max(1, len(changes))))]
+        for thread in threads:
+            thread.start()
+        for thread in threads:
+            thread.join()
 
 
 def figures(name, lines):

@@ -38,9 +38,10 @@ pub fn called(rattle: &str) -> Vec<String> {
 
 /// The crates whose definitions a source's contracts cite.
 pub fn cited(rattle: &str) -> Vec<String> {
-    let paths = rattle.split("Rattle·").skip(1);
+    let paths = rattle.split("Rattle.").skip(1);
     let mut found: Vec<String> = paths.filter_map(|path| Some(path.split_once(".specs.")?.0.to_string())).collect();
-    found.retain(|name| name.chars().all(|c| c.is_ascii_alphanumeric() || c == '_'));
+    // Plain words, as those for numbers and lists, are the library's.
+    found.retain(|name| name != "std" && name.chars().all(|c| c.is_ascii_alphanumeric() || c == '_'));
     found.sort();
     found.dedup();
     found
@@ -86,14 +87,16 @@ mod tests {
 
     const SOURCE: &str = "\
 // requires nothing, calls comments::here()
-ghost use Rattle·rules.specs.Answer.{done};
-ghost use Rattle·frames.specs.Moved as Moved;
-ghost use Rattle·rules.specs.declared.answer.Size.{Size};
+ghost use Rattle.std.specs.Prelude.{◌≡◌, ◌<◌};
+ghost use Rattle.rules.specs.Answer.{done};
+ghost use Rattle.frames.specs.Moved as Moved;
+ghost use Rattle.rules.specs.declared.answer.Size.{Size};
+ghost use Rattle.laws.proofs.Moves.{moved};
 use rules::Answer;
 use transcode::v0_to_v2;
 use bits::{get, Got};
 pub fn open(a: u32) -> u32
-    ensures { λ r. ⌜ r ≡ a ⌝ }
+    ensures { result ≡ a }
 {
     let x = Answer::done(crate::lib::inner(a));
     samsung::decode(x)
@@ -101,16 +104,16 @@ pub fn open(a: u32) -> u32
 pub fn asks(
     a: u32,
 ) -> u32
-    requires { ⌜ a < 4 ⌝ }
-    requires { ⌜ 0 < a ⌝ }
+    requires small { a < 4 }
+    requires some { 0 < a }
 {
 }
 fn private(a: u32)
-    requires { ⌜ a < 4 ⌝ }
+    requires { a < 4 }
 {
 }
 pub(crate) fn inner(a: u32)
-    requires { ⌜ a < 4 ⌝ }
+    requires { a < 4 }
 {
 }
 ";
@@ -124,9 +127,9 @@ pub(crate) fn inner(a: u32)
 
     #[test]
     fn clauses_may_go_over_lines() {
-        let three = "    requires { ⌜ (a < 4) × (b < 4)\n        × (c < 4) ⌝ }\n    ensures { λ r. ⌜ r ≡ ×××× ⌝ }\n{\n    a × b × c × d;\n}\n";
-        assert_eq!((longest_line(three), most_facts(three)), (34, 3));
-        assert_eq!((longest_line(SOURCE), most_facts(SOURCE)), (30, 1));
+        let three = "    requires bounds { a < 4 × (b < 4)\n        × (c < 4) }\n    ensures { result ≡ ×××× }\n{\n    a × b × c × d;\n}\n";
+        assert_eq!((longest_line(three), most_facts(three)), (37, 3));
+        assert_eq!((longest_line(SOURCE), most_facts(SOURCE)), (28, 1));
         assert_eq!((longest_line("fn f() {}"), most_facts("fn f() {}")), (0, 0));
     }
 }

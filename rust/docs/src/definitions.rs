@@ -97,13 +97,13 @@ mod tests {
 
     const SPEC: &str = "\
 -- A comment that says pub nothing : Type 0
-use Prim.Native.Nat.{ℕ, _+_}
+use Rattle.std.specs.Prelude.{ℕ, ◌+◌}
 pub mod Below
 unfoldable pub use Other.{thing}
 {- pub hidden : ℕ
-   pub also-hidden : ℕ -}
-abbrev pub word-at : List ℕ → ℕ → ℕ
-word-at s p = getD s p 0
+   pub also_hidden : ℕ -}
+abbrev pub word_at : List ℕ → ℕ → ℕ
+word_at s p = get_or s p 0
 
 unfoldable abbrev pub both : ℕ
 pub record Fields (A : Type 0) : Type 0 where
@@ -117,27 +117,28 @@ pub data Base : Type 0 where
 private : ℕ
 private = 0
 record Closed : Type 0 where
-  pub open-field : ℕ
+  pub open_field : ℕ
 module _ {A : Type 0} (k : Kind A) where
   unfoldable pub put : ℕ → A
-  put n = k .put n
+  put n = k.put n
   pub record Joined : Type 0 where
     pub half : ℕ
   module _ (J : Joined) where
-    pub play-each (n : ℕ) : ℕ
-pub _⊕_ : ℕ → ℕ → ℕ
+    pub play_each (n : ℕ) : ℕ
+pub ◌⊕◌ : ℕ → ℕ → ℕ
+pub limit' : ℕ
 ";
 
     #[test]
     fn definitions_are_found_and_fields_are_not() {
-        let expected = ["word-at", "both", "Fields", "Base", "put", "Joined", "play-each", "_⊕_"];
+        let expected = ["word_at", "both", "Fields", "Base", "put", "Joined", "play_each", "◌⊕◌", "limit'"];
         assert_eq!(definitions(SPEC), expected);
     }
 
     #[test]
     fn citations_are_file_and_name() {
-        let text = "A rule (`Reader.read`, `V2.header-of`, again `Reader.read`) of `README.md`, `count`, `Reader. x` and `Bits::new`.\n\
-            ```\n`Code.block`\n```\nThen `Reader._⊕_`; `samsung.rs`, `a.B`, `a.{B,c}`, `Map.{}` and `Reader.a.b` are none. `V0.{put,rows-up}`, `V0.put`.";
-        assert_eq!(citations(text), ["Reader._⊕_", "Reader.read", "V0.put", "V0.rows-up", "V2.header-of"]);
+        let text = "A rule (`Reader.read`, `V2.header_of`, again `Reader.read`) of `README.md`, `count`, `Reader. x` and `Bits::new`.\n\
+            ```\n`Code.block`\n```\nThen `Reader.◌⊕◌`; `samsung.rs`, `a.B`, `a.{B,c}`, `Map.{}` and `Reader.a.b` are none. `V0.{put,rows_up}`, `V0.put`.";
+        assert_eq!(citations(text), ["Reader.read", "Reader.◌⊕◌", "V0.put", "V0.rows_up", "V2.header_of"]);
     }
 }

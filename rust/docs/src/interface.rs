@@ -122,17 +122,18 @@ mod tests {
     use super::*;
 
     const RATTLE: &str = "\
-#[no_mangle]
+#[unsafe(no_mangle)]
 pub extern \"C\" fn razvolk_decode(
     src: &[u8],
     width: usize,
     samples: &mut [u16],
 ) -> Answer
-    ensures { λ r. ⌜ r ≡ answer (now (src .entry)) ⌝ }
+    ensures answered { result.number ≡ answer src.now }
+    ensures left { length samples.new ≡ length samples.old }
 {
     decode(src, width, samples)
 }
-#[no_mangle]
+#[unsafe(no_mangle)]
 pub extern \"C\" fn razvolk_reset_at(state: Bits, pos: u64) -> Bits {
 ";
     const FFI: &str = "\

@@ -17,12 +17,13 @@ pub struct Layer {
     pub uses: Vec<String>,
 }
 
-/// The crates of crates.txt.
+/// The crates of crates.txt: a line has a crate's name first, and words on how it is built may follow it.
 pub fn listed(crates: &str) -> Vec<Listed> {
     let lines = crates.lines().map(|line| line.split('#').next().unwrap_or_default());
     let parted = lines.filter_map(|line| line.split_once(':'));
     let words = |text: &str| text.split_whitespace().map(String::from).collect();
-    parted.map(|(name, uses)| Listed { name: name.trim().into(), uses: words(uses) }).collect()
+    let named = parted.filter_map(|(name, uses)| Some((name.split_whitespace().next()?, uses)));
+    named.map(|(name, uses)| Listed { name: name.into(), uses: words(uses) }).collect()
 }
 
 /// The layers of a document's table with the columns "Layer", "Crates" and "Uses". Crates stand in backticks, with words beside them;
@@ -84,7 +85,7 @@ pub fn faults(crates: &[Listed], layers: &[Layer]) -> Vec<String> {
 mod tests {
     use super::*;
 
-    const CRATES: &str = "# comment\na:\nb: a  # more\nc: b a io\n";
+    const CRATES: &str = "# comment\na:\nb staticlib: a  # more\nc: b a io\n";
 
     fn of(rows: &str) -> Vec<String> {
         faults(&listed(CRATES), &told(&format!("| Layer | Crates | Uses |\n|---|---|---|\n{rows}\n")))

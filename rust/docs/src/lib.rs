@@ -27,9 +27,17 @@ pub fn text(path: &str) -> String {
 
 /// All files below a folder of the repository with an extension: their paths, and their texts.
 pub fn texts(folder: &str, extension: &str) -> Vec<(PathBuf, String)> {
-    let mut paths = files(&top().join(folder), &|_| false).unwrap_or_else(|e| panic!("{folder}: {e}"));
+    let mut paths = files(&top().join(folder), &is_made).unwrap_or_else(|e| panic!("{folder}: {e}"));
     paths.retain(|path| path.extension().is_some_and(|found| found == extension));
     paths.into_iter().map(|path| (path.clone(), fs::read_to_string(&path).expect("text"))).collect()
+}
+
+/// Whether a folder holds what is made, and no source: that for releases, cargo's, git's, and what `rt` keeps of a crate, which has
+/// copies of its sources.
+pub fn is_made(path: &Path) -> bool {
+    let of_crate = |path: &Path| path.parent().is_some_and(|above| above.ends_with("crates"));
+    ["target", "rust/target", ".git"].iter().any(|name| *path == top().join(name))
+        || path.ends_with("out") && path.parent().is_some_and(of_crate)
 }
 
 /// The files below a folder, in the order of their names; what `leave_out` picks is passed over, folders with all they hold.

@@ -1,6 +1,6 @@
 //! What documents refer to: files, functions by their paths, names and commands, in backticks, and links. Each must exist.
 
-use crate::files;
+use crate::{files, is_made};
 use std::collections::HashSet;
 use std::path::Path;
 use std::{fs, io};
@@ -27,8 +27,7 @@ fn is_name(c: char) -> bool {
 impl Repository {
     /// Reads the files below a folder, but for what is made there.
     pub fn read(top: &Path) -> io::Result<Repository> {
-        let made = [top.join("target"), top.join("rust/target"), top.join(".git")];
-        let paths = files(top, &|path| made.contains(&path.to_path_buf()))?;
+        let paths = files(top, &is_made)?;
         let inner = |path: &Path| path.strip_prefix(top).expect("a file below the top").to_string_lossy().into_owned();
         let files = paths.iter().map(|path| (inner(path), fs::read_to_string(path).unwrap_or_default()));
         Ok(Repository::new(files.collect()))
@@ -202,7 +201,7 @@ fn holds_word(text: &str, word: &str) -> bool {
     text.split(|c| !is_name(c) && c != '-').any(|found| found == word)
 }
 
-/// A name of two parts or more, which no word of the language is: `read_block`, `map-by-rule`.
+/// A name of two parts or more, which no word of the language is: `read_block`, `map_by_rule`, `razvolk-queue`.
 fn is_compound(name: &str) -> bool {
     let parts: Vec<&str> = name.split(['_', '-']).collect();
     let is_part = |part: &&str| part.chars().all(|c| c.is_ascii_lowercase() || c.is_ascii_digit()) && !part.is_empty();
@@ -296,19 +295,19 @@ mod tests {
             file("README.md", "# Top\n\n## What is, and what isn't\n"),
             file("Makefile", "all:\n\techo\n"),
             file("crates/low/src/row.rt", "pub fn read_row(a: u32)\n{\n}\npub enum Kind {\n    Short,\n}\n"),
-            file("crates/low/proofs/Laws.antt", "row-by-row : ℕ\n"),
+            file("crates/low/proofs/Laws.antt", "row_by_row : ℕ\n"),
             file("rust/src/lib.rs", "impl Kind {\n    pub fn is_short(self) {}\n}\n"),
             file("rust/compare/src/main.rs", "usage: v2|v2-crops COUNT"),
             file("rust/tool/src/options.rs", "    pub png: Option<PathBuf>,"),
             file("rust/tool/Cargo.toml", "name = \"razvolk-tool\"\n"),
             file("tests/try", ""),
-            file("crates/low/must-fail/more/one_less.edit", ""),
+            file("crates/low/must-fail-more/one_less.edit", ""),
         ])
     }
 
     #[test]
     fn what_exists_is_no_fault() {
-        let page = "`low::row::read_row`, `low::row`, `Kind::Short`, `Kind::is_short`, `std::fmt`, `read_row()`, `row-by-row`\n\
+        let page = "`low::row::read_row`, `low::row`, `Kind::Short`, `Kind::is_short`, `std::fmt`, `read_row()`, `row_by_row`\n\
             `crates/low/src/row.rt`, `row.rt`, `proofs/{Laws}.antt`, `crates/*/proofs`, `src/`, `crates/NAME/src/FILE.rt`\n\
             `crates/low`, `low/one_less`, `target/x/gone.rs`, `make all`, `make all FOR=9`, `compare v2-crops 9`, `cargo run -p razvolk-tool -- --help`, `razvolk a.srw --png`\n\
             [a](../README.md), [b](../README.md#what-is-and-what-isnt), [c](https://example.org/x), [d](../crates/low)\n\
@@ -326,7 +325,8 @@ mod tests {
             "`Kind::Long`",
             "`Sort::Short`",
             "`read_column`",
-            "`row-by-column`",
+            "`row_by_column`",
+            "`row-by-row`",
             "`crates/low/src/column.rt`",
             "`column.rt`",
             "`proofs/{Laws,Gone}.antt`",

@@ -7,15 +7,14 @@ use std::collections::{BTreeMap, BTreeSet};
 use std::fs;
 use std::path::Path;
 
-/// The edits of all crates, by crate and by the folder below `must-fail` that they stand in: their names and texts.
+/// The edits of all crates, by crate and by the folder of it that they stand in: their names and texts.
 fn edits() -> BTreeMap<(String, String), Vec<(String, String)>> {
     let mut found = BTreeMap::new();
     for (path, edit) in texts("crates", "edit") {
         let inner =
             path.strip_prefix(top().join("crates")).expect("a path below crates").to_string_lossy().into_owned();
         let (crate_name, rest) = inner.split_once('/').expect("a crate's name");
-        let place = rest.strip_prefix("must-fail/").unwrap_or_else(|| panic!("{inner}: no place of an edit"));
-        let (folder, name) = place.rsplit_once('/').unwrap_or(("", place));
+        let (folder, name) = rest.rsplit_once('/').unwrap_or(("", rest));
         found.entry((crate_name.into(), folder.into())).or_insert_with(Vec::new).push((name.into(), edit));
     }
     found
@@ -26,7 +25,8 @@ fn every_wrong_edit_fits_its_crate() {
     let mut found = Vec::new();
     let mut names = BTreeSet::new();
     for ((name, folder), edits) in edits() {
-        assert!(["", "more"].contains(&folder.as_str()), "{name}: nothing tries the edits of must-fail/{folder}");
+        let is_tried = ["must-fail", "must-fail-more"].contains(&folder.as_str());
+        assert!(is_tried, "{name}: nothing tries the edits of {folder}/");
         let crate_folder = top().join("crates").join(&name);
         for (file, edit) in edits {
             assert!(names.insert((name.clone(), file.clone())), "{name}: two edits have the name {file}");

@@ -1,6 +1,6 @@
 //! No file of the repository names a place on the machine that it was written on.
 
-use docs::{files, top};
+use docs::{files, is_made, top};
 use std::fs;
 
 /// The folders that such a path begins with.
@@ -19,9 +19,7 @@ fn machine_path(line: &str) -> Option<&str> {
 
 #[test]
 fn no_file_names_a_path_of_a_machine() {
-    let made = [top().join("target"), top().join("rust/target")];
-    let files =
-        files(&top(), &|path| path.ends_with(".git") || made.contains(&path.to_path_buf())).expect("the repository");
+    let files = files(&top(), &is_made).expect("the repository");
     let mut found = Vec::new();
     for path in &files {
         let Ok(text) = fs::read_to_string(path) else { continue };

@@ -11,7 +11,7 @@ const RECORD: &str = "crates/razvolk/proofs/Promises.antt";
 fn each_promise_is_a_field_of_the_theorem() {
     let list = told(&text("README.md"), "## What is promised, and what is not");
     assert!(list.len() > 6, "{list:?}");
-    assert!(list.iter().enumerate().all(|(i, line)| line.starts_with(&format!("p{}-", i + 1))), "{list:?}");
+    assert!(list.iter().enumerate().all(|(i, line)| line.starts_with(&format!("p{}_", i + 1))), "{list:?}");
     assert_eq!(list, fields(&text(RECORD), "Promises"), "README.md and {RECORD}");
 }
 
@@ -30,8 +30,7 @@ fn every_promise_that_a_document_cites_is_one() {
 fn each_export_stands_beside_the_promises() {
     let sources = texts("crates/razvolk/src", "rt");
     let exported: Vec<String> = sources.iter().flat_map(|(_, rattle)| exports(rattle)).collect();
-    let names: Vec<String> =
-        exported.iter().map(|one| one.split('(').next().unwrap_or_default().replace('_', "-")).collect();
+    let names: Vec<String> = exported.iter().map(|one| one.split('(').next().unwrap_or_default().into()).collect();
     assert!(names.len() > 7, "{names:?}");
     hold(&names, RECORD, &fields(&text(RECORD), "Exports"));
 }
