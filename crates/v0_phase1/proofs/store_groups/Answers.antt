@@ -49,19 +49,19 @@ returns c =
       ahead = c.requires.0;
       plans = c.plan_of-plan.ensures;
       first = elim c.if-plan-le-SHORT_BITS.branch [
-        then-plan-le-SHORT_BITS w ↦ subst (Group _ _ _ _) (sym w.a-is) w.four_at-a.ensures
+        | then-plan-le-SHORT_BITS w ↦ subst (Group _ _ _ _) (sym w.a-is) w.four_at-a.ensures
         | else-plan-le-SHORT_BITS w ↦ subst (Group _ _ _ _) (sym w.a-is) w.four_long_at-a.ensures
       ];
       second = elim c.if-plan-le-SHORT_BITS-2.branch [
-        then-plan-le-SHORT_BITS-2 w ↦ subst (Group _ _ _ _) (sym w.b-is) w.four_at-b.ensures
+        | then-plan-le-SHORT_BITS-2 w ↦ subst (Group _ _ _ _) (sym w.b-is) w.four_at-b.ensures
         | else-plan-le-SHORT_BITS-2 w ↦ subst (Group _ _ _ _) (sym w.b-is) w.four_long_at-b.ensures
       ];
       third = elim c.if-plan-le-SHORT_BITS-3.branch [
-        then-plan-le-SHORT_BITS-3 w ↦ subst (Group _ _ _ _) (sym w.c-is) w.four_at-c.ensures
+        | then-plan-le-SHORT_BITS-3 w ↦ subst (Group _ _ _ _) (sym w.c-is) w.four_at-c.ensures
         | else-plan-le-SHORT_BITS-3 w ↦ subst (Group _ _ _ _) (sym w.c-is) w.four_long_at-c.ensures
       ];
       fourth = elim c.if-plan-le-SHORT_BITS-4.branch [
-        then-plan-le-SHORT_BITS-4 w ↦ subst (Group _ _ _ _) (sym w.d-is) w.four_at-d.ensures
+        | then-plan-le-SHORT_BITS-4 w ↦ subst (Group _ _ _ _) (sym w.d-is) w.four_at-d.ensures
         | else-plan-le-SHORT_BITS-4 w ↦ subst (Group _ _ _ _) (sym w.d-is) w.four_long_at-d.ensures
       ];
     } in record {
