@@ -91,3 +91,12 @@ pub fn misused(folder: &Folder, line: &str, text: &str) {
     assert!(status == 2 && told.is_empty() && fault.contains(text), "{line}: {status} {told} {fault}");
     assert!(fault.ends_with("For more information try '--help'\n") || fault.contains("'--help'"), "{fault}");
 }
+
+/// What a test that passed made goes: `rt ci` refuses links in the repository.
+impl Drop for Folder {
+    fn drop(&mut self) {
+        if !std::thread::panicking() {
+            fs::remove_dir_all(&self.0).expect("what the test made is removed");
+        }
+    }
+}
