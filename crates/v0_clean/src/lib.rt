@@ -179,13 +179,29 @@ fn told(row: usize, fault: u32) -> Answer
     }
 }
 
+// The first fault of a row whose data begins at an offset of the stream, or 0.
+fn check_row(src: &[u8], size: Size, row: usize, offset: u32) -> u32
+    requires { InRow size row }
+    ensures { result ≡ row_fault src.now size row offset }
+{
+    let start = V0Row::fresh(row, offset);
+    check_from(
+        src,
+        size,
+        row,
+        Run {
+            col: 0,
+            state: start,
+        },
+    )
+}
+
 // The verdict on one row.
-fn check_row(src: &[u8], offsets: &[u32], size: Size, row: usize) -> Answer
+fn check_one(src: &[u8], offsets: &[u32], size: Size, row: usize) -> Answer
     requires { OffsetsLent size offsets.now × (row < size.height) }
     ensures { result ≡ rows_verdict src.now offsets.now size 1 row }
 {
-    let state = V0Row::fresh(row, offsets[row]);
-    let fault = check_from(src, size, row, Run { col: 0, state });
+    let fault = check_row(src, size, row, offsets[row]);
     if fault != 0 {
         return told(row, fault);
     }
@@ -263,7 +279,7 @@ fn check_part(src: &[u8], offsets: &[u32], size: Size, row: usize, heads: &[u32;
     ensures { Parted src.now offsets.now size row result }
 {
     if !has_four(size, row) {
-        let told = check_row(src, offsets, size, row);
+        let told = check_one(src, offsets, size, row);
         return Part { rows: 1, told };
     }
     let told = check_four(src, offsets, size, row, heads);

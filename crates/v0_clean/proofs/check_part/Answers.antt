@@ -3,11 +3,11 @@ use mathlib.Core.Path.{sym, ◌∙◌}
 use native.Mathlib.Omega.{arith}
 use Rattle.v0_clean.proofs.check_part.Goals as goal
 
-pub check_row-told-requires : goal.check_row-told-requires
-check_row-told-requires c = let p = c.requires in (p.0.lent, p.0.row_in)
+pub check_one-told-requires : goal.check_one-told-requires
+check_one-told-requires c = let p = c.requires in (p.0.lent, p.0.row_in)
 
 pub returns-then-not-has_four : goal.returns-then-not-has_four
-returns-then-not-has_four c = let p = c.requires in record { how_many = rw (sym c.has_four.ensures.answered ∙ c.if-not-has_four.true); some = omega arith; rows_in = omega (arith, p.0.row_in); verdict_is = c.check_row-told.ensures }
+returns-then-not-has_four c = let p = c.requires in record { how_many = rw (sym c.has_four.ensures.answered ∙ c.if-not-has_four.true); some = omega arith; rows_in = omega (arith, p.0.row_in); verdict_is = c.check_one-told.ensures }
 
 pub check_four-told-requires : goal.check_four-told-requires
 check_four-told-requires c =

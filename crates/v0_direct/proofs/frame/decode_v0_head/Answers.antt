@@ -6,11 +6,11 @@ use Rattle.rules.specs.V0.{sample_kind}
 use Rattle.v0_direct.proofs.FrameLaws.{first_none, first_one, first_two}
 use Rattle.v0_direct.proofs.frame.decode_v0_head.Goals as goal
 
-pub returns-then-size-eq0 : goal.returns-then-size-eq0
-returns-then-size-eq0 c = first_none sample_kind _ _ c.args.size _ (omega arith)
+pub returns-then-first-eq0 : goal.returns-then-first-eq0
+returns-then-first-eq0 c = first_none sample_kind _ _ c.args.size _ (omega arith)
 
-pub returns-then-size-eq1 : goal.returns-then-size-eq1
-returns-then-size-eq1 c =
+pub returns-then-first-eq1 : goal.returns-then-first-eq1
+returns-then-first-eq1 c =
     first_one sample_kind _ _ c.args.size _ _ (omega arith) c.decode_early_row.ensures
 
 pub decode_early_row-requires-2 : goal.decode_early_row-requires-2
