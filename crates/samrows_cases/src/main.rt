@@ -1,5 +1,5 @@
 // Runs each file that the arguments name as `samrows` runs its standard input, and writes the texts one after another. A file that
-// can't be opened is told on standard error, and the next one follows.
+// can't be read is told on standard error, and the next one follows.
 #![tactic(auto)]
 
 use std::fs::File;
@@ -16,14 +16,16 @@ fn main(rt: HostRuntime) -> io::Result<()> {
 // The job in the file of a name.
 fn run_file(rt: &HostRuntime, path: &str) -> io::Result<()> {
     match File::open(rt, path) {
-        Ok(file) => write_text(rt, file),
+        Ok(file) => write_text(rt, path, file),
         Err(error) => eprintln!(rt; "{path}: {error}"),
     }
 }
 
 // The text of the job in an open file.
-fn write_text(rt: &HostRuntime, mut file: File) -> io::Result<()> {
+fn write_text(rt: &HostRuntime, path: &str, mut file: File) -> io::Result<()> {
     let mut text = [0u8; job::TEXT];
-    let count = job_file::read_job(&mut file, &mut text)?;
-    rt.stdout().write_all(&text[..count])
+    match job_file::read_job(&mut file, &mut text) {
+        Ok(count) => rt.stdout().write_all(&text[..count]),
+        Err(error) => eprintln!(rt; "{path}: {error}"),
+    }
 }
