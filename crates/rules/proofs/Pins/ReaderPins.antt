@@ -6,9 +6,7 @@ use mathlib.Core.List.{List, [], ◌∷◌, ◌++◌, map}
 use lib.IntN.{pos, negsuc}
 use Rattle.rules.specs.declared.reader.Bits.{Bits}
 use Rattle.rules.specs.declared.reader.Word.{Word}
-use Rattle.rules.specs.Reader as Reader
 use Rattle.rules.specs.Reader.{word_at, fetched, most_filler, counted, has_filler, fresh, reset_at, held, first_bits, from_held, from_next, read, fields, four, signed, read_signed, modulo, read_residual}
-use Rattle.rules.specs.Frame as Frame
 use Rattle.rules.specs.Frame.{cells, tabulate, change_cells, ended}
 use Rattle.rules.specs.Examples.{Example}
 use Rattle.rules.proofs.Pins.Values.{is, are, Hold, of_bool, minus, of_ℤ, bits, of_bits, of_got, size, words}
