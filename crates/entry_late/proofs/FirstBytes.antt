@@ -121,9 +121,9 @@ module _ (t : List ℕ) (z : Size) (wide : z.width ≤ most_side) (high : z.heig
       enough_stays t (reads_run v.run) (omega arith)
       (all_map _ _ (λ p l. omega (arith, e)) (run_moves t v.run (omega (arith, v.few))).1)
 
-  told : Told t (header t).hdr z.width wide z.height 0 (header t).bits (read_frame t z).answer
+  told : Told t (header t).value z.width wide z.height 0 (header t).bits (read_frame t z).answer
   unfolding read_frame
-  told = rows_told t (header t).hdr z.width wide z.height 0 (omega arith) (header t).bits (position_starts t z.width) header_clear
+  told = rows_told t (header t).value z.width wide z.height 0 (omega arith) (header t).bits (position_starts t z.width) header_clear
 
   -- If a word was missing, the answer's row is the first that fetches one past the end; else no row does.
   pub first_missing : (read_frame t z).answer.filler ≢ 0 → first_past (length t) t z ≡ (read_frame t z).answer.row

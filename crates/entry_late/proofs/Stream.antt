@@ -339,7 +339,7 @@ module _ (p : ℕ) (s t : List ℕ) (agree : AgreeIn p s t) (below : header_byte
 
   pub late_samples : (f : List ℕ) (i : ℕ) → i < first_past p s z * z.width → get_or (decoded s z f) i 0 ≡ get_or (decoded t z f) i 0
   unfolding decoded
-  late_samples f = rw (← header_same) (late_cells (sample_kind (top (header s).hdr)) f)
+  late_samples f = rw (← header_same) (late_cells (sample_kind (top (header s).value)) f)
 
   pub late_marks : (i : ℕ) → i < first_past p s z * z.width → get_or (v2_map s z) i 0 ≡ get_or (v2_map t z) i 0
   unfolding v2_map
@@ -358,19 +358,19 @@ module _ (p : ℕ) (s t : List ℕ) (agree : AgreeIn p s t) (below : header_byte
 
 -- The words that row n of a frame fetches, if the rows before it are read.
 abbrev pub frame_words : List ℕ → Size → ℕ → List ℕ
-frame_words s z n = let x = header s in (row_words s x.hdr z.width n (state_after s x.hdr z.width 0 n x.bits)).words
+frame_words s z n = let x = header s in (row_words s x.value z.width n (state_after s x.value z.width 0 n x.bits)).words
 
 module _ (p : ℕ) (s : List ℕ) (z : Size) (wide : z.width ≤ most_side) (high : z.height ≤ most_side) where
   -- A row before the first row past p, if it is read, fetches only words that lie wholly below p.
   pub before_first : (n : ℕ) → n < first_past p s z → n < z.height
-      → none_refused s (header s).hdr z.width 0 n (header s).bits ≡ true → Below p (frame_words s z n)
+      → none_refused s (header s).value z.width 0 n (header s).bits ≡ true → Below p (frame_words s z n)
   unfolding first_past
   before_first n l r u =
-      early_rows p s (header s).hdr z.width wide z.height 0 (omega arith) (header s).bits (position_starts s z.width) n n (omega arith) l r u
+      early_rows p s (header s).value z.width wide z.height 0 (omega arith) (header s).bits (position_starts s z.width) n n (omega arith) l r u
 
   -- The first row past p fetches a word that doesn't lie wholly below p, unless it is the height.
   pub first_fetches : first_past p s z < z.height → Below p (frame_words s z (first_past p s z)) → ⊥
   unfolding first_past
   first_fetches l =
-      first_row p s (header s).hdr z.width wide z.height 0 (omega arith) (header s).bits (position_starts s z.width) (first_past p s z) (first_past p s z)
+      first_row p s (header s).value z.width wide z.height 0 (omega arith) (header s).bits (position_starts s z.width) (first_past p s z) (first_past p s z)
       (omega arith) refl l

@@ -66,13 +66,13 @@ of_bool b = cond b 1 0
 abbrev after : List ℕ → ℕ → ℕ
 after s n =
     let x = V2.header s in
-    (state_after s x.hdr 16 0 n x.bits).pos
+    (state_after s x.value 16 0 n x.bits).pos
 
 -- Whether none of n rows from row 0 on was refused.
 abbrev unrefused : List ℕ → ℕ → ℕ
 unrefused s n =
     let x = V2.header s in
-    of_bool (none_refused s x.hdr 16 0 n x.bits)
+    of_bool (none_refused s x.value 16 0 n x.bits)
 
 -- ── V0, 2 by 2 ──
 

@@ -53,7 +53,7 @@ first_past_from p s h w (suc k) row b =
 unfoldable pub first_past : ℕ → List ℕ → Size → ℕ
 first_past p s z =
     let x = header s in
-    first_past_from p s x.hdr z.width z.height 0 x.bits
+    first_past_from p s x.value z.width z.height 0 x.bits
 
 -- ── What the definition is held against ──
 

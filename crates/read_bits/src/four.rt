@@ -4,18 +4,18 @@ ghost use Rattle.rules.specs.Reader.{four};
 
 use super::{get, get_whole};
 use read_fields::field;
-use rules::{Bits, Four};
+use rules::{Bits, Taken};
 
 // Reads four fields of n bits by one read.
-fn read_short(src: &[u8], bits: Bits, n: u32) -> Four
+fn read_short(src: &[u8], bits: Bits, n: u32) -> Taken<[u32; 4]>
     requires { n ≤ 8 }
     ensures { result ≡ four src.now n bits }
 {
     let g = get_whole(src, bits, 4 * n);
     let v = g.value as u64;
     let next = g.bits;
-    Four {
-        values: [
+    Taken {
+        value: [
             field(v, 3 * n, n),
             field(v, 2 * n, n),
             field(v, n, n),
@@ -26,7 +26,7 @@ fn read_short(src: &[u8], bits: Bits, n: u32) -> Four
 }
 
 // Reads four fields of n bits, two by each of two reads.
-fn read_medium(src: &[u8], bits: Bits, n: u32) -> Four
+fn read_medium(src: &[u8], bits: Bits, n: u32) -> Taken<[u32; 4]>
     requires { n ≤ 16 }
     ensures { result ≡ four src.now n bits }
 {
@@ -35,8 +35,8 @@ fn read_medium(src: &[u8], bits: Bits, n: u32) -> Four
     let v = g.value as u64;
     let w = h.value as u64;
     let next = h.bits;
-    Four {
-        values: [
+    Taken {
+        value: [
             field(v, n, n),
             field(v, 0, n),
             field(w, n, n),
@@ -47,7 +47,7 @@ fn read_medium(src: &[u8], bits: Bits, n: u32) -> Four
 }
 
 // Reads four fields of n bits, each by a read of its own.
-fn read_long(src: &[u8], bits: Bits, n: u32) -> Four
+fn read_long(src: &[u8], bits: Bits, n: u32) -> Taken<[u32; 4]>
     ensures { result ≡ four src.now n bits }
 {
     let a = get(src, bits, n);
@@ -55,13 +55,13 @@ fn read_long(src: &[u8], bits: Bits, n: u32) -> Four
     let c = get(src, b.bits, n);
     let d = get(src, c.bits, n);
     let next = d.bits;
-    Four {
-        values: [a.value, b.value, c.value, d.value],
+    Taken {
+        value: [a.value, b.value, c.value, d.value],
         bits: next,
     }
 }
 
-pub fn read_four(src: &[u8], bits: Bits, n: u32) -> Four
+pub fn read_four(src: &[u8], bits: Bits, n: u32) -> Taken<[u32; 4]>
     ensures { result ≡ four src.now n bits }
 {
     if n <= 8 {
@@ -74,7 +74,7 @@ pub fn read_four(src: &[u8], bits: Bits, n: u32) -> Four
 }
 
 // Four fields of 2 bits. A function of its own, since `read_four` is called from one place and so compiled into it.
-pub fn read_flags(src: &[u8], bits: Bits) -> Four
+pub fn read_flags(src: &[u8], bits: Bits) -> Taken<[u32; 4]>
     ensures { result ≡ four src.now 2 bits }
 {
     read_short(src, bits, 2)

@@ -17,7 +17,7 @@ ghost use Rattle.read_bits.specs.Refilled.{joined_with, Enough, Whole};
 pub mod four;
 
 use read_fields::{field, residual_of, signed_of};
-pub use rules::{Bits, Got, Residual, Signed, Word};
+pub use rules::{Bits, Got, Taken, Word};
 
 // The word of four bytes, lowest first.
 fn word_of(a: u8, b: u8, c: u8, d: u8) -> u32
@@ -179,26 +179,26 @@ pub fn reset_at(bits: Bits, pos: u64) -> Bits
 }
 
 // Reads a number of n bits, at most 32, in two's complement.
-pub fn read_signed(src: &[u8], bits: Bits, n: u32) -> Signed
+pub fn read_signed(src: &[u8], bits: Bits, n: u32) -> Taken<i32>
     ensures { result ≡ read_signed src.now bits n }
 {
     let k = capped(n);
     let g = get(src, bits, n);
     let next = g.bits;
-    Signed {
+    Taken {
         value: signed_of(g.value, k),
         bits: next,
     }
 }
 
 // Reads a number of n bits, at most 32, in two's complement, modulo 65,536 as a sample adds it.
-pub fn read_residual(src: &[u8], bits: Bits, n: u32) -> Residual
+pub fn read_residual(src: &[u8], bits: Bits, n: u32) -> Taken<u16>
     ensures { result ≡ read_residual src.now bits n }
 {
     let k = capped(n);
     let g = get(src, bits, n);
     let next = g.bits;
-    Residual {
+    Taken {
         value: residual_of(g.value, k),
         bits: next,
     }

@@ -86,19 +86,19 @@ module _ (s u : List ℕ) (longer : Longer s u) (z : Size) (clear : (V2.read_fra
   unfolding V2.read_frame
   header_same =
       let x = V2.header s in
-      (sure s u longer (header_traced s)).same (rows_complete s u longer x.hdr z.width z.height 0 x.bits clear).0
+      (sure s u longer (header_traced s)).same (rows_complete s u longer x.value z.width z.height 0 x.bits clear).0
 
   -- The blocks and the answer are the same.
   pub v2_frame_same : V2.read_frame s z ≡ V2.read_frame u z
   unfolding V2.read_frame
   v2_frame_same =
       let x = V2.header s in
-      (rows_complete s u longer x.hdr z.width z.height 0 x.bits clear).1
-      ∙ ap (λ y. V2.rows u y.hdr z.width z.height 0 y.bits) header_same
+      (rows_complete s u longer x.value z.width z.height 0 x.bits clear).1
+      ∙ ap (λ y. V2.rows u y.value z.width z.height 0 y.bits) header_same
 
   pub v2_decoded_same : (f : List ℕ) → V2.decoded s z f ≡ V2.decoded u z f
   unfolding V2.decoded V2.frame
-  v2_decoded_same f = ap₂ (λ x y. V2.apply (V2.sample_kind (V2.top x.hdr)) y.blocks f) header_same v2_frame_same
+  v2_decoded_same f = ap₂ (λ x y. V2.apply (V2.sample_kind (V2.top x.value)) y.blocks f) header_same v2_frame_same
 
   pub v2_map_same : v2_map s z ≡ v2_map u z
   unfolding v2_map V2.frame

@@ -210,7 +210,7 @@ pub v2_answer : (s : List ℕ) (z : Size) → Answers s (fresh 0) (V2.read_frame
 unfolding V2.read_frame
 v2_answer s z =
     let x = V2.header s in
-    let a = rows_answer s x.hdr z.width z.height 0 x.bits in
+    let a = rows_answer s x.value z.width z.height 0 x.bits in
     record { end = a.end; reach = by_fields (header_traced s).leads then a.reach; filler_is = a.filler_is }
 
 -- So it is the number of the words that this reader fetches past the stream's end.

@@ -172,7 +172,7 @@ pub v2_no_filler : (s : List ℕ) (z : Size) → (V2.read_frame s z).answer.numb
 unfolding v2_map V2.frame V2.read_frame
 v2_no_filler s z e =
     let x = V2.header s in
-    v2_apply_low (v2_rows_clear s x.hdr z.width z.height 0 x.bits e) (all_replicate Low (cells z) (lit< tt))
+    v2_apply_low (v2_rows_clear s x.value z.width z.height 0 x.bits e) (all_replicate Low (cells z) (lit< tt))
 
 -- An accepted V2 frame's map is that of first parts alone.
 pub v2_as_before : (s : List ℕ) (z : Size) → (V2.read_frame s z).answer.number ≡ 0 → v2_map s z ≡ V2.frame V2Old.old_kind s z (all_old z)

@@ -366,34 +366,34 @@ fields_at_once s n (m ∷ ms) b fit w =
 
 -- ── Four fields of one width ──
 
-pub four_fields : (s : List ℕ) (n : ℕ) (b : Bits) → four s n b ≡ record { values = (fields s (n ∷ n ∷ n ∷ n ∷ []) b).values; bits = (fields s (n ∷ n ∷ n ∷ n ∷ []) b).bits }
+pub four_fields : (s : List ℕ) (n : ℕ) (b : Bits) → four s n b ≡ record { value = (fields s (n ∷ n ∷ n ∷ n ∷ []) b).values; bits = (fields s (n ∷ n ∷ n ∷ n ∷ []) b).bits }
 unfolding four
 four_fields s n b = refl
 
 -- Four fields are four reads.
 pub four_reads : (s : List ℕ) (n : ℕ) (bits : Bits) (a b c d : Got) → a ≡ read s bits n → b ≡ read s a.bits n → c ≡ read s b.bits n → d ≡ read s c.bits n
-    → record { values = a.value ∷ b.value ∷ c.value ∷ d.value ∷ []; bits = d.bits } ≡ four s n bits
+    → record { value = a.value ∷ b.value ∷ c.value ∷ d.value ∷ []; bits = d.bits } ≡ four s n bits
 unfolding four fields
 four_reads s n bits a b c d ea eb ec ed = rw (← ea, ← eb, ← ec, ← ed)
 
 -- Four fields are two pairs of reads.
 pub four_pairs : (s : List ℕ) (n : ℕ) (b : Bits) → four s n b
-    ≡ (let f = fields s (n ∷ n ∷ []) b in let e = fields s (n ∷ n ∷ []) f.bits in record { values = f.values ++ e.values; bits = e.bits })
+    ≡ (let f = fields s (n ∷ n ∷ []) b in let e = fields s (n ∷ n ∷ []) f.bits in record { value = f.values ++ e.values; bits = e.bits })
 unfolding four fields
 four_pairs s n b = refl
 
-pub four_values : (s : List ℕ) (n : ℕ) (b : Bits) → length (four s n b).values ≡ 4
+pub four_values : (s : List ℕ) (n : ℕ) (b : Bits) → length (four s n b).value ≡ 4
 unfolding four fields
 four_values s n b = refl
 
-pub four_below : (s : List ℕ) (n : ℕ) (b : Bits) (i : ℕ) → n ≤ 32 → get_or (four s n b).values i 0 < 2 ^ n
+pub four_below : (s : List ℕ) (n : ℕ) (b : Bits) (i : ℕ) → n ≤ 32 → get_or (four s n b).value i 0 < 2 ^ n
 unfolding four fields
 four_below s n b i l = each i
   where
     below : (c : Bits) → (read s c n).value < 2 ^ n
     below c = let m : min n 32 ≡ n = omega arith in rw m at (read_below s c n)
 
-    each : (i : ℕ) → get_or (four s n b).values i 0 < 2 ^ n
+    each : (i : ℕ) → get_or (four s n b).value i 0 < 2 ^ n
     each zero = below _
     each (suc zero) = below _
     each (suc (suc zero)) = below _

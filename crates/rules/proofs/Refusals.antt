@@ -247,7 +247,7 @@ unfolding read_frame
 v2_ending s z =
     let x = header s in
     let e : 0 + z.height ≡ z.height = omega arith in
-    rw e at (rows_ending s x.hdr z.width z.height 0 x.bits)
+    rw e at (rows_ending s x.value z.width z.height 0 x.bits)
 
 -- The answer of a call that was not refused is done, or in V2 one of 5 to 8 with a row of the frame.
 pub stream_ending : (k : Decoder) (s offsets : List ℕ) (z : Size) → Ending z.height (stream_answer k s offsets z)
@@ -309,4 +309,4 @@ pub v2_missing : (s : List ℕ) (z : Size) → 1 ≤ z.height → Missing (read_
 unfolding read_frame
 v2_missing s z l =
     let x = header s in
-    rows_missing s x.hdr z.width z.height 0 x.bits (λ e. absurd (omega arith))
+    rows_missing s x.value z.width z.height 0 x.bits (λ e. absurd (omega arith))

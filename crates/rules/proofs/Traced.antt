@@ -107,7 +107,7 @@ module _ (s : List ℕ) where
 
   pub four_traced : (n : ℕ) (b : Bits) → Traced s 4 (λ f. f.bits) b (λ u. four u n b)
   four_traced n b =
-      traced_as (λ u. sym (four_fields u n b)) (traced_map (λ f. record { values = f.values; bits = f.bits }) (fields_traced (n ∷ n ∷ n ∷ n ∷ []) b))
+      traced_as (λ u. sym (four_fields u n b)) (traced_map (λ f. record { value = f.values; bits = f.bits }) (fields_traced (n ∷ n ∷ n ∷ n ∷ []) b))
 
   pub read_signed_traced : (b : Bits) (n : ℕ) → Traced s 1 (λ g. g.bits) b (λ u. read_signed u b n)
   read_signed_traced b n =

@@ -19,7 +19,7 @@ module _ (s : List ℕ) where
   operated_traced : (op : ℕ) (l : ℤ) (b : Bits) → Traced s 1 (λ x. x.bits) b (λ u. operated u op l b)
   unfolding operated
   operated_traced op l b =
-      traced_cond (eqb op 3) (traced_map (λ g. record { length = pos g.value; bits = g.bits }) (read_traced s b 4)) (traced_none _)
+      traced_cond (eqb op 3) (traced_map (λ g. record { value = pos g.value; bits = g.bits }) (read_traced s b 4)) (traced_none _)
 
   operate_traced : (ops : List ℕ) (ls : List ℤ) (b : Bits) → Traced s (length ops) (λ x. x.bits) b (λ u. operate u ops ls b)
   unfolding operate
@@ -27,9 +27,9 @@ module _ (s : List ℕ) where
   operate_traced (op ∷ ops) [] b = traced_none _
   operate_traced (op ∷ ops) (l ∷ ls) b =
       wider (omega arith)
-      (traced_then (λ u x. let rest = operate u ops ls x.bits in record { lengths = x.length ∷ rest.lengths; bits = rest.bits })
+      (traced_then (λ u x. let rest = operate u ops ls x.bits in record { lengths = x.value ∷ rest.lengths; bits = rest.bits })
       (operated_traced op l b)
-      (traced_map (λ x. record { lengths = (operated s op l b).length ∷ x.lengths; bits = x.bits })
+      (traced_map (λ x. record { lengths = (operated s op l b).value ∷ x.lengths; bits = x.bits })
       (operate_traced ops ls (operated s op l b).bits)))
 
   -- A block's head takes at most nine fields.
@@ -38,11 +38,11 @@ module _ (s : List ℕ) where
   head_traced st =
       let d = read s st.bits 1 in
       let o = four s 2 d.bits in
-      traced_then (λ u g. let o = four u 2 g.bits in record { up = eqb g.value 1; row = operate u o.values st.lengths o.bits })
+      traced_then (λ u g. let o = four u 2 g.bits in record { up = eqb g.value 1; row = operate u o.value st.lengths o.bits })
       (read_traced s st.bits 1)
-      (traced_then (λ u o. record { up = eqb d.value 1; row = operate u o.values st.lengths o.bits }) (four_traced s 2 d.bits)
+      (traced_then (λ u o. record { up = eqb d.value 1; row = operate u o.value st.lengths o.bits }) (four_traced s 2 d.bits)
       (traced_map (λ r. record { up = eqb d.value 1; row = r })
-      (wider {m = 4} (omega (arith, four_values s 2 d.bits)) (operate_traced o.values st.lengths o.bits))))
+      (wider {m = 4} (omega (arith, four_values s 2 d.bits)) (operate_traced o.value st.lengths o.bits))))
 
   sample_traced : (base : ℕ) (ls : List ℤ) (predict : ℕ → Predictor) (c : ℕ) (b : Bits)
       → Traced s 1 (λ x. x.bits) b (λ u. sample u base ls predict c b)

@@ -15,9 +15,9 @@ use Rattle.rules.specs.Limits.{most_side}
 use Rattle.rules.specs.declared.answer.Size.{Size}
 use Rattle.rules.specs.declared.reader.Bits.{Bits}
 use Rattle.rules.specs.declared.reader.Got.{Got}
+use Rattle.rules.specs.declared.reader.Taken.{Taken}
 use Rattle.rules.specs.declared.v2.V2Hdr.{V2Hdr}
 use Rattle.rules.specs.declared.v2.V2Row.{V2Row}
-use Rattle.rules.specs.declared.v2.V2Scale.{V2Scale}
 use Rattle.rules.specs.declared.v2.V2Block.TheVariants.{Next}
 use Rattle.rules.specs.Reader.{fresh, read, four}
 use Rattle.rules.specs.Ranges.{Between, not_above, not_below, ScaleAt, Small, Fits}
@@ -30,16 +30,16 @@ use Rattle.rules.proofs.Tests.{by-test}
 -- ── The header ──
 
 -- The depth is 1 to 16.
-pub depth_least : (s : List ℕ) → 1 ≤ (header s).hdr.depth
+pub depth_least : (s : List ℕ) → 1 ≤ (header s).value.depth
 unfolding header
 depth_least s = omega arith
 
-pub depth_most : (s : List ℕ) → (header s).hdr.depth ≤ 16
+pub depth_most : (s : List ℕ) → (header s).value.depth ≤ 16
 unfolding header
 depth_most s = omega (arith, fields_below s field_widths (fresh 0) 2)
 
 -- The initial sample is below 2^14.
-pub initial_below : (s : List ℕ) → (header s).hdr.initial < 16_384
+pub initial_below : (s : List ℕ) → (header s).value.initial < 16_384
 unfolding header
 initial_below s = omega (arith, fields_below s field_widths (fresh 0) 12)
 
@@ -76,7 +76,7 @@ scale_starts = record { range = not_above 0 (omega arith) }
 pub step_between : (code : ℕ) → Between 2 2 (get_or scale_steps code (pos 0))
 step_between code = all_get (Between 2 2) (more (not_above 0 (lit≤ tt)) (more (not_below 1 (lit< tt)) (more (not_above 2 (lit≤ tt)) nil))) code (pos 0) (not_above 0 (lit≤ tt))
 
-rescaled_between : (s : List ℕ) {scale : ℤ} (b : Bits) {k : ℕ} → Between k (4_093 + k) scale → Between (k + 2) (4_093 + k + 2) (rescaled s scale b).scale
+rescaled_between : (s : List ℕ) {scale : ℤ} (b : Bits) {k : ℕ} → Between k (4_093 + k) scale → Between (k + 2) (4_093 + k + 2) (rescaled s scale b).value
 unfolding rescaled
 rescaled_between s b p =
     by-test (eqb (read s b 2).value 3)
@@ -84,7 +84,7 @@ rescaled_between s b p =
     (λ e. rw e (between_add p (step_between (read s b 2).value)))
 
 -- A block keeps the range: what is read at a column is what a scale can be before the next block's.
-pub scale_read : (s : List ℕ) (h : V2Hdr) {col : ℕ} {scale : ℤ} (b : Bits) → ScaleAt col scale → ScaleAt (col + 16) (read_scale s h col scale b).scale
+pub scale_read : (s : List ℕ) (h : V2Hdr) {col : ℕ} {scale : ℤ} (b : Bits) → ScaleAt col scale → ScaleAt (col + 16) (read_scale s h col scale b).value
 unfolding read_scale
 scale_read s h {col} b p = record {
   range = by-test (option_4 h)
@@ -133,7 +133,7 @@ pub lengths_most : (s : List ℕ) (h : V2Hdr) (row : ℕ) (mode : List (List ℕ
 unfolding read_lengths flagged_lengths
 lengths_most s h row mode b =
     by-test (eqb (lengths_bit s h b).value 0)
-    (λ e. rw e (lengths_from_most s h.depth row (four s 2 g).values 4 0 (no_lengths mode (four s 2 g).bits) zeros))
+    (λ e. rw e (lengths_from_most s h.depth row (four s 2 g).value 4 0 (no_lengths mode (four s 2 g).bits) zeros))
     (λ f. rw f (λ e. zeros))
   where
     g : Bits
@@ -182,14 +182,14 @@ module _ (s : List ℕ) (h : V2Hdr) (row col : ℕ) (mode : List (List ℕ)) (b 
 
 module _ (s : List ℕ) (h : V2Hdr) (w row col : ℕ) (b : Bits) (st : V2Row) (mode : List (List ℕ)) (b' : Bits) (st' : V2Row)
     (e : (read_block s h w row col b st mode).outcome ≡ Next b' st') where
-  abbrev Scaled : V2Scale
+  abbrev Scaled : Taken ℤ
   Scaled = read_scale s h col st.scale b
 
   abbrev Moved : Got
   Moved = read_motion s h st.motion Scaled.bits
 
   abbrev State : V2Row
-  State = record { motion = Moved.value; scale = Scaled.scale }
+  State = record { motion = Moved.value; scale = Scaled.value }
 
   unrefused : (base_refusal row col Moved.value ≡ 0) × (based_tail s h row col State mode Moved.bits ≡ tail s h row State mode Moved.bits)
   unfolding read_block
@@ -200,7 +200,7 @@ module _ (s : List ℕ) (h : V2Hdr) (w row col : ℕ) (b : Bits) (st : V2Row) (m
   followed = tail_next s h row col mode Moved.bits b' State st' (sym (ap (λ x. x.outcome) unrefused.1) ∙ e)
 
   -- It hands its own motion and scale on.
-  pub next_state : st' ≡ record { motion = Moved.value; scale = Scaled.scale }
+  pub next_state : st' ≡ record { motion = Moved.value; scale = Scaled.value }
   next_state = followed.0
 
   -- Its base met no refusal.
@@ -278,7 +278,7 @@ pub frame_sound : (s : List ℕ) (z : Size) → z.width ≤ most_side → All So
 unfolding read_frame
 frame_sound s z limit =
     let x = header s in
-    rows_sound s x.hdr z.width (depth_most s) (omega (arith, initial_below s)) limit z.height 0 x.bits
+    rows_sound s x.value z.width (depth_most s) (omega (arith, initial_below s)) limit z.height 0 x.bits
 
 -- ── 6. samples ──
 

@@ -141,7 +141,7 @@ entry_marked n i l r = let q = get_or-replicate {A = ℕ} n i 1 0 (rw length-rep
 
 frame_run : (s : List ℕ) (z : Size) → Run (0 * z.width) ((0 + z.height) * z.width) (read_frame s z).blocks
 unfolding read_frame
-frame_run s z = rows_run s (header s).hdr z.width z.height 0 (header s).bits
+frame_run s z = rows_run s (header s).value z.width z.height 0 (header s).bits
 
 -- Over any old samples, the same or not, the frame of a longer stream has byte 0 and the same sample where the frame of s has byte 0.
 pub longer_final : (s u : List ℕ) → Longer s u → (z : Size) (f g : List ℕ) → length f ≡ cells z → length g ≡ cells z
@@ -157,10 +157,10 @@ longer_final s u longer z f g lf lg = go (frame_parted s u longer z)
     low (b ∷ bs) = let l : 0 ≤ b.place = omega arith in more l (low bs)
 
     go : Parted s u z → (i : ℕ)
-        → Final (get_or (apply v2_marks (read_frame s z).blocks (replicate (cells z) 1)) i 0) (get_or (apply (sample_kind (top (header s).hdr)) (read_frame s z).blocks f) i 0)
-        (get_or (apply v2_marks (read_frame u z).blocks (replicate (cells z) 1)) i 0) (get_or (apply (sample_kind (top (header u).hdr)) (read_frame u z).blocks g) i 0)
-    go (alike e p) = rw (← e) (split_kept (top (header s).hdr) p (frame_run s z) (frame_run u z) (λ i l r. entry_marked (cells z) i (omega arith) r) entry).cell
-    go (filled p) = (apart_kept (top (header s).hdr) (top (header u).hdr) 0 p (low _) (low _) (entry_marked (cells z)) entry).cell
+        → Final (get_or (apply v2_marks (read_frame s z).blocks (replicate (cells z) 1)) i 0) (get_or (apply (sample_kind (top (header s).value)) (read_frame s z).blocks f) i 0)
+        (get_or (apply v2_marks (read_frame u z).blocks (replicate (cells z) 1)) i 0) (get_or (apply (sample_kind (top (header u).value)) (read_frame u z).blocks g) i 0)
+    go (alike e p) = rw (← e) (split_kept (top (header s).value) p (frame_run s z) (frame_run u z) (λ i l r. entry_marked (cells z) i (omega arith) r) entry).cell
+    go (filled p) = (apart_kept (top (header s).value) (top (header u).value) 0 p (low _) (low _) (entry_marked (cells z)) entry).cell
 
 -- What a cut upload shows is final.
 pub cut_final : (s t : List ℕ) (z : Size) (f : List ℕ) → length f ≡ cells z → (i : ℕ) → get_or (v2_map s z) i 0 ≡ 0

@@ -154,8 +154,8 @@ unfolding read_frame
 frame_parted s u longer z =
     by-test (eqb (header s).bits.filler 0)
     (λ e. let q = (sure s u longer (header_traced s)).same (eqb-true (header s).bits.filler 0 e) in
-    alike q (rw (← q) (rows_split s u longer (header s).hdr z.width z.height 0 (header s).bits)))
-    (λ e. filled (rows_filled s u longer (header s).hdr z.width z.height 0 (header s).bits (eqb-false (header s).bits.filler 0 e)))
+    alike q (rw (← q) (rows_split s u longer (header s).value z.width z.height 0 (header s).bits)))
+    (λ e. filled (rows_filled s u longer (header s).value z.width z.height 0 (header s).bits (eqb-false (header s).bits.filler 0 e)))
 
 -- ── Places ──
 

@@ -186,7 +186,7 @@ unfolding v2_map frame read_frame
 v2_unmarked s z wide whole done i l =
     let x = header s in
     each_get Old (v2_first_parts s z) i 0 0 refl
-    ∙ chain_zero (rows_chain s x.hdr z.width wide whole z.height 0 x.bits done) (all_old z)
+    ∙ chain_zero (rows_chain s x.value z.width wide whole z.height 0 x.bits done) (all_old z)
     (rw length-replicate (omega (arith, mul_comm z.width z.height))) (λ j h. absurd (omega arith)) i (omega (arith, mul_comm z.width z.height))
 
 -- So every V2 call that is accepted at such a width has no 1: refusal 2 keeps smaller frames out.

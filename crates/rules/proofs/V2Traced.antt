@@ -10,9 +10,9 @@ use lib.IntN.{ℤ, pos, ◌+ℤ◌}
 use lib.ListN.{get_or, set, replicate}
 use Rattle.rules.specs.declared.reader.Bits.{Bits}
 use Rattle.rules.specs.declared.reader.Got.{Got}
+use Rattle.rules.specs.declared.reader.Taken.{Taken}
 use Rattle.rules.specs.declared.v2.V2Hdr.{V2Hdr}
 use Rattle.rules.specs.declared.v2.V2Row.{V2Row}
-use Rattle.rules.specs.declared.v2.V2Scale.{V2Scale}
 use Rattle.rules.specs.declared.v2.V2Block.{V2Block}
 use Rattle.rules.specs.declared.v2.V2Block.TheVariants.{Next, EarlyMotion, Outside, LongDifference}
 use Rattle.rules.specs.Reader.{has_filler, fresh, read, four}
@@ -28,7 +28,7 @@ module _ (s : List ℕ) where
   header_traced =
       traced_map
       (λ f. record {
-        hdr = record { depth = get_or f.values 2 0 + 1; options = get_or f.values 8 0; initial = get_or f.values 12 0 };
+        value = record { depth = get_or f.values 2 0 + 1; options = get_or f.values 8 0; initial = get_or f.values 12 0 };
         bits = f.bits;
       })
       (fields_traced s field_widths (fresh 0))
@@ -38,11 +38,11 @@ module _ (s : List ℕ) where
   rescaled_traced scale b =
       let code = read s b 2 in
       traced_then
-      (λ u g. let v = read u g.bits 12 in cond (eqb g.value 3) (record { scale = pos v.value; bits = v.bits })
-      (record { scale = scale +ℤ get_or scale_steps g.value (pos 0); bits = g.bits }))
+      (λ u g. let v = read u g.bits 12 in cond (eqb g.value 3) (record { value = pos v.value; bits = v.bits })
+      (record { value = scale +ℤ get_or scale_steps g.value (pos 0); bits = g.bits }))
       (read_traced s b 2)
       (traced_cond (eqb code.value 3)
-      (traced_map (λ g. record { scale = pos g.value; bits = g.bits }) (read_traced s code.bits 12)) (traced_none _))
+      (traced_map (λ g. record { value = pos g.value; bits = g.bits }) (read_traced s code.bits 12)) (traced_none _))
 
   scale_traced : (h : V2Hdr) (col : ℕ) (scale : ℤ) (b : Bits) → Traced s 2 (λ x. x.bits) b (λ u. read_scale u h col scale b)
   unfolding read_scale
@@ -94,8 +94,8 @@ module _ (s : List ℕ) where
     flagged_lengths_traced : (mode : List (List ℕ)) (b : Bits) → Traced s 8 (λ y. y.lengths.bits) b (λ u. flagged_lengths u depth row mode b)
     unfolding flagged_lengths
     flagged_lengths_traced mode b =
-        traced_then (λ u f. lengths_from u depth row f.values 4 0 (no_lengths mode f.bits)) (four_traced s 2 b)
-        (lengths_from_traced (four s 2 b).values 4 0 (no_lengths mode (four s 2 b).bits))
+        traced_then (λ u f. lengths_from u depth row f.value 4 0 (no_lengths mode f.bits)) (four_traced s 2 b)
+        (lengths_from_traced (four s 2 b).value 4 0 (no_lengths mode (four s 2 b).bits))
 
   lengths_traced : (h : V2Hdr) (row : ℕ) (mode : List (List ℕ)) (b : Bits) → Traced s 9 (λ y. y.lengths.bits) b (λ u. read_lengths u h row mode b)
   unfolding read_lengths
@@ -203,10 +203,10 @@ module _ (s : List ℕ) (h : V2Hdr) (w row : ℕ) where
       let m = read_motion s h st.motion c.bits in
       traced_then (λ u c. from_motion u c (read_motion u h st.motion c.bits)) (scale_traced s h col st.scale b)
       (traced_then (λ u m. from_motion u c m) (motion_traced s h st.motion c.bits)
-      (based_tail_traced col c.scale m.value (record { motion = m.value; scale = c.scale }) mode m.bits))
+      (based_tail_traced col c.value m.value (record { motion = m.value; scale = c.value }) mode m.bits))
     where
-      from_motion : List ℕ → V2Scale → Got → Seen
-      from_motion u c m = seen (finish h w row col c.scale m.value (based_tail u h row col (record { motion = m.value; scale = c.scale }) mode m.bits))
+      from_motion : List ℕ → Taken ℤ → Got → Seen
+      from_motion u c m = seen (finish h w row col c.value m.value (based_tail u h row col (record { motion = m.value; scale = c.value }) mode m.bits))
 
 -- ── A row ──
 

@@ -46,7 +46,7 @@ abbrev one_lent : Answer.Lent
 one_lent = record { samples = 1; map = some 1; scratch = 0 }
 
 abbrev no_bytes : V2Hdr
-no_bytes = (V2.header []).hdr
+no_bytes = (V2.header []).value
 
 -- The block in row 0, column 0 at a depth, with options 7, where every remembered length is 0. Its first bit is 0, which gives
 -- motion 7 by option 2, and then comes flag 2.

@@ -6,10 +6,9 @@ use Rattle.rules.specs.declared.answer.Answer.{Answer}
 use Rattle.rules.specs.declared.answer.Size.{Size}
 use Rattle.rules.specs.declared.reader.Bits.{Bits}
 use Rattle.rules.specs.declared.reader.Got.{Got}
+use Rattle.rules.specs.declared.reader.Taken.{Taken}
 use Rattle.rules.specs.declared.v2.V2Hdr.{V2Hdr}
-use Rattle.rules.specs.declared.v2.V2Start.{V2Start}
 use Rattle.rules.specs.declared.v2.V2Row.{V2Row}
-use Rattle.rules.specs.declared.v2.V2Scale.{V2Scale}
 use Rattle.rules.specs.declared.v2.V2Lengths.{V2Lengths}
 use Rattle.rules.specs.declared.v2.V2Block.{V2Block}
 use Rattle.rules.specs.declared.v2.V2Block.TheVariants.{Next, EarlyMotion, Outside, LongDifference}
@@ -23,11 +22,11 @@ use Rattle.rules.specs.Frame.{tabulate, ended}
 abbrev pub field_widths : List ℕ
 field_widths = 16 ∷ 4 ∷ 4 ∷ 8 ∷ 16 ∷ 16 ∷ 16 ∷ 4 ∷ 4 ∷ 16 ∷ 8 ∷ 2 ∷ 14 ∷ []
 
-unfoldable pub header : List ℕ → V2Start
+unfoldable pub header : List ℕ → Taken V2Hdr
 header s =
     let f = fields s field_widths (fresh 0) in
     record {
-      hdr = record { depth = get_or f.values 2 0 + 1; options = get_or f.values 8 0; initial = get_or f.values 12 0 };
+      value = record { depth = get_or f.values 2 0 + 1; options = get_or f.values 8 0; initial = get_or f.values 12 0 };
       bits = f.bits;
     }
 
@@ -66,17 +65,17 @@ abbrev pub scale_steps : List ℤ
 scale_steps = pos 0 ∷ negsuc 1 ∷ pos 2 ∷ []
 
 -- Code 3 sets the scale from 12 bits.
-unfoldable pub rescaled : List ℕ → ℤ → Bits → V2Scale
+unfoldable pub rescaled : List ℕ → ℤ → Bits → Taken ℤ
 rescaled s scale b =
     let code = read s b 2 in
     let v = read s code.bits 12 in
-    cond (eqb code.value 3) (record { scale = pos v.value; bits = v.bits })
-    (record { scale = scale +ℤ get_or scale_steps code.value (pos 0); bits = code.bits })
+    cond (eqb code.value 3) (record { value = pos v.value; bits = v.bits })
+    (record { value = scale +ℤ get_or scale_steps code.value (pos 0); bits = code.bits })
 
 -- A code is read if option 4 is clear and the column is a multiple of 64.
-unfoldable pub read_scale : List ℕ → V2Hdr → ℕ → ℤ → Bits → V2Scale
+unfoldable pub read_scale : List ℕ → V2Hdr → ℕ → ℤ → Bits → Taken ℤ
 read_scale s h col scale b =
-    cond (not (option_4 h) && eqb (col % 64) 0) (rescaled s scale b) (record { scale = scale; bits = b })
+    cond (not (option_4 h) && eqb (col % 64) 0) (rescaled s scale b) (record { value = scale; bits = b })
 
 -- ── 2. motion ──
 
@@ -180,7 +179,7 @@ no_lengths mode b = record { lengths = record { four = replicate 4 0; long = fal
 unfoldable pub flagged_lengths : List ℕ → ℕ → ℕ → List (List ℕ) → Bits → Moded
 flagged_lengths s depth row mode b =
     let f = four s 2 b in
-    lengths_from s depth row f.values 4 0 (no_lengths mode f.bits)
+    lengths_from s depth row f.value 4 0 (no_lengths mode f.bits)
 
 unfoldable pub read_lengths : List ℕ → V2Hdr → ℕ → List (List ℕ) → Bits → Moded
 read_lengths s h row mode b =
@@ -272,13 +271,13 @@ unfoldable pub read_block : List ℕ → V2Hdr → ℕ → ℕ → ℕ → Bits 
 read_block s h w row col b st mode =
     let c = read_scale s h col st.scale b in
     let m = read_motion s h st.motion c.bits in
-    let x = based_tail s h row col (record { motion = m.value; scale = c.scale }) mode m.bits in
+    let x = based_tail s h row col (record { motion = m.value; scale = c.value }) mode m.bits in
     record {
       outcome = x.outcome;
       mode = x.mode;
       block = record {
         place = row * w + col;
-        scale = c.scale;
+        scale = c.value;
         base = base h w row col m.value;
         differences = x.differences;
         filler = has_filler (state_after x.outcome);
@@ -337,7 +336,7 @@ rows s h w (suc k) row b =
 unfoldable pub read_frame : List ℕ → Size → Frame
 read_frame s z =
     let x = header s in
-    rows s x.hdr z.width z.height 0 x.bits
+    rows s x.value z.width z.height 0 x.bits
 
 -- ── Cells ──
 
@@ -394,4 +393,4 @@ sample_kind t = record { constant = λ v. v; average = average; adjust = sample 
 
 -- The samples that the decoder leaves.
 unfoldable pub decoded : List ℕ → Size → List ℕ → List ℕ
-decoded s z f = frame (sample_kind (top (header s).hdr)) s z f
+decoded s z f = frame (sample_kind (top (header s).value)) s z f

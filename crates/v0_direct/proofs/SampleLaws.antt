@@ -11,7 +11,7 @@ use Rattle.rules.specs.V0.{Ops, put, apply, sample_kind, sample, samples, predic
 use Rattle.rules.specs.Map.{v0_marks}
 use Rattle.rules.specs.declared.answer.Size.{Size}
 use Rattle.rules.specs.declared.reader.Bits.{Bits}
-use Rattle.rules.specs.declared.reader.Residual.{Residual}
+use Rattle.rules.specs.declared.reader.Taken.{Taken}
 use Rattle.rules.specs.declared.v0.Predictor.{Predictor}
 use Rattle.rules.specs.declared.v0.V0Head.{V0Head}
 use Rattle.v0_direct.specs.Block.{samples_of, Applied}
@@ -19,7 +19,7 @@ use Rattle.v0_cells.proofs.CellLaws.{put_mark_alike, ops_walk, Left, left_begun,
 
 -- ── One sample ──
 
-module _ (s : List ℕ) (z : Size) (row col : ℕ) (h : V0Head) (c : ℕ) (b : Bits) (p : Predictor) (n : ℕ) (g : Residual)
+module _ (s : List ℕ) (z : Size) (row col : ℕ) (h : V0Head) (c : ℕ) (b : Bits) (p : Predictor) (n : ℕ) (g : Taken ℕ)
     (ep : p ≡ predictor z row col h.up c) (en : n ≡ residual_bits p (length_of h.row.lengths c)) (eg : g ≡ read_residual s b n) where
   sample_is : samples_of s z row col h (c ∷ []) b ≡ record { ops = record { place = row * z.width + col + c; predictor = p; residual = g.value } ∷ []; bits = g.bits }
   unfolding samples sample

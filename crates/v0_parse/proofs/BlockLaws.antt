@@ -19,8 +19,7 @@ use Rattle.rules.proofs.ReaderLaws.{four_reads, four_below, read_residual_is}
 use Rattle.rules.specs.V0.{order, length_bits, residual_bits, head}
 use Rattle.rules.specs.Phases.{residuals}
 use Rattle.rules.specs.declared.reader.Bits.{Bits}
-use Rattle.rules.specs.declared.reader.Four.{Four}
-use Rattle.rules.specs.declared.reader.Residual.{Residual}
+use Rattle.rules.specs.declared.reader.Taken.{Taken}
 use Rattle.rules.specs.declared.v0.V0Row.{V0Row}
 use Rattle.rules.specs.declared.v0.V0Head.{V0Head}
 use Rattle.v0_parse.specs.Lengths.{Within}
@@ -74,7 +73,7 @@ unfolding residual_bits
 bits_sample p l n q e h = rw e h
 
 -- So each of four fields read is a number of so many bits.
-pub fields_fit : (s : List ℕ) (l : ℤ) (n : ℕ) (b : Bits) (f : Four) → n ≡ length_bits l → f ≡ four s n b → (i : ℕ) → (n ≤ 32) × (get_or f.values i 0 < 2 ^ n)
+pub fields_fit : (s : List ℕ) (l : ℤ) (n : ℕ) (b : Bits) (f : Taken (List ℕ)) → n ≡ length_bits l → f ≡ four s n b → (i : ℕ) → (n ≤ 32) × (get_or f.value i 0 < 2 ^ n)
 fields_fit s l n b f en ef i = let few : n ≤ 32 = omega (arith, en, bits_few_enough l) in (few, rw ef (four_below s n b i few))
 
 -- ── The sixteen residuals ──
@@ -90,7 +89,7 @@ module _ (s : List ℕ) (ls : List ℤ) (b₀ : Bits) where
   pub reading_begun : (vs : List ℕ) → length vs ≡ 16 → Reading s ls b₀ b₀ vs 0
   reading_begun vs e = record { below = omega arith; sixteen = e; values_are = refl; bits_are = refl }
 
-  pub reading_on : (b : Bits) (vs : List ℕ) (k n : ℕ) (g : Residual) → k < 16 → n ≡ length_bits (get_or ls (k / 4) (pos 0)) → g ≡ read_residual s b n
+  pub reading_on : (b : Bits) (vs : List ℕ) (k n : ℕ) (g : Taken ℕ) → k < 16 → n ≡ length_bits (get_or ls (k / 4) (pos 0)) → g ≡ read_residual s b n
       → Reading s ls b₀ b vs k → Reading s ls b₀ g.bits (set vs k g.value) (k + 1)
   unfolding residuals
   reading_on b vs k n g h en eg r =
@@ -124,9 +123,9 @@ module _ (s : List ℕ) (ls : List ℤ) (b₀ : Bits) where
       rw next at (reading_on b vs (4 * j + i) n (record { value = r; bits = (read s b n).bits }) (omega arith) (rw number en) (rw (read_residual_is s b n, m, er)) x)
 
   -- All four, as the code reads them.
-  pub reading_four : (b : Bits) (vs : List ℕ) (j n : ℕ) (f : Four) (r₀ r₁ r₂ r₃ : ℕ) → j < 4 → n ≡ length_bits (get_or ls j (pos 0)) → f ≡ four s n b
-      → r₀ ≡ modulo (signed n (get_or f.values 0 0)) → r₁ ≡ modulo (signed n (get_or f.values 1 0))
-      → r₂ ≡ modulo (signed n (get_or f.values 2 0)) → r₃ ≡ modulo (signed n (get_or f.values 3 0)) → Reading s ls b₀ b vs (4 * j)
+  pub reading_four : (b : Bits) (vs : List ℕ) (j n : ℕ) (f : Taken (List ℕ)) (r₀ r₁ r₂ r₃ : ℕ) → j < 4 → n ≡ length_bits (get_or ls j (pos 0)) → f ≡ four s n b
+      → r₀ ≡ modulo (signed n (get_or f.value 0 0)) → r₁ ≡ modulo (signed n (get_or f.value 1 0))
+      → r₂ ≡ modulo (signed n (get_or f.value 2 0)) → r₃ ≡ modulo (signed n (get_or f.value 3 0)) → Reading s ls b₀ b vs (4 * j)
       → Reading s ls b₀ f.bits (set (set (set (set vs (4 * j) r₀) (4 * j + 1) r₁) (4 * j + 2) r₂) (4 * j + 3) r₃) (4 * (j + 1))
   reading_four b vs j n f r₀ r₁ r₂ r₃ h en ef e₀ e₁ e₂ e₃ x =
       let ef = ef ∙ sym (four_reads s n b _ _ _ _ refl refl refl refl) in

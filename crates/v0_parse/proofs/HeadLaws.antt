@@ -21,9 +21,8 @@ use Rattle.read_bits.specs.Refilled.{Whole}
 use Rattle.read_bits.proofs.WholeLaws.{fields_whole}
 use Rattle.rules.specs.declared.reader.Bits.{Bits}
 use Rattle.rules.specs.declared.reader.Got.{Got}
-use Rattle.rules.specs.declared.reader.Four.{Four}
+use Rattle.rules.specs.declared.reader.Taken.{Taken}
 use Rattle.rules.specs.declared.v0.V0Row.{V0Row}
-use Rattle.rules.specs.declared.v0.V0Length.{V0Length}
 use Rattle.v0_parse.specs.Lengths.{stepped, Below, Within, furthest}
 use Rattle.rules.proofs.Tests.{by-test}
 
@@ -80,12 +79,12 @@ module _ (op : ℕ) (l : ℤ) (few : op < 4) (near : mag l ≤ furthest) (fits :
       ∙ difference_eq ∙ sum_is op l few
 
 pub length_read : (s : List ℕ) (op : ℕ) (l : ℤ) (b : Bits) (g : Got) (v : ℤ) → op ≡ 3 → g ≡ read s b 4 → v ≡ pos g.value
-    → record { length = v; bits = g.bits } ≡ operated s op l b
+    → record { value = v; bits = g.bits } ≡ operated s op l b
 unfolding operated
 length_read s op l b g v e eg ev = rw (e, ev, eg)
 
 pub length_stepped : (s : List ℕ) (op : ℕ) (l : ℤ) (b : Bits) (v : ℤ) → (op ≡ 3 → ⊥) → v ≡ stepped op l
-    → record { length = v; bits = b } ≡ operated s op l b
+    → record { value = v; bits = b } ≡ operated s op l b
 unfolding operated stepped
 length_stepped s op l b v ne ev = rw (ne_eqb op 3 ne, ev)
 
@@ -96,7 +95,7 @@ stepped_near op l near =
     cond_mag (eqb op 2) (l +ℤ negsuc 0) (cond (eqb op 1) (l +ℤ pos 1) l) (omega (arith, sub_mag l 1 near))
     (cond_mag (eqb op 1) (l +ℤ pos 1) l (omega (arith, add_mag l 1 near)) (omega arith))
 
-length_within : (s : List ℕ) (op : ℕ) (l : ℤ) (b : Bits) {n : ℕ} → 15 ≤ n → mag l ≤ n → mag (operated s op l b).length ≤ suc n
+length_within : (s : List ℕ) (op : ℕ) (l : ℤ) (b : Bits) {n : ℕ} → 15 ≤ n → mag l ≤ n → mag (operated s op l b).value ≤ suc n
 unfolding operated stepped
 length_within s op l b h near =
     by-test (eqb op 3) (λ e. rw e (omega (arith, read_below s b 4))) (λ e. rw e (stepped_near op l near))
@@ -111,12 +110,12 @@ four_of (a ∷ b ∷ c ∷ []) d h = absurd (omega arith)
 four_of (a ∷ b ∷ c ∷ e ∷ []) d h = refl
 four_of (a ∷ b ∷ c ∷ e ∷ f ∷ xs) d h = absurd (omega arith)
 
-lengths_are : (s ops : List ℕ) (ls : List ℤ) (bits : Bits) (a b c d : V0Length) → length ops ≡ 4 → length ls ≡ 4
+lengths_are : (s ops : List ℕ) (ls : List ℤ) (bits : Bits) (a b c d : Taken ℤ) → length ops ≡ 4 → length ls ≡ 4
     → a ≡ operated s (get_or ops 0 0) (get_or ls 0 (pos 0)) bits
     → b ≡ operated s (get_or ops 1 0) (get_or ls 1 (pos 0)) a.bits
     → c ≡ operated s (get_or ops 2 0) (get_or ls 2 (pos 0)) b.bits
     → d ≡ operated s (get_or ops 3 0) (get_or ls 3 (pos 0)) c.bits
-    → record { lengths = a.length ∷ b.length ∷ c.length ∷ d.length ∷ []; bits = d.bits } ≡ operate s ops ls bits
+    → record { lengths = a.value ∷ b.value ∷ c.value ∷ d.value ∷ []; bits = d.bits } ≡ operate s ops ls bits
 unfolding operate
 lengths_are s ops ls bits a b c d lo ll ea eb ec ed = rw (four_of ops 0 lo, four_of ls (pos 0) ll, ← ea, ← eb, ← ec, ← ed)
 
@@ -125,23 +124,23 @@ module _ (s ops : List ℕ) (ls : List ℤ) (bits : Bits) (lo : length ops ≡ 4
   stored : (j : ℕ) → to_z w32 (of_z w32 (get_or ls j (pos 0))) ≡ get_or ls j (pos 0)
   stored j = to_z-of_z w32 (get_or ls j (pos 0)) (record { sfits = omega (arith, w.each j) })
 
-  given : (j : ℕ) (b : Bits) (x : V0Length) → x ≡ operated s (get_or ops j 0) (to_z w32 (of_z w32 (get_or ls j (pos 0)))) b
+  given : (j : ℕ) (b : Bits) (x : Taken ℤ) → x ≡ operated s (get_or ops j 0) (to_z w32 (of_z w32 (get_or ls j (pos 0)))) b
       → x ≡ operated s (get_or ops j 0) (get_or ls j (pos 0)) b
   given j b x e = e ∙ ap (λ l. operated s (get_or ops j 0) l b) (stored j)
 
-  back : (j : ℕ) (b : Bits) (x : V0Length) → x ≡ operated s (get_or ops j 0) (to_z w32 (of_z w32 (get_or ls j (pos 0)))) b
-      → to_z w32 (of_z w32 x.length) ≡ x.length
+  back : (j : ℕ) (b : Bits) (x : Taken ℤ) → x ≡ operated s (get_or ops j 0) (to_z w32 (of_z w32 (get_or ls j (pos 0)))) b
+      → to_z w32 (of_z w32 x.value) ≡ x.value
   back j b x e =
-      let near : mag x.length ≤ suc furthest = rw (given j b x e) (length_within s (get_or ops j 0) (get_or ls j (pos 0)) b (omega arith) (w.each j)) in
-      to_z-of_z w32 x.length (record { sfits = omega arith })
+      let near : mag x.value ≤ suc furthest = rw (given j b x e) (length_within s (get_or ops j 0) (get_or ls j (pos 0)) b (omega arith) (w.each j)) in
+      to_z-of_z w32 x.value (record { sfits = omega arith })
 
-  pub lengths_made : (a b c d : V0Length)
+  pub lengths_made : (a b c d : Taken ℤ)
       → a ≡ operated s (get_or ops 0 0) (to_z w32 (of_z w32 (get_or ls 0 (pos 0)))) bits
       → b ≡ operated s (get_or ops 1 0) (to_z w32 (of_z w32 (get_or ls 1 (pos 0)))) a.bits
       → c ≡ operated s (get_or ops 2 0) (to_z w32 (of_z w32 (get_or ls 2 (pos 0)))) b.bits
       → d ≡ operated s (get_or ops 3 0) (to_z w32 (of_z w32 (get_or ls 3 (pos 0)))) c.bits
       → record {
-        lengths = to_z w32 (of_z w32 a.length) ∷ to_z w32 (of_z w32 b.length) ∷ to_z w32 (of_z w32 c.length) ∷ to_z w32 (of_z w32 d.length) ∷ [];
+        lengths = to_z w32 (of_z w32 a.value) ∷ to_z w32 (of_z w32 b.value) ∷ to_z w32 (of_z w32 c.value) ∷ to_z w32 (of_z w32 d.value) ∷ [];
         bits = d.bits;
       } ≡ operate s ops ls bits
   lengths_made a b c d ea eb ec ed =
@@ -192,14 +191,14 @@ pub head_within : (s : List ℕ) (st : V0Row) (n : ℕ) → 15 ≤ n → Within 
 unfolding head
 head_within s st n h w =
     let o = four s 2 (read s st.bits 1).bits in
-    record { each = operate_within s o.values st.lengths o.bits n h w.each }
+    record { each = operate_within s o.value st.lengths o.bits n h w.each }
 
 -- ── The nine bits that open a head, by one read ──
 
 -- The direction, and the four operations.
 head_at_once : (s : List ℕ) (b : Bits) (g : Got) → Whole s b 9 g
     → ((read s b 1).value ≡ g.value / 256)
-    × (record { values = g.value / 64 % 4 ∷ g.value / 16 % 4 ∷ g.value / 4 % 4 ∷ g.value % 4 ∷ []; bits = g.bits } ≡ four s 2 (read s b 1).bits)
+    × (record { value = g.value / 64 % 4 ∷ g.value / 16 % 4 ∷ g.value / 4 % 4 ∷ g.value % 4 ∷ []; bits = g.bits } ≡ four s 2 (read s b 1).bits)
 unfolding cut total
 head_at_once s b g w =
     let ns : List ℕ = 2 ∷ 2 ∷ 2 ∷ 2 ∷ [] in
@@ -208,11 +207,11 @@ head_at_once s b g w =
     let small : g.value < 2 ^ 9 = rw w.reads (read_below s b 9) in
     let d : (read s b 1).value ≡ g.value / 256 % 2 = ap (λ x. get_or x.values 0 0) e in
     let last : g.value / 2 ^ 0 % 4 ≡ g.value % 4 = ap (λ x. x % 4) (div-one g.value) in
-    (d ∙ omega arith, rw last at (sym {A = Four} (four_fields s 2 (read s b 1).bits ∙ ap (λ x. record { values = drop 1 x.values; bits = x.bits }) e)))
+    (d ∙ omega arith, rw last at (sym {A = Taken (List ℕ)} (four_fields s 2 (read s b 1).bits ∙ ap (λ x. record { value = drop 1 x.values; bits = x.bits }) e)))
 
 pub head_is : (s : List ℕ) (st next : V0Row) (g : Got) (up : Bool) → Whole s st.bits 9 g
     → next ≡ operate s (g.value / 64 % 4 ∷ g.value / 16 % 4 ∷ g.value / 4 % 4 ∷ g.value % 4 ∷ []) st.lengths g.bits → up ≡ eqb (g.value / 256) 1
     → record { up = up; row = next } ≡ head s st
 unfolding head
 head_is s st next g up w en eu =
-    let x = head_at_once s st.bits g w in rw (eu, en, ← x.0) (ap (λ (o : Four). record { up = eqb (read s st.bits 1).value 1; row = operate s o.values st.lengths o.bits }) x.1)
+    let x = head_at_once s st.bits g w in rw (eu, en, ← x.0) (ap (λ (o : Taken (List ℕ)). record { up = eqb (read s st.bits 1).value 1; row = operate s o.value st.lengths o.bits }) x.1)

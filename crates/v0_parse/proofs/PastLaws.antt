@@ -131,7 +131,7 @@ module _ (s : List ℕ) (b : Bits) (x : PastEnd s b) where
   -- ── A block ──
 
   four_ones : (k n : ℕ) → n ≤ 32 → k + 4 * n ≤ 265
-      → four s n (ones_after b k) ≡ record { values = (2 ^ n - 1) ∷ (2 ^ n - 1) ∷ (2 ^ n - 1) ∷ (2 ^ n - 1) ∷ []; bits = ones_after b (k + 4 * n) }
+      → four s n (ones_after b k) ≡ record { value = (2 ^ n - 1) ∷ (2 ^ n - 1) ∷ (2 ^ n - 1) ∷ (2 ^ n - 1) ∷ []; bits = ones_after b (k + 4 * n) }
   four_ones k n few near =
       let e : k + n + n + n + n ≡ k + 4 * n = omega arith in
       let r : (j : ℕ) → j + n ≤ 265 → record { value = 2 ^ n - 1; bits = ones_after b (j + n) } ≡ read s (ones_after b j) n = λ j l. sym (read_ones j n few l) in
@@ -156,7 +156,7 @@ module _ (s : List ℕ) (b : Bits) (x : PastEnd s b) where
   past_whole ls size =
       let fs : List ℤ = replicate 4 (pos 15) in
       let y : V0Head = record { up = true; row = record { lengths = fs; bits = ones_after b 25 } } in
-      let f : (k : ℕ) → k + 60 ≤ 265 → four s 15 (ones_after b k) ≡ record { values = 32_767 ∷ 32_767 ∷ 32_767 ∷ 32_767 ∷ []; bits = ones_after b (k + 60) }
+      let f : (k : ℕ) → k + 60 ≤ 265 → four s 15 (ones_after b k) ≡ record { value = 32_767 ∷ 32_767 ∷ 32_767 ∷ 32_767 ∷ []; bits = ones_after b (k + 60) }
       = λ k l. four_ones k 15 (omega arith) (omega arith) in
       let m : 65_535 ≡ modulo (signed 15 32_767) = residual_is 15 32_767 (omega arith) (omega arith) in
       let r₀ = reading_begun s fs (ones_after b 25) (replicate 16 0) refl in

@@ -56,7 +56,7 @@ fn read_residuals(src: &[u8], head: V0Head) -> ReadBlock
     while j < 4 {
         let n = residual_length(lengths[j]);
         let four = read_four(src, bits, n);
-        let values = four.values;
+        let values = four.value;
         let k = 4 * j;
         residuals[k] = residual_of(values[0], n);
         residuals[k + 1] = residual_of(values[1], n);

@@ -5,7 +5,7 @@ ghost use Rattle.rules.specs.V0.{operated, operate, head};
 ghost use Rattle.v0_parse.specs.Lengths.{stepped, Below, Within, furthest};
 
 use read_bits::{get, get_whole};
-use rules::{Bits, V0Head, V0Length, V0Row};
+use rules::{Bits, Taken, V0Head, V0Row};
 
 // A length after operation 0, 1 or 2; operation 3 leaves it. A sum, since a test of the operation would often be guessed wrong.
 pub fn step(op: u32, length: i32) -> i32
@@ -16,20 +16,20 @@ pub fn step(op: u32, length: i32) -> i32
 }
 
 // A length after its operation.
-fn read_length(src: &[u8], op: u32, length: i32, bits: Bits) -> V0Length
+fn read_length(src: &[u8], op: u32, length: i32, bits: Bits) -> Taken<i32>
     requires { (op < 4) × (mag length ≤ furthest) }
     ensures { result ≡ operated src.now op length bits }
 {
     if op == 3 {
         let g = get(src, bits, 4);
         let next = g.bits;
-        return V0Length {
-            length: g.value as i32,
+        return Taken {
+            value: g.value as i32,
             bits: next,
         };
     }
-    V0Length {
-        length: step(op, length),
+    Taken {
+        value: step(op, length),
         bits,
     }
 }
@@ -45,7 +45,7 @@ fn read_lengths(src: &[u8], ops: [u32; 4], lengths: [i32; 4], bits: Bits) -> V0R
     let d = read_length(src, ops[3], lengths[3], c.bits);
     let next = d.bits;
     V0Row {
-        lengths: [a.length, b.length, c.length, d.length],
+        lengths: [a.value, b.value, c.value, d.value],
         bits: next,
     }
 }

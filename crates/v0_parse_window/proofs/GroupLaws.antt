@@ -46,7 +46,7 @@ long_made s base q n v u p₀ p₁ p₂ p₃ r₀ r₁ r₂ r₃ long few w x e�
 pub four_is : (s : List ℕ) (base q n f : ℕ) → n ≤ 32 → 0 < q → base + (q + 4 * n + 31) / 32 * 4 ≤ length s → base + (q + 4 * n + 31) / 32 * 4 + 4 < 2 ^ 64
     → ((j : ℕ) → q ≤ j * 32 → j * 32 < q + 4 * n → word_at s (base + j * 4) < 2 ^ 32)
     → four s n (state_at s base q f)
-    ≡ record { values = bits_from s base q n ∷ bits_from s base (q + n) n ∷ bits_from s base (q + 2 * n) n ∷ bits_from s base (q + 3 * n) n ∷ []; bits = state_at s base (q + 4 * n) f }
+    ≡ record { value = bits_from s base q n ∷ bits_from s base (q + n) n ∷ bits_from s base (q + 2 * n) n ∷ bits_from s base (q + 3 * n) n ∷ []; bits = state_at s base (q + 4 * n) f }
 unfolding values_at span
 four_is s base q n f few some there far whole =
     let ns : List ℕ = n ∷ n ∷ n ∷ n ∷ [] in
@@ -64,7 +64,7 @@ group_at : (s : List ℕ) (ls : List ℤ) (b₀ : Bits) (base q f : ℕ) (vs : L
 group_at s ls b₀ base q f vs j n a h en some there far x r =
     let few : n ≤ 32 = rw en (bits_few_enough (get_or ls j (pos 0))) in
     reading_four s ls b₀ (state_at s base q f) vs j n
-    (record { values = bits_from s base q n ∷ bits_from s base (q + n) n ∷ bits_from s base (q + 2 * n) n ∷ bits_from s base (q + 3 * n) n ∷ []; bits = state_at s base (q + 4 * n) f })
+    (record { value = bits_from s base q n ∷ bits_from s base (q + n) n ∷ bits_from s base (q + 2 * n) n ∷ bits_from s base (q + 3 * n) n ∷ []; bits = state_at s base (q + 4 * n) f })
     (get_or a 0 0) (get_or a 1 0) (get_or a 2 0) (get_or a 3 0) h en (sym (four_is s base q n f few some there far x.whole))
     (ap (λ (l : List ℕ). get_or l 0 0) x.are) (ap (λ (l : List ℕ). get_or l 1 0) x.are) (ap (λ (l : List ℕ). get_or l 2 0) x.are) (ap (λ (l : List ℕ). get_or l 3 0) x.are) r
 

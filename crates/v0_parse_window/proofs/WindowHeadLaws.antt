@@ -6,7 +6,7 @@ use mir.Facts.{to_z_pos}
 use borrow.Author.Tests.{eqb-false}
 use Rattle.rules.specs.Reader.{read, four}
 use Rattle.rules.specs.V0.{operated, head}
-use Rattle.rules.specs.declared.v0.V0Length.{V0Length}
+use Rattle.rules.specs.declared.reader.Taken.{Taken}
 use Rattle.read_window.specs.Window.{bits_from, state_at, Window}
 use Rattle.read_window.proofs.WindowLaws.{window_words, Reads, in_window, read_at}
 use Rattle.v0_parse.specs.Lengths.{stepped, Within, furthest}
@@ -66,7 +66,7 @@ module _ (s : List ℕ) (base q v : ℕ) (room : Room s base q) (w : Window s ba
 
   length_at : (f at left : ℕ) (l : ℤ) → 43 ≤ left → left ≤ 55
       → operated s (v / 2 ^ at % 4) l (state_at s base (q + (64 - left)) f)
-      ≡ record { length = (length_in v at left l).length; bits = state_at s base (q + (64 - (length_in v at left l).left)) f }
+      ≡ record { value = (length_in v at left l).length; bits = state_at s base (q + (64 - (length_in v at left l).left)) f }
   unfolding operated length_in stepped
   length_at f at left l low high = go (eqb (v / 2 ^ at % 4) 3)
     where
@@ -77,10 +77,10 @@ module _ (s : List ℕ) (base q v : ℕ) (room : Room s base q) (w : Window s ba
       on = omega arith
 
       go : (t : Bool)
-          → cond {A = V0Length} t (record { length = pos (read s (state_at s base (q + (64 - left)) f) 4).value; bits = (read s (state_at s base (q + (64 - left)) f) 4).bits })
-          (record { length = stepped (v / 2 ^ at % 4) l; bits = state_at s base (q + (64 - left)) f })
+          → cond {A = Taken ℤ} t (record { value = pos (read s (state_at s base (q + (64 - left)) f) 4).value; bits = (read s (state_at s base (q + (64 - left)) f) 4).bits })
+          (record { value = stepped (v / 2 ^ at % 4) l; bits = state_at s base (q + (64 - left)) f })
           ≡ (let x = cond {A = WindowLength} t (record { length = pos (v / 2 ^ (left - 4) % 16); left = left - 4 }) (record { length = stepped (v / 2 ^ at % 4) l; left = left }) in
-          record { length = x.length; bits = state_at s base (q + (64 - x.left)) f })
+          record { value = x.length; bits = state_at s base (q + (64 - x.left)) f })
       go true = rw (reads f (64 - left) 4 (omega arith) (omega arith), on, ← four_bits)
       go false = refl
 
@@ -91,7 +91,7 @@ module _ (s : List ℕ) (base q v : ℕ) (room : Room s base q) (w : Window s ba
   direction = let z : q + 0 ≡ q = omega arith in in_window s base q v 0 1 63 w refl ∙ rw z
 
   operations : (f : ℕ) → four s 2 (state_at s base (q + 1) f)
-      ≡ record { values = v / 2 ^ 61 % 4 ∷ v / 2 ^ 59 % 4 ∷ v / 2 ^ 57 % 4 ∷ v / 2 ^ 55 % 4 ∷ []; bits = state_at s base (q + 9) f }
+      ≡ record { value = v / 2 ^ 61 % 4 ∷ v / 2 ^ 59 % 4 ∷ v / 2 ^ 57 % 4 ∷ v / 2 ^ 55 % 4 ∷ []; bits = state_at s base (q + 9) f }
   operations f =
       let e : q + 1 + 4 * 2 ≡ q + 9 = omega arith in
       let e₁ : q + 1 + 2 ≡ q + 3 = omega arith in
@@ -133,8 +133,8 @@ module _ (s : List ℕ) (base q v : ℕ) (room : Room s base q) (w : Window s ba
       ops = v / 2 ^ 61 % 4 ∷ v / 2 ^ 59 % 4 ∷ v / 2 ^ 57 % 4 ∷ v / 2 ^ 55 % 4 ∷ []
 
       -- One length as the record reads it.
-      after : ℕ → WindowLength → V0Length
-      after f x = record { length = x.length; bits = state_at s base (q + (64 - x.left)) f }
+      after : ℕ → WindowLength → Taken ℤ
+      after f x = record { value = x.length; bits = state_at s base (q + (64 - x.left)) f }
 
       one : (f at left : ℕ) (l : ℤ) (x : WindowLength) → 43 ≤ left → left ≤ 55 → x ≡ length_in v at left l
           → after f x ≡ operated s (v / 2 ^ at % 4) l (state_at s base (q + (64 - left)) f)

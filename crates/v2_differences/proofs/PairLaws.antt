@@ -5,7 +5,7 @@ use Rattle.rules.specs.V2.{position, differences_from}
 use Rattle.rules.proofs.ReaderLaws.{fields_pair, read_signed_is}
 use Rattle.rules.specs.declared.reader.Bits.{Bits}
 use Rattle.rules.specs.declared.reader.Got.{Got}
-use Rattle.rules.specs.declared.reader.Signed.{Signed}
+use Rattle.rules.specs.declared.reader.Taken.{Taken}
 use Rattle.read_bits.specs.Refilled.{Whole}
 use Rattle.read_bits.proofs.WholeLaws.{pair_whole}
 use Rattle.v2_differences.specs.Pairs.{signed_pair}
@@ -23,7 +23,7 @@ pair_cut s n b g x y l w ex ey =
     let rest : (read s (read s b n).bits n).bits ≡ g.bits = ap (λ f. f.bits) e in
     rw (read_signed_is s b n, read_signed_is s (read s b n).bits n, m, ex, ey, ← first, ← second, ← rest)
 
-pub pair_read : (s : List ℕ) (n : ℕ) (b : Bits) (g h : Signed) → g ≡ read_signed s b n → h ≡ read_signed s g.bits n
+pub pair_read : (s : List ℕ) (n : ℕ) (b : Bits) (g h : Taken ℤ) → g ≡ read_signed s b n → h ≡ read_signed s g.bits n
     → record { first = g.value; second = h.value; bits = h.bits } ≡ signed_pair s n b
 unfolding signed_pair
 pair_read s n b g h eg eh = rw (eh, eg)
@@ -36,7 +36,7 @@ pub pair_more : (s : List ℕ) (row : ℕ) (ls : List ℕ) (k : ℕ) (ds : List 
 unfolding signed_pair
 pair_more s row ls k ds b x p q h even ex ep eq =
     let n : ℕ = get_or ls (k / 4) 0 in
-    let g : Signed = read_signed s b n in
+    let g : Taken ℤ = read_signed s b n in
     let same : (k + 1) / 4 ≡ k / 4 = omega arith in
     let next : k + 1 + 1 ≡ k + 2 = omega arith in
     rw ex

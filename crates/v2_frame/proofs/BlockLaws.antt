@@ -12,11 +12,11 @@ use mir.Val.{SFits}
 use Rattle.rules.specs.Limits.{most_side}
 use Rattle.rules.specs.declared.reader.Bits.{Bits}
 use Rattle.rules.specs.declared.reader.Got.{Got}
+use Rattle.rules.specs.declared.reader.Taken.{Taken}
 use Rattle.rules.specs.declared.v2.V2Block.TheVariants.{Next, EarlyMotion, Outside, LongDifference}
 use Rattle.rules.specs.declared.v2.V2Hdr.{V2Hdr}
 use Rattle.rules.specs.declared.v2.V2Lengths.{V2Lengths}
 use Rattle.rules.specs.declared.v2.V2Row.{V2Row}
-use Rattle.rules.specs.declared.v2.V2Scale.{V2Scale}
 use Rattle.rules.specs.Frame.{tabulate}
 use Rattle.rules.specs.V2.{read_scale, read_motion, Base, given, copied, averaged, base, refers_before, base_refusal, Moded, read_lengths, Differences, differences_from, read_differences, tail, based_tail, read_block, top, base_cell, block_cells, sample, sample_kind}
 use Rattle.rules.specs.Ranges.{Between, Small}
@@ -38,7 +38,7 @@ module _ (s : List ℕ) (h : V2Hdr) (n : ℕ) (at : V2Place) (b : Bits) (st : V2
   pub ready_scale : Between 512 4_605 st.scale
   ready_scale = scale_within r.scale (omega (arith, column_most))
 
-  pub own_scale : (c : V2Scale) → c ≡ read_scale s h at.col st.scale b → Between 512 4_605 c.scale
+  pub own_scale : (c : Taken ℤ) → c ≡ read_scale s h at.col st.scale b → Between 512 4_605 c.value
   own_scale c e = rw e (scale_within (scale_read s h b r.scale) column_most)
 
   pub own_motion : (m : Got) → m ≡ read_motion s h st.motion b → m.value ≤ 7
@@ -106,7 +106,7 @@ base_any t f (given v) = refl
 base_any t f (copied p) = refl
 base_any t f (averaged p q) = refl
 
-module _ (s : List ℕ) (h : V2Hdr) (w row col : ℕ) (b : Bits) (st : V2Row) (mode : List (List ℕ)) (c : V2Scale) (ec : c ≡ read_scale s h col st.scale b)
+module _ (s : List ℕ) (h : V2Hdr) (w row col : ℕ) (b : Bits) (st : V2Row) (mode : List (List ℕ)) (c : Taken ℤ) (ec : c ≡ read_scale s h col st.scale b)
     (m : Got) (em : m ≡ read_motion s h st.motion c.bits) (k : ℕ) (ek : k ≡ base_refusal row col m.value) where
   pub block_early : k ≡ 5 → (EarlyMotion m.bits ≡ (read_block s h w row col b st mode).outcome) × (mode ≡ (read_block s h w row col b st mode).mode)
   unfolding read_block based_tail
@@ -117,16 +117,16 @@ module _ (s : List ℕ) (h : V2Hdr) (w row col : ℕ) (b : Bits) (st : V2Row) (m
   block_outside e = (rw (← ec, ← em, ← ek, e), rw (← ec, ← em, ← ek, e))
 
   module _ (e5 : eqb k 5 ≡ false) (e6 : eqb k 6 ≡ false) where
-    pub block_outcome : (read_block s h w row col b st mode).outcome ≡ (tail s h row (record { motion = m.value; scale = c.scale }) mode m.bits).outcome
+    pub block_outcome : (read_block s h w row col b st mode).outcome ≡ (tail s h row (record { motion = m.value; scale = c.value }) mode m.bits).outcome
     unfolding read_block based_tail
     block_outcome = rw (← ec, ← em, ← ek, e5, e6)
 
-    pub block_mode : (read_block s h w row col b st mode).mode ≡ (tail s h row (record { motion = m.value; scale = c.scale }) mode m.bits).mode
+    pub block_mode : (read_block s h w row col b st mode).mode ≡ (tail s h row (record { motion = m.value; scale = c.value }) mode m.bits).mode
     unfolding read_block based_tail
     block_mode = rw (← ec, ← em, ← ek, e5, e6)
 
     pub block_samples : (f bases : List ℕ) → bases ≡ tabulate 16 0 (λ i. base_cell (sample_kind 0) f (base h w row col m.value i))
-        → tabulate 16 0 (λ i. sample (top h) c.scale (get_or (tail s h row (record { motion = m.value; scale = c.scale }) mode m.bits).differences i (pos 0)) (get_or bases i 0))
+        → tabulate 16 0 (λ i. sample (top h) c.value (get_or (tail s h row (record { motion = m.value; scale = c.value }) mode m.bits).differences i (pos 0)) (get_or bases i 0))
         ≡ block_cells (sample_kind (top h)) f (read_block s h w row col b st mode).block
     unfolding read_block based_tail block_cells tabulate
     block_samples f bases eb = rw (← ec, ← em, ← ek, e5, e6, eb) (simp (base_any (top h)))

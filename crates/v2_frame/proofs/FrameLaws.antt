@@ -18,7 +18,7 @@ use Rattle.rules.specs.declared.v2.V2Block.TheVariants.{Next, EarlyMotion, Outsi
 use Rattle.rules.specs.declared.v2.V2Block.{V2Block}
 use Rattle.rules.specs.declared.v2.V2Hdr.{V2Hdr}
 use Rattle.rules.specs.declared.v2.V2Row.{V2Row}
-use Rattle.rules.specs.declared.v2.V2Start.{V2Start}
+use Rattle.rules.specs.declared.reader.Taken.{Taken}
 use Rattle.rules.specs.Reader.{has_filler}
 use Rattle.rules.specs.Frame.{tabulate, ended}
 use Rattle.rules.specs.Map.{with_filler, v2_marks}
@@ -239,7 +239,7 @@ module _ (t : ℕ) (s : List ℕ) (h : V2Hdr) (w height : ℕ) (whole : Frame) (
           comes = comes_on r.comes (comes_on (comes_same _ (ap (λ (x : Frame). x.blocks) e)) (comes_append d rest.blocks));
         }
 
-pub depth_is : (s : List ℕ) (x : V2Start) → x ≡ header s → x.hdr.depth ≤ 16
+pub depth_is : (s : List ℕ) (x : Taken V2Hdr) → x ≡ header s → x.value.depth ≤ 16
 depth_is s x e = rw e (depth_most s)
 
 -- A block that goes on can be marked, in a map of the whole frame or in an empty one.
@@ -257,9 +257,9 @@ markable s h n k m at b st mode b' st' e small placed room ek lent = record {
     whole filled = ⊎_elim (λ q. ek ∙ q) (λ q. absurd (filled (ek ∙ q))) lent
 
 -- The frame's answer, samples and marks, from its header.
-pub frame_is : (s : List ℕ) (z : Size) (f g f' g' : List ℕ) (x : V2Start) (a : Answer) → x ≡ header s
-    → ((rows s x.hdr z.width z.height 0 x.bits).answer ≡ a)
-    × Comes (top x.hdr) (rows s x.hdr z.width z.height 0 x.bits).blocks f g [] f' g'
+pub frame_is : (s : List ℕ) (z : Size) (f g f' g' : List ℕ) (x : Taken V2Hdr) (a : Answer) → x ≡ header s
+    → ((rows s x.value z.width z.height 0 x.bits).answer ≡ a)
+    × Comes (top x.value) (rows s x.value z.width z.height 0 x.bits).blocks f g [] f' g'
     → (a ≡ (read_frame s z).answer) × ((f' ≡ decoded s z f) × (g' ≡ frame v2_marks s z g))
 unfolding read_frame decoded frame apply
 frame_is s z f g f' g' x a e (ea, c) = (rw (← e) (sym ea), (rw (← e) (sym c.samples), rw (← e) (sym c.marks)))

@@ -104,7 +104,7 @@ pub fn read_block(
     bases(out, hdr, at, m.value, &mut base);
     let next = V2Row {
         motion: m.value,
-        scale: c.scale,
+        scale: c.value,
     };
     read_tail(
         src, hdr, at.row, next, lengths, b2, positions, &base, samples,

@@ -22,7 +22,7 @@ pub fn decode_frame(src: &[u8], size: Size, out: &mut [u16], map: &mut [u8]) -> 
     let width = size.width;
     let height = size.height;
     let start = read_header(src);
-    let hdr = start.hdr;
+    let hdr = start.value;
     let mut bits = start.bits;
     let mut answer = Answer::done_with(bits.filler);
     let mut row: usize = 0;

@@ -18,7 +18,7 @@ pub header_is : (s : List ℕ) (b b0 b1 : Bits) (d : Got) (b3 b4 b5 b6 b7 : Bits
     → b ≡ fresh 0 → b0 ≡ (read s b 16).bits → b1 ≡ (read s b0 4).bits → d ≡ read s b1 4
     → b3 ≡ (read s d.bits 8).bits → b4 ≡ (read s b3 16).bits → b5 ≡ (read s b4 16).bits → b6 ≡ (read s b5 16).bits → b7 ≡ (read s b6 4).bits
     → o ≡ read s b7 4 → b9 ≡ (read s o.bits 16).bits → b10 ≡ (read s b9 8).bits → b11 ≡ (read s b10 2).bits → i ≡ read s b11 14
-    → record { hdr = record { depth = d.value + 1; options = o.value; initial = i.value }; bits = i.bits } ≡ header s
+    → record { value = record { depth = d.value + 1; options = o.value; initial = i.value }; bits = i.bits } ≡ header s
 unfolding header
 header_is s b b0 b1 d b3 b4 b5 b6 b7 o b9 b10 b11 i e e0 e1 ed e3 e4 e5 e6 e7 eo e9 e10 e11 ei =
     simp (fields_more s, fields_none s) rw (← e, ← e0, ← e1, ← ed, ← e3, ← e4, ← e5, ← e6, ← e7, ← eo, ← e9, ← e10, ← e11, ← ei)
@@ -31,12 +31,12 @@ step_fits scale code p =
 
 module _ (s : List ℕ) (scale : ℤ) (b : Bits) (code : Got) (e : code ≡ read s b 2) where
   pub rescaled_set : (v : Got) (z : ℤ) → code.value ≡ 3 → v ≡ read s code.bits 12 → z ≡ pos v.value
-      → record { scale = z; bits = v.bits } ≡ rescaled s scale b
+      → record { value = z; bits = v.bits } ≡ rescaled s scale b
   unfolding rescaled
   rescaled_set v z t ev ez = rw (← e, t, ← ev, ez)
 
   pub rescaled_step : (z : ℤ) → eqb code.value 3 ≡ false → z ≡ scale +ℤ get_or scale_steps code.value (pos 0)
-      → record { scale = z; bits = code.bits } ≡ rescaled s scale b
+      → record { value = z; bits = code.bits } ≡ rescaled s scale b
   unfolding rescaled
   rescaled_step z t ez = rw (← e, t, ez)
 
@@ -45,7 +45,7 @@ module _ (s : List ℕ) (h : V2Hdr) (col : ℕ) (scale : ℤ) (b : Bits) where
   unfolding read_scale
   scale_read t = rw t
 
-  pub scale_kept : not (option_4 h) && eqb (col % 64) 0 ≡ false → read_scale s h col scale b ≡ record { scale = scale; bits = b }
+  pub scale_kept : not (option_4 h) && eqb (col % 64) 0 ≡ false → read_scale s h col scale b ≡ record { value = scale; bits = b }
   unfolding read_scale
   scale_kept t = rw t
 

@@ -1,8 +1,8 @@
 -- A block's lengths, one after another: what the stages before gave is a variable with its equation.
 use Rattle.std.proofs.Common.{◌≡◌, ℕ, zero, suc, ◌+◌, ◌-◌, ◌/◌, ◌%◌, ◌^◌, ◌<◌, ◌≤◌, true, false, eqb, List, [], ◌∷◌, length, get_or, set, refl, add-one, arith, le-ltb, lt-ltb, ne_eqb}
 use Rattle.rules.specs.declared.reader.Bits.{Bits}
-use Rattle.rules.specs.declared.reader.Four.{Four}
 use Rattle.rules.specs.declared.reader.Got.{Got}
+use Rattle.rules.specs.declared.reader.Taken.{Taken}
 use Rattle.rules.specs.declared.v2.V2Hdr.{V2Hdr}
 use Rattle.rules.specs.Reader.{read, four}
 use Rattle.rules.specs.V2.{option_1, lengths_bit, colour, read_length, Moded, length_step, lengths_from, no_lengths, flagged_lengths, read_lengths}
@@ -80,8 +80,8 @@ pub lengths_end : (s : List ℕ) (depth row : ℕ) (flags : List ℕ) (j : ℕ) 
 unfolding lengths_from
 lengths_end s depth row flags j x h = rw (left_none 4 j h)
 
-pub flagged_are : (s : List ℕ) (depth row : ℕ) (mode : List (List ℕ)) (b : Bits) (f : Four) → f ≡ four s 2 b
-    → flagged_lengths s depth row mode b ≡ lengths_from s depth row f.values 4 0 (no_lengths mode f.bits)
+pub flagged_are : (s : List ℕ) (depth row : ℕ) (mode : List (List ℕ)) (b : Bits) (f : Taken (List ℕ)) → f ≡ four s 2 b
+    → flagged_lengths s depth row mode b ≡ lengths_from s depth row f.value 4 0 (no_lengths mode f.bits)
 unfolding flagged_lengths
 flagged_are s depth row mode b f e = rw (← e)
 
@@ -95,5 +95,5 @@ module _ (s : List ℕ) (h : V2Hdr) (row : ℕ) (mode : List (List ℕ)) (b : Bi
   lengths_zero t = rw (← e, t)
 
 -- A flag is below 4.
-pub flag_below : (s : List ℕ) (b : Bits) (f : Four) (j : ℕ) → f ≡ four s 2 b → get_or f.values j 0 < 4
+pub flag_below : (s : List ℕ) (b : Bits) (f : Taken (List ℕ)) (j : ℕ) → f ≡ four s 2 b → get_or f.value j 0 < 4
 flag_below s b f j e = rw e (four_below s 2 b j (omega arith))

@@ -105,7 +105,7 @@ fn four_lengths(
     ensures { moded result ≡ flagged_lengths src.now depth row lengths bits }
 {
     let f = read_flags(src, bits);
-    let flags = f.values;
+    let flags = f.value;
     let mut remembered = lengths;
     let mut four = [0u32; 4];
     let mut at = f.bits;

@@ -33,7 +33,7 @@ opening_fields =
 
 -- It is read as one bit and four fields of 2 bits.
 pub opening_read : (s : List ℕ) (b : Bits) → fields s opening_widths b
-    ≡ (let g = read s b 1 in let o = four s 2 g.bits in record { values = g.value ∷ o.values; bits = o.bits })
+    ≡ (let g = read s b 1 in let o = four s 2 g.bits in record { values = g.value ∷ o.value; bits = o.bits })
 opening_read s b = rw (fields_more s 1 (2 ∷ 2 ∷ 2 ∷ 2 ∷ []) b, four_fields s 2 (read s b 1).bits)
 
 pub opening_length : length (fields_bits opening_widths opening) ≡ 9

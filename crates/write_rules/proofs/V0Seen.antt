@@ -9,8 +9,8 @@ use lib.ListN.{length, get_or, drop, replicate}
 use lib.Dec.{lit≤}
 use lib.IntN.{ℤ, pos}
 use Rattle.rules.specs.declared.reader.Bits.{Bits}
-use Rattle.rules.specs.declared.reader.Four.{Four}
 use Rattle.rules.specs.declared.reader.Got.{Got}
+use Rattle.rules.specs.declared.reader.Taken.{Taken}
 use Rattle.rules.specs.declared.v0.Predictor.{Predictor}
 use Rattle.rules.specs.declared.v0.V0Op.{V0Op}
 use Rattle.rules.specs.declared.v0.V0Row.{V0Row}
@@ -74,13 +74,13 @@ module _ (s : List ℕ) (st : Stream s) where
       direction : Got
       direction = read s row.bits 1
 
-      ops : Four
+      ops : Taken (List ℕ)
       ops = four s 2 direction.bits
 
-      values_are : direction.value ∷ ops.values ≡ opening
+      values_are : direction.value ∷ ops.value ≡ opening
       values_are = rw (opening_read s row.bits) at F.values_are
 
-      ops_are : ops.values ≡ 3 ∷ 3 ∷ 3 ∷ 3 ∷ []
+      ops_are : ops.value ≡ 3 ∷ 3 ∷ 3 ∷ 3 ∷ []
       ops_are = ap (λ (l : List ℕ). drop 1 l) values_are
 
       m : SeesLengths xs row.lengths ops.bits rest

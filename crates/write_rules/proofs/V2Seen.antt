@@ -11,8 +11,8 @@ use lib.Dec.{lit<, lit≤}
 use lib.IntN.{ℤ, pos}
 use borrow.Author.Tests.{le-ltb}
 use Rattle.rules.specs.declared.reader.Bits.{Bits}
-use Rattle.rules.specs.declared.reader.Four.{Four}
 use Rattle.rules.specs.declared.reader.Got.{Got}
+use Rattle.rules.specs.declared.reader.Taken.{Taken}
 use Rattle.rules.specs.declared.v2.V2Hdr.{V2Hdr}
 use Rattle.rules.specs.declared.v2.V2Block.TheVariants.{Next}
 use Rattle.rules.specs.Reader.{fresh, has_filler, read, four, signed}
@@ -72,7 +72,7 @@ not_met t a b e = rw e
 
 module _ (s : List ℕ) (st : Stream s) where
   pub record SeesHeader (rest : List Bool) : Type 0 where
-    pub hdr_is : (header s).hdr ≡ written_hdr
+    pub hdr_is : (header s).value ≡ written_hdr
     pub next_sees : Sees s (header s).bits rest
 
   pub sees_header : (rest : List Bool) → Sees s (fresh 0) (header_bits ++ rest) → SeesHeader rest
@@ -186,16 +186,16 @@ module _ (s : List ℕ) (st : Stream s) where
       motion : Got
       motion = read s b 1
 
-      flags : Four
+      flags : Taken (List ℕ)
       flags = four s 2 motion.bits
 
-      values_are : motion.value ∷ flags.values ≡ opening
+      values_are : motion.value ∷ flags.value ≡ opening
       values_are = rw (opening_read s b) at F.values_are
 
       motion_is : motion.value ≡ 0
       motion_is = ap (λ (l : List ℕ). get_or l 0 0) values_are
 
-      flags_are : flags.values ≡ 3 ∷ 3 ∷ 3 ∷ 3 ∷ []
+      flags_are : flags.value ≡ 3 ∷ 3 ∷ 3 ∷ 3 ∷ []
       flags_are = ap (λ (l : List ℕ). drop 1 l) values_are
 
       threes : List ℕ

@@ -66,7 +66,7 @@ examples =
     -- fields: of widths 1, 0 and 3; four: of one width, and the reader after them
     ∷ are (fields words (1 ∷ 0 ∷ 3 ∷ []) (fresh 0)).values (1 ∷ 0 ∷ 2 ∷ [])
     ∷ are (of_bits (fields words (1 ∷ 0 ∷ 3 ∷ []) (fresh 0)).bits) (4 ∷ 0xA000_0000 ∷ 28 ∷ 0 ∷ [])
-    ∷ are (four words 4 (fresh 4)).values (8 ∷ 7 ∷ 6 ∷ 5 ∷ [])
+    ∷ are (four words 4 (fresh 4)).value (8 ∷ 7 ∷ 6 ∷ 5 ∷ [])
     ∷ are (of_bits (four words 4 (fresh 4)).bits) (8 ∷ 0x8765_4321 ∷ 16 ∷ 0 ∷ [])
     -- signed: the highest bit counts below 0; read_signed: of 32 bits at most
     ∷ are (map of_ℤ (signed 4 7 ∷ signed 4 8 ∷ signed 4 15 ∷ signed 0 0 ∷ [])) (7 ∷ minus 8 ∷ minus 1 ∷ 0 ∷ [])

@@ -8,15 +8,15 @@ use lib.IntN.{ℤ, pos, negsuc}
 use Rattle.rules.specs.declared.v0.Predictor.{Predictor}
 use Rattle.rules.specs.declared.v0.Predictor.TheVariants.{Skipped, Constant, Sample}
 use Rattle.rules.specs.declared.v0.V0Row.{V0Row}
-use Rattle.rules.specs.declared.v0.V0Length.{V0Length}
+use Rattle.rules.specs.declared.reader.Taken.{Taken}
 use Rattle.rules.specs.Reader.{fresh, fetched, counted, held, read, fields, four, signed, modulo, read_residual}
 use Rattle.rules.specs.Frame.{tabulate, change_cells}
 use Rattle.rules.specs.V0.{Step, Block, Kind, fresh_row, operated, operate, head, limit, bounded, rows_up, columns_back, predictor, length_of, length_bits, residual_bits, sample, samples, order, blocks_in, blocks, row_blocks, rows, rows_filler, frame_filler, put, apply, write, write_all, swap, exchange_columns, exchange_rows, exchange, sample_kind}
 use Rattle.rules.specs.Examples.{Example}
 use Rattle.rules.proofs.Pins.Values.{is, are, Hold, of_bool, minus, of_ℤ, of_bits, size, words, op, of_predictor, of_op, op_at, spilt_bytes, spilt_offsets}
 
-abbrev of_length : V0Length → List ℕ
-of_length x = of_ℤ x.length ∷ of_bits x.bits
+abbrev of_length : Taken ℤ → List ℕ
+of_length x = of_ℤ x.value ∷ of_bits x.bits
 
 abbrev of_row : V0Row → List ℕ
 of_row st = map of_ℤ st.lengths ++ of_bits st.bits

@@ -4,12 +4,11 @@ use mathlib.Core.Bool.{true, false}
 use mathlib.Core.Path.{refl}
 use mathlib.Core.List.{List, [], ◌∷◌, ◌++◌, map}
 use lib.ListN.{get_or, replicate}
-use lib.IntN.{pos, negsuc}
+use lib.IntN.{ℤ, pos, negsuc}
 use Rattle.rules.specs.declared.reader.Bits.{Bits}
 use Rattle.rules.specs.declared.v2.V2Hdr.{V2Hdr}
-use Rattle.rules.specs.declared.v2.V2Start.{V2Start}
+use Rattle.rules.specs.declared.reader.Taken.{Taken}
 use Rattle.rules.specs.declared.v2.V2Row.{V2Row}
-use Rattle.rules.specs.declared.v2.V2Scale.{V2Scale}
 use Rattle.rules.specs.declared.v2.V2Block.{V2Block}
 use Rattle.rules.specs.declared.v2.V2Block.TheVariants.{Next, EarlyMotion, Outside, LongDifference}
 use Rattle.rules.specs.Reader.{fresh, fetched, counted, held, read, fields, four, signed, read_signed}
@@ -21,11 +20,11 @@ use Rattle.rules.proofs.Pins.Values.{is, are, Hold, of_bool, minus, of_ℤ, bits
 
 -- ── How values are written ──
 
-abbrev of_header : V2Start → List ℕ
-of_header x = x.hdr.depth ∷ x.hdr.options ∷ x.hdr.initial ∷ of_bits x.bits
+abbrev of_header : Taken V2Hdr → List ℕ
+of_header x = x.value.depth ∷ x.value.options ∷ x.value.initial ∷ of_bits x.bits
 
-abbrev of_scale : V2Scale → List ℕ
-of_scale x = of_ℤ x.scale ∷ of_bits x.bits
+abbrev of_scale : Taken ℤ → List ℕ
+of_scale x = of_ℤ x.value ∷ of_bits x.bits
 
 -- A base: 0 and a number, 1 and a place, 2 and the two places of an average.
 abbrev of_base : Base → List ℕ

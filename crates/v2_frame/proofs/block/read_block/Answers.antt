@@ -53,7 +53,7 @@ pub read_tail-requires : goal.read_tail-requires
 read_tail-requires c =
     let z = c.args.state.scale in
     let ec = rw (to_z-of_z w32 z (scale_fits z (ready_scale c.args.src.now _ _ _ c.args.bits _ c.requires.0))) at c.next_scale-c.ensures in
-    let y = c.next_scale-c.result.scale in
+    let y = c.next_scale-c.result.value in
     let p = own_scale _ _ _ _ _ _ c.requires.0 _ ec in
     rw (to_z-of_z w32 y (scale_fits y p)) (c.requires.0.depth, (p, c.requires.1))
 
@@ -61,7 +61,7 @@ pub returns : goal.returns
 returns c =
     let z = c.args.state.scale in
     let ec = rw (to_z-of_z w32 z (scale_fits z (ready_scale c.args.src.now _ _ _ c.args.bits _ c.requires.0))) at c.next_scale-c.ensures in
-    let y = c.next_scale-c.result.scale in
+    let y = c.next_scale-c.result.value in
     let em = c.next_motion-m.ensures in
     let ek = c.refusal_of-refusal.ensures in
     let e5 = ne_eqb _ _ c.if-refusal-eq-EARLY_MOTION.false in
