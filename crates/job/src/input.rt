@@ -4,6 +4,8 @@ ghost use Rattle.rules.specs.Job.{half_word_at};
 ghost use Rattle.rules.specs.Job.{marked as Job·marked};
 ghost use Rattle.job.specs.Fields.{offsets_of};
 
+use read_bits::Bits;
+
 // The number of the two bytes from `at` on, lowest first.
 pub(crate) fn half_word(input: &[u8], at: usize) -> usize
     requires { at + 2 ≤ length input.now }
@@ -42,8 +44,7 @@ pub(crate) fn read_offsets(input: &[u8], offsets: &mut [u32], height: usize)
     let mut row = 0;
     while row < height {
         let at = 9 + 4 * row;
-        let word = read_bits::fetch(input, at as u64);
-        offsets[row] = word.value;
+        offsets[row] = read_bits::fetch(input, at as u64).unwrap_or(Bits::FILLER);
         row += 1;
     }
 }

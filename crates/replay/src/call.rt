@@ -2,7 +2,7 @@
 ghost use Rattle.std.specs.Prelude.{◌≡◌, ◌<◌, ◌≤◌, length, take};
 
 use super::samples::{fill, sum, sum_bytes, sum_offsets};
-use rules::Answer;
+use rules::{Answer, Bits};
 
 const SAMPLES: usize = 290_000;
 
@@ -29,15 +29,13 @@ pub(crate) fn least(a: usize, b: usize) -> usize
 
 // The number whose four bytes start at `at`.
 fn number(bytes: &[u8], at: usize) -> u32 {
-    let word = read_bits::fetch(bytes, at as u64);
-    word.value
+    read_bits::fetch(bytes, at as u64).unwrap_or(Bits::FILLER)
 }
 
 pub(crate) fn word(bytes: &[u8], at: usize) -> usize
     ensures { result < 4_294_967_296 }
 {
-    let word = read_bits::fetch(bytes, at as u64);
-    word.value as usize
+    number(bytes, at) as usize
 }
 
 // Where the stream's length stands: after the size and the offsets.
@@ -85,8 +83,8 @@ fn sample_count(call: &[u8], samples: &[u16]) -> usize
 fn read_offsets(call: &[u8], offsets: &mut [u32]) {
     let mut i: usize = 0;
     while i < offsets.len() {
-        let word = read_bits::fetch(call, std::num::wrapping_add_u64(16, 4 * i as u64));
-        offsets[i] = word.value;
+        let at = std::num::wrapping_add_u64(16, 4 * i as u64);
+        offsets[i] = read_bits::fetch(call, at).unwrap_or(Bits::FILLER);
         i += 1;
     }
 }

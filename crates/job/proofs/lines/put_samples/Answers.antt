@@ -1,4 +1,3 @@
-use Prim.Native.Nat.{◌-◌}
 use native.Mathlib.Omega.{arith}
 use Rattle.job.proofs.WrittenLaws.{left_start, left_step, left_end, part_room}
 use Rattle.job.proofs.TextLaws.{samples_parts, no_samples}
