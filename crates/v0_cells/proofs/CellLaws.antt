@@ -53,22 +53,22 @@ module _ (z : Size) (row col : ℕ) (up : Bool) (c : ℕ) where
 
 -- ── An operation ──
 
-module _ (k : Kind ℕ) where
-  pub put_skipped : (place : ℕ) (p : Predictor) (d : ℕ) (f : List ℕ) → p ≡ Skipped → f ≡ put k place p d f
+module _ {A : Type 0} (k : Kind A) where
+  pub put_skipped : (place : ℕ) (p : Predictor) (d : ℕ) (f : List A) → p ≡ Skipped → f ≡ put k place p d f
   unfolding put
   put_skipped place p d f e = rw e
 
-  pub put_past : (place : ℕ) (p : Predictor) (d : ℕ) (f : List ℕ) → length f ≤ place → f ≡ put k place p d f
+  pub put_past : (place : ℕ) (p : Predictor) (d : ℕ) (f : List A) → length f ≤ place → f ≡ put k place p d f
   unfolding put
   put_past place Skipped d f l = refl
   put_past place Constant d f l = sym (set_out f place (k.plus (k.constant 128) d) l)
   put_past place (Sample p) d f l = sym (set_out f place (k.plus (get_or f p (k.constant 0)) d) l)
 
-  pub put_constant : (place : ℕ) (p : Predictor) (d v : ℕ) (f : List ℕ) → p ≡ Constant → v ≡ k.plus (k.constant 128) d → set f place v ≡ put k place p d f
+  pub put_constant : (place : ℕ) (p : Predictor) (d : ℕ) (v : A) (f : List A) → p ≡ Constant → v ≡ k.plus (k.constant 128) d → set f place v ≡ put k place p d f
   unfolding put
   put_constant place p d v f e q = rw (e, q)
 
-  pub put_sample : (place q : ℕ) (p : Predictor) (d b v : ℕ) (f : List ℕ) → p ≡ Sample q → b ≡ get_or f q (k.constant 0) → v ≡ k.plus b d
+  pub put_sample : (place q : ℕ) (p : Predictor) (d : ℕ) (b v : A) (f : List A) → p ≡ Sample q → b ≡ get_or f q (k.constant 0) → v ≡ k.plus b d
       → set f place v ≡ put k place p d f
   unfolding put
   put_sample place q p d b v f e eb ev = rw (e, ev, eb)
