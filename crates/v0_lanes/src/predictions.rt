@@ -20,10 +20,8 @@ fn columns_at(out: &[u16], base: usize) -> [u16; V0Row::BLOCK]
     ensures { Columns out.now base 16 result }
 {
     let mut d = [0; V0Row::BLOCK];
-    let mut c: usize = 0;
-    while c < V0Row::BLOCK {
+    for c in 0..V0Row::BLOCK {
         d[c] = out[base + lane_of(c)];
-        c += 1;
     }
     d
 }
@@ -35,13 +33,11 @@ fn add_up(out: &mut [u16], w: usize, base: usize)
 {
     let d = columns_at(out, base);
     let mut values = [0; V0Row::BLOCK];
-    let mut c: usize = 0;
-    while c < V0Row::BLOCK {
+    for c in 0..V0Row::BLOCK {
         let one = out[base + c - w];
         let two = out[base + c - 2 * w];
         let p = sample_of(c, one, two);
         values[c] = std::num::wrapping_add_u16(p, d[c]);
-        c += 1;
     }
     store_samples(out, base, values);
 }
@@ -55,11 +51,9 @@ fn add_left(out: &mut [u16], w: usize, base: usize)
     let two = out[base - 2];
     let one = out[base - 1];
     let mut values = [0; V0Row::BLOCK];
-    let mut c: usize = 0;
-    while c < V0Row::BLOCK {
+    for c in 0..V0Row::BLOCK {
         let p = sample_of(c, two, one);
         values[c] = std::num::wrapping_add_u16(p, d[c]);
-        c += 1;
     }
     store_samples(out, base, values);
 }

@@ -36,10 +36,8 @@ pub fn fill_lanes(t: &mut [u64; 96])
     requires { length t.old ≡ 96 }
     ensures { Holds shapes 96 t.new }
 {
-    let mut i: usize = 0;
-    while i < 96 {
+    for i in 0..96 {
         t[i] = shape_of((i % 16) as u32, i / 16);
-        i += 1;
     }
 }
 
@@ -125,9 +123,7 @@ pub fn fill_heads(t: &mut [u32; 1024])
     requires { length t.old ≡ 1_024 }
     ensures { Holds actions 1_024 t.new }
 {
-    let mut i: usize = 0;
-    while i < 1024 {
+    for i in 0..1024 {
         t[i] = action_of((i / 4) as u32, i % 4);
-        i += 1;
     }
 }
