@@ -39,12 +39,10 @@ fn decode_freeing(
     let mut heads = [0u32; 1024];
     fill_heads(&mut heads);
     let mut filler: u64 = 0;
-    let mut row: usize = 0;
-    while row < count {
+    for row in 0..count {
         let missing = decode_row(src, size, row, offsets[row], out, map, &lanes, &heads);
         filler = held_sum(filler, missing);
         exchange_pairs(out, map, size, freed_pairs(row), freed_pairs(row + 1));
-        row += 1;
     }
     filler
 }

@@ -212,11 +212,10 @@ pub fn decode_early_row(
 {
     let w = size.width;
     let mut state = V0Row::fresh(row, start);
-    let mut col: usize = 0;
-    while col < size.width {
+    for block in 0..V0Row::blocks_in(w) {
+        let col = block * V0Row::BLOCK;
         state = decode_edge(src, V0Place { size, row, col }, state, out, map);
         let bits = state.bits;
         end_block(map, row * w + col, bits);
-        col += V0Row::BLOCK;
     }
 }

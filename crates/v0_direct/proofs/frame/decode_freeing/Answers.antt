@@ -29,13 +29,6 @@ exchange_pairs-requires c =
     let d = c.decode_row-missing.ensures in
     freed_lent _ _ _ _ _ _ c.requires _ _ _ _ _ _ _ _ _ (omega arith) d.samples d.marks c.freed_pairs.ensures c.freed_pairs-in-loop-row.ensures c.loop-row.invariant
 
-pub overflow_add-row-in-loop-row : goal.overflow_add-row-in-loop-row
-overflow_add-row-in-loop-row c =
-    record { fits = omega (arith, c.requires.1, c.requires.0.height) }
-
-pub loop-row-smaller : goal.loop-row-smaller
-loop-row-smaller c = omega arith
-
 pub loop-row-preserved : goal.loop-row-preserved
 loop-row-preserved c =
     let d = c.decode_row-missing.ensures in
