@@ -43,11 +43,9 @@ fn store_edge(out: &mut [u16], width: usize, col: usize, residuals: [u16; 16])
     requires { (width ≤ length out.old) × (col < most_side) }
     ensures { out.new ≡ store_samples 0 width col order residuals out.old }
 {
-    let mut k: usize = 0;
-    while k < V0Row::BLOCK {
+    for k in 0..V0Row::BLOCK {
         let c = stream_column(k);
         store_residual(out, width, col + c, residuals[k]);
-        k += 1;
     }
 }
 
@@ -56,11 +54,9 @@ fn store_inner(out: &mut [u16], width: usize, col: usize, residuals: [u16; 16])
     requires { (width ≤ length out.old) × ((col + 16 ≤ width) × (width ≤ most_side)) }
     ensures { out.new ≡ store_samples 0 width col order residuals out.old }
 {
-    let mut k: usize = 0;
-    while k < V0Row::BLOCK {
+    for k in 0..V0Row::BLOCK {
         let c = stream_column(k);
         out[col + c] = residuals[k];
-        k += 1;
     }
 }
 
@@ -228,12 +224,10 @@ pub fn parse_rows(src: &[u8], offsets: &[u32], size: Size, out: &mut [u16], dirs
     let w = size.width;
     let h = size.height;
     let blocks = V0Row::blocks_in(w);
-    let mut r: usize = 0;
-    while r + 2 < h {
+    for r in 0..h.saturating_sub(2) {
         let row = r + 2;
         let first = row * w;
         let start = r * blocks;
         parse_v0_residuals(src, offsets[row], w, &mut out[first..], &mut dirs[start..]);
-        r += 1;
     }
 }
