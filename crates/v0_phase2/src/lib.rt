@@ -54,11 +54,9 @@ fn add_edge(out: &mut [u16], w: usize, row: usize, col: usize, up: bool)
     requires { LateRow w row out.old × (col < w) }
     ensures { out.new ≡ predict_samples sample_stage w row col up order out.old }
 {
-    let mut k: usize = 0;
-    while k < V0Row::BLOCK {
+    for k in 0..V0Row::BLOCK {
         let c = stream_column(k);
         add_sample(out, w, row, col, up, c);
-        k += 1;
     }
 }
 
@@ -68,13 +66,11 @@ fn add_up(out: &mut [u16], w: usize, base: usize)
     ensures { out.new ≡ predict_inner w base true out.old }
 {
     let mut values = [0; V0Row::BLOCK];
-    let mut c: usize = 0;
-    while c < V0Row::BLOCK {
+    for c in 0..V0Row::BLOCK {
         let one = out[base + c - w];
         let two = out[base + c - 2 * w];
         let p = sample_of(c, one, two);
         values[c] = std::num::wrapping_add_u16(p, out[base + c]);
-        c += 1;
     }
     store_samples(out, base, values);
 }
@@ -87,11 +83,9 @@ fn add_left(out: &mut [u16], w: usize, base: usize)
     let two = out[base - 2];
     let one = out[base - 1];
     let mut values = [0; V0Row::BLOCK];
-    let mut c: usize = 0;
-    while c < V0Row::BLOCK {
+    for c in 0..V0Row::BLOCK {
         let p = sample_of(c, two, one);
         values[c] = std::num::wrapping_add_u16(p, out[base + c]);
-        c += 1;
     }
     store_samples(out, base, values);
 }
@@ -138,9 +132,7 @@ pub fn add_part(
     requires { LateRow w row out.old × ((start + to ≤ length dirs.now) × (to ≤ blocks_in w)) }
     ensures { out.new ≡ predict_blocks sample_stage w row (from * 16) (take (to - from) (drop (start + from) dirs.now)) out.old }
 {
-    let mut k = from;
-    while k < to {
+    for k in from..to {
         add_block(out, w, row, k * V0Row::BLOCK, dirs[start + k] != 0);
-        k += 1;
     }
 }
