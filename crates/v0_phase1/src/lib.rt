@@ -21,13 +21,6 @@ use v0_parse::block::read_block;
 use v0_parse::order::stream_column;
 use v0_parse_window::{BLOCK_BYTES, WindowHead, four_at, four_long_at, plan_of, window_head};
 
-// A block's direction as a byte.
-fn direction_byte(up: bool) -> u8
-    ensures { result ≡ cond up 1 0 }
-{
-    if up { 1 } else { 0 }
-}
-
 // A residual to column i of a row; past the row's end it is dropped.
 fn store_residual(out: &mut [u16], width: usize, i: usize, residual: u16)
     requires { width ≤ length out.old }
@@ -139,7 +132,7 @@ fn parse_by_record(
     ensures { Parsed src.now row width k out.old dirs.old result out.new dirs.new }
 {
     let block = read_block(src, row, true);
-    dirs[k] = direction_byte(block.up);
+    dirs[k] = u8::from(block.up);
     let residuals = block.residuals;
     store_residuals(out, width, k * V0Row::BLOCK, residuals);
     block.row
@@ -164,7 +157,7 @@ fn parse_block(
         let base = bits.pos as usize - BACK_BYTES;
         let head = window_head(src, base, BACK_BITS - bits.count as usize, before);
         let end = store_groups(src, base, head, out, width, col);
-        dirs[k] = direction_byte(head.up);
+        dirs[k] = u8::from(head.up);
         let lengths = head.lengths;
         return V0Row {
             lengths,
