@@ -11,7 +11,7 @@ use super::row::{decode_early_row, decode_row};
 use read_bits::held_sum;
 use rules::Size;
 use v0_cells::exchange::exchange_pairs;
-use v0_lanes::tables::{fill_heads, fill_lanes};
+use v0_lanes::tables::Tables;
 
 // How many pairs of rows no row from this one on reads.
 pub fn freed_pairs(row: usize) -> usize
@@ -34,13 +34,10 @@ fn decode_freeing(
     ensures samples { out.new ≡ rows_freed V0.sample_kind src.now offsets.now size count out.old }
     ensures marks { map.new ≡ rows_freed v0_marks src.now offsets.now size count map.old }
 {
-    let mut lanes = [0u64; 96];
-    fill_lanes(&mut lanes);
-    let mut heads = [0u32; 1024];
-    fill_heads(&mut heads);
+    let tables = Tables::new();
     let mut filler: u64 = 0;
     for row in 0..count {
-        let missing = decode_row(src, size, row, offsets[row], out, map, &lanes, &heads);
+        let missing = decode_row(src, size, row, offsets[row], out, map, &tables);
         filler = held_sum(filler, missing);
         exchange_pairs(out, map, size, freed_pairs(row), freed_pairs(row + 1));
     }

@@ -16,10 +16,7 @@ bounds-offsets-row c = omega arith
 
 pub decode_row-missing-requires : goal.decode_row-missing-requires
 decode_row-missing-requires c =
-    record {
-      in_row = row_lent _ _ _ _ _ _ c.requires _ _ _ _ (omega arith) c.loop-row.invariant;
-      tables = record { of_lanes = c.fill_lanes.ensures; of_heads = c.fill_heads.ensures };
-    }
+    row_lent _ _ _ _ _ _ c.requires _ _ _ _ (omega arith) c.loop-row.invariant
 
 pub overflow_add-row : goal.overflow_add-row
 overflow_add-row c = omega arith
