@@ -11,7 +11,7 @@ use super::row::{decode_early_row, decode_row};
 use read_bits::held_sum;
 use rules::Size;
 use v0_cells::exchange::exchange_pairs;
-use v0_lanes::tables::Tables;
+use v0_lanes::tables::{Tables, fill_heads, fill_lanes};
 
 // How many pairs of rows no row from this one on reads.
 pub fn freed_pairs(row: usize) -> usize
@@ -34,7 +34,12 @@ fn decode_freeing(
     ensures samples { out.new ≡ rows_freed V0.sample_kind src.now offsets.now size count out.old }
     ensures marks { map.new ≡ rows_freed v0_marks src.now offsets.now size count map.old }
 {
-    let tables = Tables::new();
+    let mut tables = Tables {
+        lanes: [0; 96],
+        heads: [0; 1024],
+    };
+    fill_lanes(&mut tables.lanes);
+    fill_heads(&mut tables.heads);
     let mut filler: u64 = 0;
     for row in 0..count {
         let missing = decode_row(src, size, row, offsets[row], out, map, &tables);

@@ -1,4 +1,5 @@
-// What the lanes and the packed lengths go by, made once for a frame.
+// What the lanes and the packed lengths go by, made once for a frame. The tables are the caller's: handed back by value, each would lie
+// on the stack twice.
 ghost use Rattle.std.specs.Prelude.{◌≡◌, ◌+◌, ◌-◌, ◌*◌, ◌/◌, ◌%◌, ◌<◌, length};
 ghost use Rattle.v0_lanes.specs.Lanes.{lanes};
 ghost use Rattle.v0_lanes.specs.Lengths.{keep, step, reads, shift, action, actions};
@@ -6,26 +7,13 @@ ghost use Rattle.v0_lanes.specs.Tables.{Holds, shape, shapes};
 
 use read_fields::power;
 
-// The tables of the lanes and of the heads.
+// The table of the lanes and that of the heads, each filled by its rule.
 #[derive(Drop)]
 pub struct Tables {
     pub lanes: [u64; 96],
     pub heads: [u32; 1024],
     pub ghost of_lanes: { Holds shapes 96 lanes },
     pub ghost of_heads: { Holds actions 1_024 heads },
-}
-
-impl Tables {
-    // Each is filled where it lies, so that it lies on the stack once.
-    pub fn new() -> Tables {
-        let mut tables = Tables {
-            lanes: [0; 96],
-            heads: [0; 1024],
-        };
-        fill_lanes(&mut tables.lanes);
-        fill_heads(&mut tables.heads);
-        tables
-    }
 }
 
 // What four residuals of n bits are made with, by its number k.
