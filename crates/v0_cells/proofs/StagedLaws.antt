@@ -1,6 +1,6 @@
 -- A block whose sixteen cells are made from the frame as it was and then stored: every source lies before the block, so that this
 -- comes to the operations in the order of the stream. One law for samples and marks.
-use Rattle.std.proofs.Common.{◌≡◌, ℕ, ◌+◌, ◌-◌, ◌*◌, ◌%◌, ◌<◌, ◌≤◌, Bool, true, false, cond, eqb, ◌≢◌, List, ◌∷◌, map, length, get_or, set, replicate, sym, refl, ap, ◌∙◌, subst, mul-le-mul_right, zero-add, arith, length-set, get_or-set_other, get_or-set_same, ext_get_or, eqb-true}
+use Rattle.std.proofs.Common.{◌≡◌, ℕ, ◌+◌, ◌-◌, ◌*◌, ◌%◌, ◌<◌, ◌≤◌, Bool, true, false, cond, eqb, ◌≢◌, List, ◌∷◌, map, length, get_or, set, replicate, sym, refl, ap, ap₂, ◌∙◌, subst, mul-le-mul_right, zero-add, arith, length-set, get_or-set_other, get_or-set_same, ext_get_or, eqb-true}
 use mathlib.Core.Logic.{by_cases}
 use native.Mathlib.Decide.{ℕ_discrete, dec_lt}
 use borrow.Author.Tests.{eqb-false}
@@ -149,6 +149,14 @@ module _ {k : Kind ℕ} {w base : ℕ} {up : Bool} {d : ℕ → ℕ} {f₀ : Lis
         outside = r.outside;
       })
       (ops_replace k w base up d f₀ i)
+
+map_same : {d e : ℕ → ℕ} {cs : List ℕ} → All (λ c. d c ≡ e c) cs → map d cs ≡ map e cs
+map_same nil = refl
+map_same (more h hs) = ap₂ (λ x xs. x ∷ xs) h (map_same hs)
+
+-- A block's residuals are known by those of its columns.
+pub columns_same : {d e : ℕ → ℕ} → ((c : ℕ) → c < 16 → d c ≡ e c) → map d order ≡ map e order
+columns_same {d} {e} h = map_same (all_order (λ c. d c ≡ e c) h)
 
 -- ── The choice by parity ──
 

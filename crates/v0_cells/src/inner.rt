@@ -1,6 +1,6 @@
 // An inner block: from row 2 on, after column 0 and inside its row nothing is skipped. Its residuals, all by value, are added to the
 // predictors in the order of the stream.
-ghost use Rattle.std.specs.Prelude.{◌≡◌, ◌+◌, ◌*◌, ◌%◌, ◌<◌, ◌≤◌, true, false, [], ◌∷◌, length, replicate, if◌then◌else◌, nat_eq, slice_index, slice_set};
+ghost use Rattle.std.specs.Prelude.{◌≡◌, ◌+◌, ◌*◌, ◌%◌, ◌<◌, ◌≤◌, true, false, [], ◌∷◌, map, length, replicate, if◌then◌else◌, nat_eq, slice_index, slice_set};
 ghost use Rattle.rules.specs.V0 as V0;
 ghost use Rattle.rules.specs.Map.{v0_marks};
 ghost use Rattle.v0_cells.specs.Places.{Whole, Inner, Inside, Low};
@@ -80,6 +80,52 @@ pub fn store_samples(out: &mut [u16], base: usize, values: [u16; V0Row::BLOCK])
         out[base + c] = values[c];
         c += 1;
     }
+}
+
+// The samples of a block of direction 1, by the residuals of its columns. Every source lies before the block, so that all sums are made
+// first and then stored. Inlined as those that call it, so that the residuals stay in registers.
+#[inline(always)]
+fn put_up(out: &mut [u16], w: usize, base: usize, residuals: [u16; V0Row::BLOCK])
+    requires { Inside w base out.old × Low base }
+    ensures { out.new ≡ V0.apply V0.sample_kind (inner_ops w base true V0.order (map (λ c. slice_index residuals c) V0.order)) out.old }
+{
+    let mut values = [0; V0Row::BLOCK];
+    for c in 0..V0Row::BLOCK {
+        let one = out[base + c - w];
+        let two = out[base + c - 2 * w];
+        let p = sample_of(c, one, two);
+        values[c] = std::num::wrapping_add_u16(p, residuals[c]);
+    }
+    store_samples(out, base, values);
+}
+
+// Those of a block of direction 0: the two columns before it serve all sixteen. The row length is for the contract alone.
+#[inline(always)]
+fn put_left(out: &mut [u16], w: usize, base: usize, residuals: [u16; V0Row::BLOCK])
+    requires { Inside w base out.old × Low base }
+    ensures { out.new ≡ V0.apply V0.sample_kind (inner_ops w base false V0.order (map (λ c. slice_index residuals c) V0.order)) out.old }
+{
+    let two = out[base - 2];
+    let one = out[base - 1];
+    let mut values = [0; V0Row::BLOCK];
+    for c in 0..V0Row::BLOCK {
+        let p = sample_of(c, two, one);
+        values[c] = std::num::wrapping_add_u16(p, residuals[c]);
+    }
+    store_samples(out, base, values);
+}
+
+// The samples of a block at `base`, by the residuals of its columns, all at once.
+#[inline(always)]
+pub fn put_columns(out: &mut [u16], w: usize, base: usize, up: bool, residuals: [u16; V0Row::BLOCK])
+    requires { Inside w base out.old × Low base }
+    ensures { out.new ≡ V0.apply V0.sample_kind (inner_ops w base up V0.order (map (λ c. slice_index residuals c) V0.order)) out.old }
+{
+    if up {
+        put_up(out, w, base, residuals);
+        return;
+    }
+    put_left(out, w, base, residuals);
 }
 
 // Of two marks the one for a column: even columns take the first, odd ones the second.

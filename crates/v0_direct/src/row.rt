@@ -7,7 +7,6 @@ ghost use Rattle.rules.specs.Map.{with_filler, v0_marks};
 ghost use Rattle.v0_parse_window.specs.ByWindow.{Ahead, Ends, residuals_of, residuals_ahead};
 ghost use Rattle.v0_cells.specs.Inner.{inner_ops};
 ghost use Rattle.v0_cells.specs.Places.{InFrame, Inner};
-ghost use Rattle.v0_lanes.specs.Blocks.{Tables};
 ghost use Rattle.v0_direct.specs.FrameLent.{InRow, BlockLent, RunLent};
 ghost use Rattle.v0_direct.specs.Block.{Decoded, BlockRun};
 
@@ -18,6 +17,7 @@ use frame_map::fill_block;
 use read_window::{BACK_BITS, BACK_BYTES, SHORT_BITS, stands_within, state_at};
 use rules::{Bits, Size, V0Row};
 use v0_cells::inner::{mark_block, put_four, put_inner};
+use v0_lanes::tables::Tables;
 use v0_parse::block::{read_block, read_block_head};
 use v0_parse_window::{BLOCK_BYTES, WindowHead, four_at, four_long_at, plan_of, window_head};
 
@@ -136,16 +136,14 @@ fn decode_blocks(
     state: V0Row,
     out: &mut [u16],
     map: &mut [u8],
-    lanes: &[u64; 96],
-    heads: &[u32; 1024],
+    tables: &Tables,
 ) -> Run
-    requires in_frame { InFrame at.size at.row at.col × RunLent at.size at.col state.lengths out.old map.old }
-    requires tables { Tables lanes.now heads.now }
+    requires { InFrame at.size at.row at.col × RunLent at.size at.col state.lengths out.old map.old }
     ensures { (at.col < result.col) × BlockRun src.now at.size at.row at.col state out.old map.old result.col result.state out.new map.new }
 {
     let size = at.size;
     let row = at.row;
-    let run = decode_run(src, at, state, out, map, lanes, heads);
+    let run = decode_run(src, at, state, out, map, tables);
     let col = run.col;
     let before = run.state;
     let w = size.width;
@@ -169,11 +167,9 @@ pub fn decode_row(
     offset: u32,
     out: &mut [u16],
     map: &mut [u8],
-    lanes: &[u64; 96],
-    heads: &[u32; 1024],
+    tables: &Tables,
 ) -> u64
-    requires in_row { InRow size row out.old map.old }
-    requires tables { Tables lanes.now heads.now }
+    requires { InRow size row out.old map.old }
     ensures missing { result ≡ (V0.row_blocks src.now size row offset).bits.filler }
     ensures samples { out.new ≡ V0.write_all V0.sample_kind (V0.row_blocks src.now size row offset).blocks out.old }
     ensures marks { map.new ≡ V0.write_all v0_marks (V0.row_blocks src.now size row offset).blocks map.old }
@@ -182,15 +178,7 @@ pub fn decode_row(
     let mut state = V0Row::fresh(row, offset);
     let mut col: usize = 0;
     while col < w {
-        let blocks = decode_blocks(
-            src,
-            V0Place { size, row, col },
-            state,
-            out,
-            map,
-            lanes,
-            heads,
-        );
+        let blocks = decode_blocks(src, V0Place { size, row, col }, state, out, map, tables);
         state = blocks.state;
         col = blocks.col;
     }
@@ -212,11 +200,10 @@ pub fn decode_early_row(
 {
     let w = size.width;
     let mut state = V0Row::fresh(row, start);
-    let mut col: usize = 0;
-    while col < size.width {
+    for block in 0..V0Row::blocks_in(w) {
+        let col = block * V0Row::BLOCK;
         state = decode_edge(src, V0Place { size, row, col }, state, out, map);
         let bits = state.bits;
         end_block(map, row * w + col, bits);
-        col += V0Row::BLOCK;
     }
 }

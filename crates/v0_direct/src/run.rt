@@ -14,7 +14,6 @@ ghost use Rattle.read_window.specs.Window.{Standing};
 ghost use Rattle.v0_parse_window.specs.ByWindow.{Ahead, last_start, short, block_ahead};
 ghost use Rattle.v0_parse_window.specs.Run.{run_length};
 ghost use Rattle.v0_cells.specs.Places.{InFrame, Inner, Whole};
-ghost use Rattle.v0_lanes.specs.Blocks.{Tables};
 ghost use Rattle.v0_direct.specs.FrameLent.{RunLent};
 ghost use Rattle.v0_direct.specs.Block.{Ran};
 ghost use Rattle.v0_direct.specs.Run.{run_begins, run_end, row_at, RanAt, finished, finished_marks};
@@ -26,6 +25,7 @@ use v0_cells::inner::mark_block;
 use v0_lanes::blocks::{head_at, store_block};
 use v0_lanes::lengths::{all_fit, ends_of, lengths_after, packed, unpacked};
 use v0_lanes::predictions::predict;
+use v0_lanes::tables::Tables;
 use v0_parse_window::{BLOCK_BYTES, are_short, last_start};
 
 // Where a run ends: the column after its last block, and the row's state there.
@@ -69,11 +69,10 @@ fn short_blocks(
     start: Point,
     out: &mut [u16],
     map: &mut [u8],
-    lanes: &[u64; 96],
-    heads: &[u32; 1024],
+    tables: &Tables,
 ) -> Point
     requires inner { Inner at.size at.row start.col × (Ahead src.now base start.q block_ahead × RunLent at.size start.col start.lengths out.old map.old) }
-    requires lengths_value { (short start.lengths ≡ true) × Tables lanes.now heads.now }
+    requires short { short start.lengths ≡ true }
     ensures ran { RanAt src.now base at.size at.row start out.old map.old result out.new map.new }
     ensures reaches { result.col ≡ start.col + 16 * run_length src.now (base * 8 + last_start (length src.now - base)) ((at.size.width - start.col) / 16) (row_at src.now base start) }
 {
@@ -87,7 +86,7 @@ fn short_blocks(
     let mut lengths = packed(before);
     let mut col = first;
     let mut up = false;
-    let mut head = head_at(src, base, q, lengths, heads);
+    let mut head = head_at(src, base, q, lengths, &tables.heads);
     while col + V0Row::BLOCK <= w && q <= last {
         if !all_fit(head.sums) {
             break;
@@ -97,8 +96,8 @@ fn short_blocks(
         lengths = lengths_after(head.sums);
         let ends = ends_of(from, lengths);
         q = ends.fourth;
-        head = head_at(src, base, q, lengths, heads);
-        store_block(src, base, from, lengths, out, row * w + col, lanes);
+        head = head_at(src, base, q, lengths, &tables.heads);
+        store_block(src, base, from, lengths, out, row * w + col, &tables.lanes);
         finish(out, map, V0Place { size, row, col }, first, up);
         up = next;
         col += V0Row::BLOCK;
@@ -138,11 +137,9 @@ pub fn decode_run(
     state: V0Row,
     out: &mut [u16],
     map: &mut [u8],
-    lanes: &[u64; 96],
-    heads: &[u32; 1024],
+    tables: &Tables,
 ) -> Run
-    requires in_frame { InFrame at.size at.row at.col × RunLent at.size at.col state.lengths out.old map.old }
-    requires tables { Tables lanes.now heads.now }
+    requires { InFrame at.size at.row at.col × RunLent at.size at.col state.lengths out.old map.old }
     ensures ran { Ran src.now at.size at.row at.col state out.old map.old result.col result.state out.new map.new }
     ensures reaches { result.col ≡ run_end src.now at.size at.row at.col state }
 {
@@ -157,7 +154,7 @@ pub fn decode_run(
         q: BACK_BITS - bits.count as usize,
         lengths,
     };
-    let end = short_blocks(src, base, at, start, out, map, lanes, heads);
+    let end = short_blocks(src, base, at, start, out, map, tables);
     let after = end.lengths;
     let next = V0Row {
         lengths: after,

@@ -54,11 +54,9 @@ pub fn decode_samples(
 {
     let after = head.row;
     let mut bits = after.bits;
-    let mut k: usize = 0;
-    while k < V0Row::BLOCK {
+    for k in 0..V0Row::BLOCK {
         let c = stream_column(k);
         bits = decode_sample(src, at, head, c, bits, out, map);
-        k += 1;
     }
     bits
 }

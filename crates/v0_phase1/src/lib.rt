@@ -21,13 +21,6 @@ use v0_parse::block::read_block;
 use v0_parse::order::stream_column;
 use v0_parse_window::{BLOCK_BYTES, WindowHead, four_at, four_long_at, plan_of, window_head};
 
-// A block's direction as a byte.
-fn direction_byte(up: bool) -> u8
-    ensures { result ≡ cond up 1 0 }
-{
-    if up { 1 } else { 0 }
-}
-
 // A residual to column i of a row; past the row's end it is dropped.
 fn store_residual(out: &mut [u16], width: usize, i: usize, residual: u16)
     requires { width ≤ length out.old }
@@ -43,11 +36,9 @@ fn store_edge(out: &mut [u16], width: usize, col: usize, residuals: [u16; 16])
     requires { (width ≤ length out.old) × (col < most_side) }
     ensures { out.new ≡ store_samples 0 width col order residuals out.old }
 {
-    let mut k: usize = 0;
-    while k < V0Row::BLOCK {
+    for k in 0..V0Row::BLOCK {
         let c = stream_column(k);
         store_residual(out, width, col + c, residuals[k]);
-        k += 1;
     }
 }
 
@@ -56,11 +47,9 @@ fn store_inner(out: &mut [u16], width: usize, col: usize, residuals: [u16; 16])
     requires { (width ≤ length out.old) × ((col + 16 ≤ width) × (width ≤ most_side)) }
     ensures { out.new ≡ store_samples 0 width col order residuals out.old }
 {
-    let mut k: usize = 0;
-    while k < V0Row::BLOCK {
+    for k in 0..V0Row::BLOCK {
         let c = stream_column(k);
         out[col + c] = residuals[k];
-        k += 1;
     }
 }
 
@@ -143,7 +132,7 @@ fn parse_by_record(
     ensures { Parsed src.now row width k out.old dirs.old result out.new dirs.new }
 {
     let block = read_block(src, row, true);
-    dirs[k] = direction_byte(block.up);
+    dirs[k] = u8::from(block.up);
     let residuals = block.residuals;
     store_residuals(out, width, k * V0Row::BLOCK, residuals);
     block.row
@@ -168,7 +157,7 @@ fn parse_block(
         let base = bits.pos as usize - BACK_BYTES;
         let head = window_head(src, base, BACK_BITS - bits.count as usize, before);
         let end = store_groups(src, base, head, out, width, col);
-        dirs[k] = direction_byte(head.up);
+        dirs[k] = u8::from(head.up);
         let lengths = head.lengths;
         return V0Row {
             lengths,
@@ -228,12 +217,10 @@ pub fn parse_rows(src: &[u8], offsets: &[u32], size: Size, out: &mut [u16], dirs
     let w = size.width;
     let h = size.height;
     let blocks = V0Row::blocks_in(w);
-    let mut r: usize = 0;
-    while r + 2 < h {
+    for r in 0..h.saturating_sub(2) {
         let row = r + 2;
         let first = row * w;
         let start = r * blocks;
         parse_v0_residuals(src, offsets[row], w, &mut out[first..], &mut dirs[start..]);
-        r += 1;
     }
 }

@@ -16,7 +16,7 @@ ghost use Rattle.v0_parse_window.specs.Run.{run_length, blocks_of_run};
 ghost use Rattle.v0_phase1.specs.RowLent.{RunLent};
 ghost use Rattle.v0_phase1.specs.Ran.{RanAt, Ran, row_at};
 
-use super::{direction_byte, store_four};
+use super::store_four;
 use read_window::{BACK_BITS, BACK_BYTES, stands_within, state_at};
 use rules::V0Row;
 use v0_parse_window::{
@@ -88,7 +88,7 @@ fn short_blocks(
             break;
         }
         q = store_short(src, base, head, out, width, k * V0Row::BLOCK);
-        dirs[k] = direction_byte(head.up);
+        dirs[k] = u8::from(head.up);
         lengths = after;
         k += 1;
     }
