@@ -2,7 +2,6 @@
 use Rattle.std.proofs.Common.{◌≡◌, ℕ, ◌+◌, ◌-◌, ◌*◌, ◌%◌, ◌<◌, ◌≤◌, Bool, true, false, List, [], ◌∷◌, ◌++◌, length, get_or, set, sym, refl, ap, ◌∙◌, mul-le-mul, arith, le-ltb, lt-ltb, ne_eqb}
 use lib.Seq.{set_out}
 use Rattle.rules.specs.V0.{Kind, Block, put, apply, write_all, predictor, bounded, limit, rows_up}
-use Rattle.rules.specs.Map.{v0_marks}
 use Rattle.rules.specs.declared.answer.Size.{Size}
 use Rattle.rules.specs.declared.v0.Predictor.{Predictor}
 use Rattle.rules.specs.declared.v0.Predictor.TheVariants.{Skipped, Constant, Sample}
@@ -72,13 +71,6 @@ module _ {A : Type 0} (k : Kind A) where
       → set f place v ≡ put k place p d f
   unfolding put
   put_sample place q p d b v f e eb ev = rw (e, ev, eb)
-
--- No residual changes a mark.
-pub put_mark_alike : (place : ℕ) (p : Predictor) (d e : ℕ) (f : List ℕ) → put v0_marks place p d f ≡ put v0_marks place p e f
-unfolding put
-put_mark_alike place Skipped d e f = refl
-put_mark_alike place Constant d e f = refl
-put_mark_alike place (Sample p) d e f = refl
 
 -- A frame of no cells stays one.
 module _ (k : Kind ℕ) where

@@ -1,6 +1,5 @@
 -- The exchange, for any kind of cell: what is left of it comes to the whole.
-use Rattle.std.proofs.Common.{◌≡◌, ℕ, zero, suc, ◌+◌, ◌-◌, ◌*◌, ◌/◌, ◌%◌, ◌<◌, ◌≤◌, List, [], ◌∷◌, length, get_or, set, sym, refl, ap, ◌∙◌, ap₂, inl, inr, mul-le-mul_right, mod-lt, mod-eq_of_lt, mul_comm, arith, length-set, get_or-set_other}
-use native.Mathlib.Nat.{div-eq_of_lt, add-mul-mod_self_right, add-mul-div_right}
+use Rattle.std.proofs.Common.{◌≡◌, ℕ, zero, suc, ◌+◌, ◌-◌, ◌*◌, ◌/◌, ◌<◌, ◌≤◌, List, [], ◌∷◌, length, get_or, set, sym, refl, ap, ◌∙◌, ap₂, inl, inr, mul-le-mul_right, mul_comm, arith, length-set, get_or-set_other}
 use lib.Seq.{set-get_or}
 use Rattle.std.proofs.lemmas.List.{get_or_default}
 use Rattle.rules.specs.Limits.{most_side}

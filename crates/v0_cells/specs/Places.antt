@@ -25,7 +25,7 @@ pub record Inner (z : Size) (row col : ℕ) : Type 0 where
   pub inside : col + 16 ≤ z.width
 
 -- A block at `base` in cells of a row length w: it is no wider than a row and lies inside them, with two rows before it.
-pub record Inside (w base : ℕ) (f : List ℕ) : Type 0 where
+pub record Inside {A : Type 0} (w base : ℕ) (f : List A) : Type 0 where
   pub wide : 16 ≤ w
   pub rows : 2 * w ≤ base
   pub room : base + 16 ≤ length f

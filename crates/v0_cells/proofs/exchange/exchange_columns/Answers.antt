@@ -1,6 +1,6 @@
 use Rattle.std.proofs.Common.{◌≡◌, ◌+◌, ◌*◌, arith}
 use native.Mathlib.Nat.{add-zero}
-use Rattle.v0_cells.proofs.ExchangeLaws.{pair_fits, pairing_begun, pairing_on, paired}
+use Rattle.v0_cells.proofs.ExchangeLaws.{pairing_begun, pairing_on, paired}
 use Rattle.v0_cells.proofs.exchange.exchange_columns.Goals as goal
 
 pub loop-pair-init : goal.loop-pair-init

@@ -1,5 +1,4 @@
 -- What is left from a pair on comes to all of them, in the samples and in the marks.
-use Rattle.std.proofs.Common.{◌-◌}
 use Rattle.rules.specs.V0.{sample_kind}
 use Rattle.rules.specs.Map.{v0_marks}
 use Rattle.v0_cells.proofs.ExchangeLaws.{Pairs}
