@@ -14,15 +14,15 @@ use super::run::{Run, decode_run};
 use super::sample::decode_samples;
 use super::{V0Place, is_inner};
 use frame_map::fill_block;
-use read_window::{BACK_BITS, BACK_BYTES, SHORT_BITS, stands_within, state_at};
+use read_window::{BACK_BITS, BACK_BYTES, stands_within, state_at};
 use rules::{Bits, Size, V0Row};
 use v0_cells::inner::{mark_block, put_four, put_inner};
 use v0_lanes::tables::Tables;
 use v0_parse::block::{read_block, read_block_head};
-use v0_parse_window::{BLOCK_BYTES, WindowHead, four_at, four_long_at, plan_of, window_head};
+use v0_parse_window::{BLOCK_BYTES, WindowHead, group_at, plan_of, window_head};
 
 // The residuals after a head that was read by position: the bit after them. Each group is put as it is read, so that few registers hold
-// a block; the four ways stand written out, since the compiler calls a function that would join them.
+// a block.
 fn put_groups(src: &[u8], base: usize, head: WindowHead, at: V0Place, out: &mut [u16]) -> usize
     requires { Ahead src.now base head.q residuals_ahead × (Inner at.size at.row at.col × (length out.old ≡ cells at.size)) }
     ensures ends { Ends src.now base head result }
@@ -32,29 +32,13 @@ fn put_groups(src: &[u8], base: usize, head: WindowHead, at: V0Place, out: &mut 
     let plan = plan_of(head);
     let w = size.width;
     let first = at.row * w + at.col;
-    let a = if plan.n0 <= SHORT_BITS {
-        four_at(src, base, head.q, plan.n0)
-    } else {
-        four_long_at(src, base, head.q, plan.n0)
-    };
+    let a = group_at(src, base, head.q, plan.n0);
     put_four(out, w, first, head.up, 0, a);
-    let b = if plan.n1 <= SHORT_BITS {
-        four_at(src, base, plan.q1, plan.n1)
-    } else {
-        four_long_at(src, base, plan.q1, plan.n1)
-    };
+    let b = group_at(src, base, plan.q1, plan.n1);
     put_four(out, w, first, head.up, 8, b);
-    let c = if plan.n2 <= SHORT_BITS {
-        four_at(src, base, plan.q2, plan.n2)
-    } else {
-        four_long_at(src, base, plan.q2, plan.n2)
-    };
+    let c = group_at(src, base, plan.q2, plan.n2);
     put_four(out, w, first, head.up, 1, c);
-    let d = if plan.n3 <= SHORT_BITS {
-        four_at(src, base, plan.q3, plan.n3)
-    } else {
-        four_long_at(src, base, plan.q3, plan.n3)
-    };
+    let d = group_at(src, base, plan.q3, plan.n3);
     put_four(out, w, first, head.up, 9, d);
     plan.end
 }

@@ -14,12 +14,12 @@ ghost use Rattle.v0_phase1.specs.RowLent.{RowLent, BlockLent, RunLent};
 ghost use Rattle.v0_phase1.specs.Parsed.{Parsed};
 ghost use Rattle.v0_phase1.specs.Ran.{Ran};
 
-use read_window::{BACK_BITS, BACK_BYTES, SHORT_BITS, stands_within, state_at};
+use read_window::{BACK_BITS, BACK_BYTES, stands_within, state_at};
 use rules::{Size, V0Row};
 use run::{Run, parse_run};
 use v0_parse::block::read_block;
 use v0_parse::order::stream_column;
-use v0_parse_window::{BLOCK_BYTES, WindowHead, four_at, four_long_at, plan_of, window_head};
+use v0_parse_window::{BLOCK_BYTES, WindowHead, group_at, plan_of, window_head};
 
 // A residual to column i of a row; past the row's end it is dropped.
 fn store_residual(out: &mut [u16], width: usize, i: usize, residual: u16)
@@ -77,8 +77,7 @@ fn store_four(out: &mut [u16], i: usize, four: [u16; 4])
 }
 
 // The residuals after a head that was read by position, to the block at a column within its row; and the bit after them. Each group
-// is stored as it is read, so that few registers hold a block; the four ways stand written out, since the compiler calls a function
-// that would join them.
+// is stored as it is read, so that few registers hold a block.
 fn store_groups(
     src: &[u8],
     base: usize,
@@ -92,29 +91,13 @@ fn store_groups(
     ensures samples { out.new ≡ store_samples 0 width col order (residuals_of src.now base head) out.old }
 {
     let plan = plan_of(head);
-    let a = if plan.n0 <= SHORT_BITS {
-        four_at(src, base, head.q, plan.n0)
-    } else {
-        four_long_at(src, base, head.q, plan.n0)
-    };
+    let a = group_at(src, base, head.q, plan.n0);
     store_four(out, col, a);
-    let b = if plan.n1 <= SHORT_BITS {
-        four_at(src, base, plan.q1, plan.n1)
-    } else {
-        four_long_at(src, base, plan.q1, plan.n1)
-    };
+    let b = group_at(src, base, plan.q1, plan.n1);
     store_four(out, col + 8, b);
-    let c = if plan.n2 <= SHORT_BITS {
-        four_at(src, base, plan.q2, plan.n2)
-    } else {
-        four_long_at(src, base, plan.q2, plan.n2)
-    };
+    let c = group_at(src, base, plan.q2, plan.n2);
     store_four(out, col + 1, c);
-    let d = if plan.n3 <= SHORT_BITS {
-        four_at(src, base, plan.q3, plan.n3)
-    } else {
-        four_long_at(src, base, plan.q3, plan.n3)
-    };
+    let d = group_at(src, base, plan.q3, plan.n3);
     store_four(out, col + 9, d);
     plan.end
 }
