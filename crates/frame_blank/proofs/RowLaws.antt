@@ -149,16 +149,17 @@ pub record Turned (row₀ : List ℕ) (from columns a b end : ℕ) (row : List �
   pub kept : length row ≡ length row₀
   pub left : sets row at (by_turns (end - at) a b) ≡ sets row₀ from (by_turns columns a b)
 
-pub turned_none : (row : List ℕ) (from columns a b : ℕ) → Turned row from columns a b (from + columns) row from
-turned_none row from columns a b =
-    let e : from + columns - from ≡ columns = omega arith in record { ends = refl; below = omega arith; kept = refl; left = rw e }
+pub turned_none : (row : List ℕ) (from columns a b at : ℕ) → at ≡ from → Turned row from columns a b (from + columns) row at
+turned_none row from columns a b at same =
+    let e : from + columns - from ≡ columns = omega arith in
+    record { ends = refl; below = omega arith; kept = refl; left = rw (same, e) }
 
 module _ {row₀ : List ℕ} {from columns a b end : ℕ} {row : List ℕ} {at : ℕ} (t : Turned row₀ from columns a b end row at) where
-  pub turned_two : 1 < end - at → Turned row₀ from columns a b end (set (set row at a) (at + 1) b) (at + 2)
+  pub turned_two : (next : ℕ) → next ≡ at + 2 → 1 < end - at → Turned row₀ from columns a b end (set (set row at a) (at + 1) b) next
   unfolding by_turns
-  turned_two h =
+  turned_two next e h =
       let one : at + 1 ≡ suc at = omega arith in
-      let two : at + 2 ≡ suc (suc at) = omega arith in
+      let two : next ≡ suc (suc at) = omega arith in
       let more : end - at ≡ suc (suc (end - suc (suc at))) = omega arith in
       record {
         ends = t.ends;
@@ -167,9 +168,9 @@ module _ {row₀ : List ℕ} {from columns a b end : ℕ} {row : List ℕ} {at :
         left = rw (one, two) (rw more at t.left);
       }
 
-  pub turned_last : at < end → end - at ≤ 1 → set row at a ≡ sets row₀ from (by_turns columns a b)
+  pub turned_last : (last : ℕ) → last ≡ at → end ≡ at + 1 → set row last a ≡ sets row₀ from (by_turns columns a b)
   unfolding by_turns
-  turned_last h k = let one : end - at ≡ 1 = omega arith in rw one at t.left
+  turned_last last same h = let one : end - at ≡ 1 = omega arith in rw same (rw one at t.left)
 
   pub turned_all : end ≤ at → row ≡ sets row₀ from (by_turns columns a b)
   unfolding by_turns

@@ -88,17 +88,15 @@ fn tally_row(map: &[u8]) -> Tally
     let mut marked: u16 = 0;
     let mut runs: u16 = 0;
     let mut before: u16 = 0;
-    let mut i: usize = 0;
-    while i < map.len() {
-        let now = mark(map[i]);
+    for x in map {
+        let now = mark(*x);
         marked += now;
         runs += starts(before, now);
         before = now;
-        i += 1;
     }
     Tally {
-        marked: marked as usize,
-        runs: runs as usize,
+        marked: usize::from(marked),
+        runs: usize::from(runs),
     }
 }
 
@@ -109,14 +107,12 @@ pub fn tally_frame(map: &[u8], size: Size) -> Tally
 {
     let mut marked: usize = 0;
     let mut runs: usize = 0;
-    let mut row: usize = 0;
-    while row < size.height {
+    for row in 0..size.height {
         let at = row * size.width;
         let end = at + size.width;
         let more = tally_row(&map[at..end]);
         marked += more.marked;
         runs += more.runs;
-        row += 1;
     }
     Tally { marked, runs }
 }
@@ -167,15 +163,13 @@ fn set_run(samples: &mut [u16], from: usize, columns: usize, fill: Turns)
     requires { from + columns ≤ length samples.old }
     ensures { samples.new ≡ sets samples.old from (by_turns columns fill.first fill.second) }
 {
-    let end = from + columns;
-    let mut at = from;
-    while 1 < end - at {
+    for k in 0..columns / 2 {
+        let at = from + 2 * k;
         samples[at] = fill.first;
         samples[at + 1] = fill.second;
-        at += 2;
     }
-    if at < end {
-        samples[at] = fill.first;
+    if columns % 2 == 1 {
+        samples[from + columns - 1] = fill.first;
     }
 }
 
@@ -184,14 +178,12 @@ fn stretch_at(map: &[u8], first: usize) -> usize
     requires { first ≤ length map.now }
     ensures { result ≡ stretch (drop first map.now) }
 {
-    let mut end = first;
-    while end < map.len() {
+    for end in first..map.len() {
         if map[end] == 0 {
             return end - first;
         }
-        end += 1;
     }
-    end - first
+    map.len() - first
 }
 
 // A run, as three numbers of the list.
@@ -221,6 +213,7 @@ fn blank_row(
     }
     let mut at = from;
     let mut col: usize = 0;
+    // Not a `for`: a run's columns are passed at once.
     while col < map.len() {
         if map[col] == 0 {
             col += 1;
@@ -243,8 +236,7 @@ pub fn blank_frame(samples: &mut [u16], map: &[u8], size: Size, fill: Filling, r
     ensures runs { runs.new ≡ sets runs.old 0 (numbers (runs_of size map.now)) }
 {
     let mut at: usize = 0;
-    let mut row: usize = 0;
-    while row < size.height {
+    for row in 0..size.height {
         let start = row * size.width;
         let end = start + size.width;
         at = blank_row(
@@ -255,6 +247,5 @@ pub fn blank_frame(samples: &mut [u16], map: &[u8], size: Size, fill: Filling, r
             runs,
             at,
         );
-        row += 1;
     }
 }
