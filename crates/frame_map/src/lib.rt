@@ -5,7 +5,7 @@
 ghost use Rattle.std.specs.Prelude.{◌≡◌, ◌+◌, ◌^◌, ◌≤◌, ◌<◌, length, replicate};
 ghost use Rattle.rules.specs.Frame.{change_cells};
 ghost use Rattle.rules.specs.Map.{with_filler, either_part};
-ghost use Rattle.frame_map.specs.Greatest.{greatest};
+ghost use Rattle.frame_map.specs.Greatest.{greatest, greatest_by};
 
 // The bytes of a block.
 const BLOCK: usize = 16;
@@ -72,13 +72,20 @@ pub fn either_part(a: u8, b: u8) -> u8
     a | b
 }
 
-// The greatest byte, or 0. A loop that never leaves early can take many bytes at once.
-pub fn greatest_of(map: &[u8]) -> u8
-    ensures { result ≡ greatest map.now }
+// The greatest of a list and of `least`. A loop that never leaves early can take many at once.
+pub fn greatest<T: Ord + Copy>(list: &[T], least: T) -> T
+    ensures { result ≡ greatest_by T.cmp least list.now }
 {
-    let mut most: u8 = 0;
-    for x in map {
+    let mut most = least;
+    for x in list {
         most = most.max(*x);
     }
     most
+}
+
+// The greatest byte, or 0.
+pub fn greatest_of(map: &[u8]) -> u8
+    ensures { result ≡ greatest map.now }
+{
+    greatest(map, 0)
 }

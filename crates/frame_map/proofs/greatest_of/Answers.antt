@@ -1,14 +1,7 @@
-use mathlib.Core.Path.{sym, ◌∙◌}
-use native.Mathlib.Omega.{arith}
-use Rattle.frame_map.proofs.GreatestLaws.{greatest_on, greatest_gone}
+-- By the order of numbers the greatest of all bytes and 0 is the greatest number.
+use mathlib.Core.Path.{◌∙◌}
+use Rattle.frame_map.proofs.GreatestLaws.{greatest_is}
 use Rattle.frame_map.proofs.greatest_of.Goals as goal
 
-pub loop-x-preserved : goal.loop-x-preserved
-loop-x-preserved c =
-    let l = c.loop-x in
-    l.invariant ∙ greatest_on c.args.map.now l.x-index l.most c.max-most.result (omega arith) c.max-most.ensures
-
 pub returns : goal.returns
-returns c =
-    let l = c.loop-x in
-    sym (l.invariant ∙ greatest_gone c.args.map.now l.x-index l.most (omega arith))
+returns c = c.greatest.ensures ∙ greatest_is _
