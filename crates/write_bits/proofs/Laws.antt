@@ -4,13 +4,13 @@ use mathlib.Core.Bool.{Bool}
 use mathlib.Core.Path.{◌≡◌, refl, sym, ap, ap₂, ◌∙◌}
 use mathlib.Core.List.{List, [], ◌∷◌, ◌++◌, append-nil, append_assoc}
 use native.Mathlib.Omega.{arith}
-use native.Mathlib.Nat.{mod-eq_of_lt, mod-lt, one-mul, mul-le-mul_left}
+use native.Mathlib.Nat.{mod-lt, mul-le-mul_left}
 use lib.ListN.{length, get_or, set, take, length-append}
 use lib.Seq.{sets, take_at}
 use lib.Arith.{digits_lt}
 use lib.Count.{count_leading_zeros, leading_length}
 use lib.Dec.{lit<}
-use lib.Pow.{pow_pos, pow-lt, pow_mono}
+use lib.Pow.{pow_pos, pow_mono}
 use borrow.Author.Tests.{lt-ltb, le-ltb}
 use Rattle.rules.specs.Frame.{tabulate}
 use Rattle.rules.proofs.Cells.{all_get}
@@ -27,9 +27,6 @@ use Rattle.write_rules.proofs.PendingLaws.{same_state, Wrote, wrote_none, wrote_
 use Rattle.write_rules.proofs.Smallest.{smallest_most}
 use Rattle.write_rules.proofs.WeightLaws.{heaviest, weight_short, smallest_by_weight}
 use Rattle.write_bits.specs.Block.{numbers, number_bits, numbers_bits, opening_number, Lengths}
-
-pub one_shl : (k : ℕ) → k ≤ 32 → (1 * 2 ^ k) % 2 ^ 64 ≡ 2 ^ k
-one_shl k h = let l : k < 64 = omega arith in rw one-mul (mod-eq_of_lt (pow-lt l))
 
 -- A word and n more bits fit 64 bits.
 pub join_fits : (a x n : ℕ) → a < 2 ^ 32 → n ≤ 32 → a * 2 ^ n + x % 2 ^ n < 2 ^ 64
@@ -221,12 +218,12 @@ module _ (ls d f f' : List ℕ) (p q : Pending) (k : ℕ) (g : Going ls d f p f'
       omega (arith, g.wrote.grown, g.wrote.length_is, bits_length n (get_or d k 0), bits_length n (get_or d (k + 1) 0))
 
   -- With room for them, the next numbers are written.
-  pub going_on : (f'' : List ℕ) (r : Pending) → k < 16 → Wrote f' q (next_bits ls d k) f'' r → Going ls d f p f'' r (k + 2)
-  going_on f'' r l w =
+  pub going_on : (f'' : List ℕ) (r : Pending) (next : ℕ) → next ≡ k + 2 → k < 16 → Wrote f' q (next_bits ls d k) f'' r → Going ls d f p f'' r next
+  going_on f'' r next e l w =
       record {
         most = omega (arith, g.even);
         even = omega (arith, g.even);
-        wrote = rw (next_run ls d k g.even) (wrote_both g.wrote w);
+        wrote = rw (e, next_run ls d k g.even) (wrote_both g.wrote w);
       }
 
   pub gone : 16 ≤ k → Wrote f p (run (number_bits ls d) (tabulate 16 0 (λ k. k))) f' q
