@@ -14,22 +14,13 @@ pub use write_rules::Pending;
 
 // ── Words ──
 
-// The lowest byte of x.
-fn byte(x: u32) -> u8
-    ensures { result ≡ x % 256 }
-{
-    (x % 256) as u8
-}
-
 // Stores a word's four bytes, lowest first.
 pub fn store(out: &mut [u8], at: usize, x: u32)
     requires { at + 4 ≤ length out.old }
     ensures { out.new ≡ sets out.old at (word_bytes x) }
 {
-    out[at] = byte(x);
-    out[at + 1] = byte(x / 256);
-    out[at + 2] = byte(x / 65_536);
-    out[at + 3] = byte(x / 16_777_216);
+    let end = at + 4;
+    out[at..end].copy_from_slice(&x.to_le_bytes());
 }
 
 // The bits that wait, and the low n bits of x after them.
