@@ -67,14 +67,14 @@ pub fn is_bad_map(map: &[u8]) -> bool
 fn mark(byte: u8) -> u16
     ensures { result ≡ bit (marked byte) }
 {
-    if byte == 0 { 0 } else { 1 }
+    u16::from(0 < byte)
 }
 
 // 1 if a run starts at a sample, by the mark before and its own.
 fn starts(before: u16, mark: u16) -> u16
     ensures { result ≡ bit (ltb before mark) }
 {
-    if before < mark { 1 } else { 0 }
+    u16::from(before < mark)
 }
 
 // The marked samples and the runs of a row; most rows have none. Numbers of 16 bits hold them and can be added many at once.
@@ -117,13 +117,6 @@ pub fn tally_frame(map: &[u8], size: Size) -> Tally
     Tally { marked, runs }
 }
 
-// What marked samples are set to: a stated value, or none is stated.
-#[derive(Clone, Copy)]
-pub enum Filling {
-    Stated(u16),
-    Unstated,
-}
-
 // What a run's samples are set to by turns: the first of them, and the second.
 #[derive(Clone, Copy)]
 pub struct Turns {
@@ -141,16 +134,16 @@ fn left_of(samples: &[u16], col: usize, by: usize) -> u16
 
 // What a run is set to that starts at a column. With no stated fill that is what lies to its left: a sample there is not marked, or
 // was set before, so nothing is looked for further on.
-fn turns_at(samples: &[u16], col: usize, fill: Filling) -> Turns
+fn turns_at(samples: &[u16], col: usize, fill: Option<u16>) -> Turns
     requires { col ≤ length samples.now }
     ensures { result ≡ turns fill samples.now col }
 {
     match fill {
-        Filling::Stated(value) => Turns {
+        Some(value) => Turns {
             first: value,
             second: value,
         },
-        Filling::Unstated => {
+        None => {
             let first = left_of(samples, col, 2);
             let second = left_of(samples, col, 1);
             Turns { first, second }
@@ -201,7 +194,7 @@ fn blank_row(
     samples: &mut [u16],
     map: &[u8],
     row: usize,
-    fill: Filling,
+    fill: Option<u16>,
     runs: &mut [u32],
     from: usize,
 ) -> usize
@@ -229,8 +222,8 @@ fn blank_row(
     at
 }
 
-// Blanks a frame and lists its runs.
-pub fn blank_frame(samples: &mut [u16], map: &[u8], size: Size, fill: Filling, runs: &mut [u32])
+// Blanks a frame, by a fill if one is stated, and lists its runs.
+pub fn blank_frame(samples: &mut [u16], map: &[u8], size: Size, fill: Option<u16>, runs: &mut [u32])
     requires { FrameLent size samples.old map.now runs.old }
     ensures samples { samples.new ≡ blanked (meant fill) size samples.old map.now }
     ensures runs { runs.new ≡ sets runs.old 0 (numbers (runs_of size map.now)) }
