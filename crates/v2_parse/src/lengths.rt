@@ -109,8 +109,7 @@ fn four_lengths(
     let mut remembered = lengths;
     let mut four = [0u32; 4];
     let mut at = f.bits;
-    let mut j: usize = 0;
-    while j < 4 {
+    for j in 0..4 {
         let c = colour_of(row, j);
         let g = next_length(src, flags[j], remembered[c][0], at);
         let pair = [remembered[c][1], g.value];
@@ -125,7 +124,6 @@ fn four_lengths(
             };
             return BlockLengths::of(read, remembered);
         }
-        j += 1;
     }
     let read = V2Lengths {
         four,

@@ -8,6 +8,3 @@ invariant-loop-j l =
     (l.j ≤ 4)
     × (lengths_from l.src l.depth l.row l.flags 4 0 (record { lengths = record { four = l.initial.four; long = false; bits = l.initial.at }; mode = l.initial.remembered })
     ≡ lengths_from l.src l.depth l.row l.flags (4 - l.j) l.j (record { lengths = record { four = l.four; long = false; bits = l.at }; mode = l.remembered }))
-
-abbrev pub decreases-loop-j : goal.decreases-loop-j
-decreases-loop-j l = 4 - l.j
