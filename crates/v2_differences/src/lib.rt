@@ -90,15 +90,12 @@ fn by_pairs(
     ensures { (row : ℕ) → positions.now ≡ row_positions row → record { values = values.exit.now; bits = result } ≡ differences_from src.now row lengths 16 0 (record { values = values.entry.now; bits = bits }) }
 {
     let mut at = bits;
-    let mut k: usize = 0;
-    while k < V2Row::BLOCK {
+    for half in 0..V2Row::BLOCK / 2 {
+        let k = 2 * half;
         let pair = read_pair(src, at, lengths[k / 4]);
-        let a = pair.first;
-        let b = pair.second;
-        values[entry(positions, k)] = a;
-        values[entry(positions, k + 1)] = b;
+        values[entry(positions, k)] = pair.first;
+        values[entry(positions, k + 1)] = pair.second;
         at = pair.bits;
-        k += 2;
     }
     at
 }
@@ -133,13 +130,11 @@ fn by_windows(
 {
     let base = bits.pos as usize - BACK_BYTES;
     let mut q = BACK_BITS - bits.count as usize;
-    let mut j: usize = 0;
-    while j < 4 {
+    for j in 0..4 {
         let n = lengths[j];
         let four = four_at(src, base, q, n);
         store_four(values, positions, 4 * j, four);
         q += 4 * n as usize;
-        j += 1;
     }
     state_at(src, base, q, bits.filler)
 }
