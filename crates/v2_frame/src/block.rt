@@ -101,7 +101,7 @@ pub fn read_block(
         return Outcome::early(V2Block::Outside(b2), lengths);
     }
     let mut base = [0u16; 16];
-    bases(out, hdr, at, m.value, &mut base);
+    bases(out, hdr.initial, at, m.value, &mut base);
     let next = V2Row {
         motion: m.value,
         scale: c.value,

@@ -7,8 +7,8 @@ ghost use Rattle.v2_frame.specs.Blocks.{FrameLent};
 use super::block::read_block;
 use rules::{Answer, Size, V2Block, V2Row};
 use v2_cells::V2Place;
+use v2_cells::cell::store;
 use v2_cells::marks::mark_ended_block;
-use v2_cells::samples::store;
 use v2_differences::positions_of;
 use v2_parse::header::{align, read_header};
 

@@ -2,6 +2,7 @@
 use mathlib.Core.List.{List}
 use mathlib.Core.Path.{refl, sym, ap, ◌∙◌}
 use Prim.Native.Nat.{ℕ}
+use native.Mathlib.Omega.{arith}
 use mir.Syntax.{w32}
 use mir.ValLaws.{to_z-of_z}
 use borrow.Author.Tests.{ne_eqb}
@@ -41,13 +42,15 @@ returns-then-refusal-eq-OUTSIDE c =
 
 pub bases-requires : goal.bases-requires
 bases-requires c =
-    let ek = c.refusal_of-refusal.ensures in
-    record {
-      inside = c.requires.0.inside;
-      small = own_motion _ _ _ _ _ _ c.requires.0 _ c.next_motion-m.ensures;
-      sixteen = refl;
-      unrefused = sym ek ∙ refusal_zero _ _ _ _ ek c.if-refusal-eq-EARLY_MOTION.false c.if-refusal-eq-OUTSIDE.false;
-    }
+    let ek = c.refusal_of-refusal.ensures in (
+      omega arith,
+      record {
+        inside = c.requires.0.inside;
+        small = own_motion _ _ _ _ _ _ c.requires.0 _ c.next_motion-m.ensures;
+        sixteen = refl;
+        unrefused = sym ek ∙ refusal_zero _ _ _ _ ek c.if-refusal-eq-EARLY_MOTION.false c.if-refusal-eq-OUTSIDE.false;
+      },
+    )
 
 pub read_tail-requires : goal.read_tail-requires
 read_tail-requires c =
@@ -72,5 +75,5 @@ returns c =
       remembered = r.remembered ∙ sym (block_mode _ _ _ _ _ _ _ m _ ec _ em _ ek e5 e6);
       samples = r.samples
           ∙ ap (λ (new : List ℕ). written c.read_tail.result.block new c.args.samples.now)
-          (block_samples _ _ _ _ _ _ _ m _ ec _ em _ ek e5 e6 c.args.out.now _ c.bases.ensures);
+          (block_samples _ _ _ _ _ _ _ m _ ec _ em _ ek e5 e6 c.args.out.now _ (c.bases.ensures c.args.hdr refl));
     }

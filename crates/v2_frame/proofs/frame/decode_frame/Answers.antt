@@ -5,7 +5,7 @@ use Rattle.rules.specs.Answer.{done_with}
 use Rattle.rules.specs.Limits.{most_side}
 use Rattle.rules.proofs.V2Places.{block_inside}
 use Rattle.v2_cells.specs.Places.{Placed}
-use Rattle.v2_frame.proofs.FrameLaws.{row_starts, row_ends, row_stops, row_goes, whole_row, refusal_number, frame_starts, frame_ends, frame_refuses, frame_short, frame_goes, depth_is, markable, frame_is, samples_length}
+use Rattle.v2_frame.proofs.FrameLaws.{row_starts, row_ends, row_stops, row_goes, whole_row, refusal_number, frame_starts, frame_ends, frame_refuses, frame_short, frame_goes, depth_is, markable, frame_is}
 use Rattle.v2_frame.proofs.frame.decode_frame.Goals as goal
 
 -- A block's place, and that it lies in the frame.
@@ -42,7 +42,7 @@ first-requires c = placed _ _ _ _ c.requires.width c.requires.height c.frame-tes
 
 pub store-requires : goal.store-requires
 store-requires c =
-    (omega (arith, c.first.ensures, (block_inside c.args.size c.frame.row c.loop-col.col c.frame-test.true c.loop-col-test.true), c.loop-col.invariant.0), samples_length _ _ _ _ _ _ refl c.read_block-read.ensures.samples)
+    omega (arith, c.first.ensures, (block_inside c.args.size c.frame.row c.loop-col.col c.frame-test.true c.loop-col-test.true), c.loop-col.invariant.0)
 
 pub mark_ended_block-requires : goal.mark_ended_block-requires
 mark_ended_block-requires c =
@@ -57,7 +57,7 @@ pub loop-col-preserved : goal.loop-col-preserved
 loop-col-preserved c =
     let l = c.loop-col in
     let y = c.read_block-read.ensures in (
-      c.store.auto.out ∙ l.invariant.0,
+      c.store.auto.frame ∙ l.invariant.0,
       (
         c.mark_ended_block.auto.map ∙ l.invariant.1.0,
         row_goes _ _ _ _ _ _ _ _ _ _ _ _ _ _ l.invariant.1.1 c.loop-col-test.true _ y.outcome _ _ c.in-Next.is _ (c.lengths-lengths.ensures ∙ y.remembered) _ _ _ _ _ c.first.ensures y.samples c.store.ensures (c.mark_ended_block.ensures _),
