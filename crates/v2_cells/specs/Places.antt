@@ -1,7 +1,9 @@
 -- Places in a frame within the limits, and references as the code has them: 5 more than they are, so that none is below 0.
-use Rattle.std.specs.Prelude.{ℕ, ◌+◌, ◌-◌, ◌*◌, ◌%◌, ◌≤◌, ◌<◌, ◌≡◌, Bool, false, cond, List, eqb, get_or}
+use Rattle.std.specs.Prelude.{ℕ, ◌+◌, ◌-◌, ◌*◌, ◌%◌, ◌≤◌, ◌<◌, ◌≡◌, Bool, false, cond, List, eqb, get_or, Result, Ok, Err}
 use Rattle.std.proofs.lemmas.List.Edits.{sets}
 use Rattle.rules.specs.Limits.{most_side}
+use Rattle.rules.specs.declared.answer.Refusal.{Refusal}
+use Rattle.rules.specs.declared.answer.Refusal.TheVariants.{EarlyMotion, Outside}
 use Rattle.rules.specs.declared.v2.V2Hdr.{V2Hdr}
 use Rattle.rules.specs.Frame.{tabulate}
 use Rattle.rules.specs.Ranges.{reference_5}
@@ -64,6 +66,12 @@ along refs i = cond (eqb (i % 2) 0) (refs.even + i) (refs.odd + i - 1)
 pub record Runs (n : ℕ) (refs : References) : Type 0 where
   pub even_end : refs.even + 14 + cond refs.averaging 2 0 < n
   pub odd_end : refs.odd + 14 + cond refs.averaging 2 0 < n
+
+-- A block's base met no refusal, or 5 or 6.
+abbrev pub base_result : V2Place → ℕ → Result Unit Refusal
+base_result at motion =
+    let refusal = base_refusal at.row at.col motion in
+    cond (eqb refusal 5) (Err EarlyMotion) (cond (eqb refusal 6) (Err Outside) (Ok tt))
 
 -- The cell at p, or its average with the one two places on.
 abbrev pub cell_from : {A : Type 0} → Kind A → List A → Bool → ℕ → A

@@ -4,11 +4,12 @@ ghost use Rattle.rules.specs.declared.v2.V2Hdr.{V2Hdr};
 ghost use Rattle.rules.specs.Frame.{tabulate};
 ghost use Rattle.rules.specs.V2.{motion_averages, refers_before, base_refusal, base_cell, repeated};
 ghost use Rattle.rules.specs.Ranges.{offset_4, reference_5};
-ghost use Rattle.v2_cells.specs.Places.{Placed, Inside, Based, Referring, ReferringAt, references, along, Runs, cell_from, base_cells, repeated_cells};
+ghost use Rattle.rules.specs.Refusals.{answer_number};
+ghost use Rattle.v2_cells.specs.Places.{base_result, Placed, Inside, Based, Referring, ReferringAt, references, along, Runs, cell_from, base_cells, repeated_cells};
 
 use super::V2Place;
 use super::cell::Cell;
-use rules::{Answer, V2Row};
+use rules::{Refusal, V2Row};
 
 // Where samples 0 and 1 of a block refer to, and whether each base is the average of two samples.
 #[derive(Clone, Copy)]
@@ -114,20 +115,21 @@ fn refers_before(at: V2Place, motion: u32) -> bool
     at.col == 0 && motion < 3
 }
 
-// The refusal that the base meets, or 0.
-pub fn refusal_of(at: V2Place, motion: u32) -> u32
-    ensures { result ≡ base_refusal at.row at.col motion }
+// The refusal that the base meets, if it meets one.
+pub fn refusal_of(at: V2Place, motion: u32) -> Result<(), Refusal>
+    ensures number { answer_number result ≡ base_refusal at.row at.col motion }
+    ensures refusal { result ≡ base_result at motion }
 {
     if motion == V2Row::MOTION {
-        return 0;
+        return Ok(());
     }
     if at.row < 2 {
-        return Answer::EARLY_MOTION;
+        return Err(Refusal::EarlyMotion);
     }
     if refers_before(at, motion) {
-        return Answer::OUTSIDE;
+        return Err(Refusal::Outside);
     }
-    0
+    Ok(())
 }
 
 // The cell at p, or its average with the one two places on.

@@ -51,7 +51,7 @@ fn sample_of(base: u16, d: i32, scale: i32, top: u32) -> u16
 
 // The sixteen samples from their bases and differences.
 pub fn build(base: &[u16; 16], d: &[i32; 16], scale: i32, top: u32, samples: &mut [u16; 16])
-    requires { ((k : ℕ) → Small (get_or d.now k (pos 0))) × (Between 512 4_605 scale × ((top < 65_536) × (length samples.old ≡ 16))) }
+    requires { ((k : ℕ) → Small (get_or d.now k (pos 0))) × (Between 512 4_605 scale × (top < 65_536)) }
     ensures { samples.new ≡ tabulate 16 0 (λ i. sample top scale (get_or d.now i (pos 0)) (get_or base.now i 0)) }
 {
     for i in 0..V2Row::BLOCK {
