@@ -8,11 +8,9 @@ ghost use Rattle.v2_differences.specs.Four.{Short, short};
 ghost use Rattle.v2_differences.specs.Pairs.{signed_pair};
 ghost use Rattle.v2_differences.specs.Positions.{row_positions, positions, OfARow, stored_four};
 
-mod four;
-
-use four::four_at;
 use read_bits::{get_whole, read_signed};
 use read_fields::{field, signed_of};
+use read_window::four::four_at;
 use read_window::{BACK_BITS, BACK_BYTES, SHORT_BITS, stands_within, state_at};
 use rules::{Bits, V2Row};
 
@@ -132,7 +130,7 @@ fn by_windows(
     let mut q = BACK_BITS - bits.count as usize;
     for j in 0..4 {
         let n = lengths[j];
-        let four = four_at(src, base, q, n);
+        let four: [i32; 4] = four_at(src, base, q, n);
         store_four(values, positions, 4 * j, four);
         q += 4 * n as usize;
     }
