@@ -4,7 +4,7 @@ use mir.ValLaws.{to_z-of_z, to_z_pos}
 use Rattle.rules.specs.Reader.{signed}
 use Rattle.rules.proofs.ReaderLaws.{signed_mag}
 use Rattle.read_window.proofs.SignLaws.{Low, low_made}
-use Rattle.v2_differences.proofs.four.low.Goals as goal
+use Rattle.read_window.proofs.four.I32Cut.low.Goals as goal
 
 -- The remainder without its half is the sign, and fits 32 bits.
 difference : (x n p w : ℕ) → Low 16 x n p w → to_z w32 (w % p) -ℤ to_z w32 (p / 2) ≡ signed n (x % 2 ^ n)
