@@ -95,6 +95,25 @@ impl From<Fault> for Answer {
     }
 }
 
+// A refusal of the whole frame: its row is 0.
+impl From<Refusal> for Fault {
+    ghost from_gives = { λ refusal fault. fault ≡ record { refusal = refusal; row = 0 } };
+
+    fn from(refusal: Refusal) -> Fault {
+        Fault { refusal, row: 0 }
+    }
+}
+
+// The answer of a check: done, or its fault's.
+pub fn answer_of(checked: Result<(), Fault>) -> Answer
+    ensures { result ≡ told checked }
+{
+    match checked {
+        Ok(()) => Answer::done(),
+        Err(fault) => Answer::from(fault),
+    }
+}
+
 // The greatest length of a clean block.
 const MOST_LENGTH: i32 = 16;
 
