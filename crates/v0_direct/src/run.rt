@@ -114,23 +114,16 @@ fn short_blocks(
 }
 
 // Whether a run begins at a block: at an inner one, after short lengths, where the record stands in the stream and no word was missing.
+#[tactic(auto, unfolding(crate::specs::Run::run_begins))]
 fn begins(src: &[u8], at: V0Place, state: V0Row) -> bool
     requires { InFrame at.size at.row at.col }
     ensures answered { result ≡ run_begins src.now at.size at.row at.col state }
     ensures stands { result ≡ true → Standing src.now state.bits 80 }
 {
-    let bits = state.bits;
-    let lengths = state.lengths;
-    if !is_inner(at.size, at.row, at.col) {
-        return false;
-    }
-    if bits.filler != 0 {
-        return false;
-    }
-    if !are_short(lengths) {
-        return false;
-    }
-    stands_within(src, bits, BLOCK_BYTES)
+    is_inner(at.size, at.row, at.col)
+        && state.bits.filler == 0
+        && are_short(state.lengths)
+        && stands_within(src, state.bits, BLOCK_BYTES)
 }
 
 // The run from a block on, of which there may be none. The record is made again after its last block.
