@@ -1,5 +1,5 @@
 // The verdict on a V0 stream that an outside optimiser packed.
-ghost use Rattle.std.specs.Prelude.{◌≡◌, ◌&&◌, eqb, length};
+ghost use Rattle.std.specs.Prelude.{◌≡◌, length};
 ghost use Rattle.write_packed.specs.Proposal.{proposal, before, same, Yields};
 
 use entry_frames::writer::refuse_samples;
@@ -40,23 +40,14 @@ fn check_before(
     Answer::done()
 }
 
-// Whether all were the same so far, and these two are.
-fn still_same(alike: bool, a: u16, b: u16) -> bool
-    ensures { result ≡ alike && eqb a b }
-{
-    if a == b { alike } else { false }
-}
-
 // Whether two frames are the same. A loop that never leaves early can take many samples at once.
 fn is_same(frame: &[u16], meant: &[u16]) -> bool
     requires { length frame.now ≡ length meant.now }
     ensures { result ≡ same frame.now meant.now }
 {
     let mut alike = true;
-    let mut i: usize = 0;
-    while i < frame.len() {
-        alike = still_same(alike, frame[i], meant[i]);
-        i += 1;
+    for i in 0..frame.len() {
+        alike &= frame[i] == meant[i];
     }
     alike
 }

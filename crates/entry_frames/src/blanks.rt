@@ -5,7 +5,7 @@ ghost use Rattle.frame_blank.specs.Calls.{call, Yields};
 ghost use Rattle.frame_blank.specs.MapLent.{meant};
 
 use entry_refusals::{Lending, refuse_lent};
-use frame_blank::{Blanked, Filling, blank_frame, is_bad_map, tally_frame};
+use frame_blank::{Blanked, blank_frame, is_bad_map, tally_frame};
 use rules::{Answer, Size};
 
 // 13: a list has less than three numbers for each run.
@@ -22,7 +22,7 @@ fn blank_by(
     map: &[u8],
     width: usize,
     height: usize,
-    fill: Filling,
+    fill: Option<u16>,
     runs: &mut [u32],
 ) -> Blanked
     ensures { Yields (call (meant fill) samples.old map.now width height runs.old)
@@ -57,7 +57,7 @@ pub fn blank_with(
     ensures { Yields (call (stated fill) samples.old map.now width height runs.old)
         result samples.new runs.new }
 {
-    blank_by(samples, map, width, height, Filling::Stated(fill), runs)
+    blank_by(samples, map, width, height, Some(fill), runs)
 }
 
 // Sets the samples that a map marks to the nearest unmarked sample to their left, of their row and of their column's parity, or to
@@ -72,5 +72,5 @@ pub fn blank(
     ensures { Yields (call unstated samples.old map.now width height runs.old)
         result samples.new runs.new }
 {
-    blank_by(samples, map, width, height, Filling::Unstated, runs)
+    blank_by(samples, map, width, height, None, runs)
 }

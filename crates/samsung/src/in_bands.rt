@@ -1,7 +1,7 @@
 // The V0 decoder in bands: the two_phase decoder, with phase two done block by block in the sequence of a list of steps.
 ghost use Rattle.rules_bands.specs.Call.{call, Yields};
 
-use entry_refusals::{refuse_two_phase, refused};
+use entry_refusals::refuse_two_phase;
 use rules::{Answer, Size};
 use rules_bands::refuse_steps;
 use v0_bands::decode_frame;
@@ -24,13 +24,16 @@ pub fn decode_v0_bands(
         result out.new scratch.new }
 {
     let size = Size { width, height };
-    let refusal = refuse_two_phase(size, out.len(), offsets.len(), scratch.len());
-    if refusal != 0 {
-        return refused(refusal);
+    if let Err(refusal) = refuse_two_phase(size, out.len(), offsets.len(), scratch.len()) {
+        return Answer::from(refusal);
     }
     let unfit = refuse_steps(width, height, bands, block_width, steps);
     if unfit != 0 {
-        return refused(unfit);
+        return Answer {
+            number: unfit,
+            row: 0,
+            filler: 0,
+        };
     }
     let n = width * height;
     decode_frame(

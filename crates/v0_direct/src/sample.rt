@@ -9,7 +9,7 @@ ghost use Rattle.v0_direct.specs.Block.{samples_of, Applied};
 use super::V0Place;
 use read_bits::read_residual;
 use rules::{Bits, V0Head, V0Row};
-use v0_cells::cells::{predict, put, put_mark};
+use v0_cells::cells::{predict, put};
 use v0_parse::block::residual_bits;
 use v0_parse::order::stream_column;
 
@@ -32,7 +32,7 @@ fn decode_sample(
     let g = read_residual(src, bits, n);
     let place = at.row * at.size.width + at.col + c;
     put(out, place, from, g.value);
-    put_mark(map, place, from);
+    put(map, place, from, g.value);
     g.bits
 }
 

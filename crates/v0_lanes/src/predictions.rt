@@ -4,7 +4,7 @@ ghost use Rattle.v0_cells.specs.Places.{Inside, Low};
 ghost use Rattle.v0_lanes.specs.Blocks.{lane_of, Columns, predict_lanes, order_lanes};
 
 use rules::V0Row;
-use v0_cells::inner::{put_columns, store_samples};
+use v0_cells::inner::{put_columns, store};
 
 // Where the residual of sample c lies among those stored.
 fn lane_of(c: usize) -> usize
@@ -41,5 +41,5 @@ pub fn order_block(out: &mut [u16], base: usize)
     ensures { out.new ≡ order_lanes base out.old }
 {
     let d = columns_at(out, base);
-    store_samples(out, base, d);
+    store(out, base, &d[..]);
 }
