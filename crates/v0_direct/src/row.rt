@@ -28,9 +28,8 @@ fn put_groups(src: &[u8], base: usize, head: WindowHead, at: V0Place, out: &mut 
     ensures ends { Ends src.now base head result }
     ensures samples { out.new ≡ V0.apply V0.sample_kind (inner_ops at.size.width (at.row * at.size.width + at.col) head.up V0.order (residuals_of src.now base head)) out.old }
 {
-    let size = at.size;
     let plan = plan_of(head);
-    let w = size.width;
+    let w = at.size.width;
     let first = at.row * w + at.col;
     let a = group_at(src, base, head.q, plan.n0);
     put_four(out, w, first, head.up, 0, a);
@@ -48,12 +47,10 @@ fn decode_by_record(src: &[u8], at: V0Place, state: V0Row, out: &mut [u16], map:
     requires { Inner at.size at.row at.col × BlockLent at.size state.lengths out.old map.old }
     ensures { Decoded src.now at.size at.row at.col state out.old map.old result out.new map.new }
 {
-    let size = at.size;
     let x = read_block(src, state, true);
-    let residuals = x.residuals;
-    let w = size.width;
-    put_inner(out, w, at.row * w + at.col, x.up, residuals);
-    mark_block(map, size, at.row, at.col, x.up);
+    let w = at.size.width;
+    put_inner(out, w, at.row * w + at.col, x.up, x.residuals);
+    mark_block(map, at.size, at.row, at.col, x.up);
     x.row
 }
 
@@ -64,15 +61,14 @@ fn decode_inner(src: &[u8], at: V0Place, state: V0Row, out: &mut [u16], map: &mu
     ensures { Decoded src.now at.size at.row at.col state out.old map.old result out.new map.new }
 {
     let bits = state.bits;
-    let lengths = state.lengths;
     if stands_within(src, bits, BLOCK_BYTES) {
         let base = bits.pos as usize - BACK_BYTES;
-        let head = window_head(src, base, BACK_BITS - bits.count as usize, lengths);
+        let head = window_head(src, base, BACK_BITS - bits.count as usize, state.lengths);
         let end = put_groups(src, base, head, at, out);
         mark_block(map, at.size, at.row, at.col, head.up);
-        let after = head.lengths;
+        let lengths = head.lengths;
         return V0Row {
-            lengths: after,
+            lengths,
             bits: state_at(src, base, end, bits.filler),
         };
     }
@@ -86,8 +82,7 @@ fn decode_edge(src: &[u8], at: V0Place, state: V0Row, out: &mut [u16], map: &mut
 {
     let head = read_block_head(src, state);
     let bits = decode_samples(src, at, head, out, map);
-    let after = head.row;
-    let lengths = after.lengths;
+    let lengths = head.row.lengths;
     V0Row { lengths, bits }
 }
 
@@ -125,20 +120,16 @@ fn decode_blocks(
     requires { InFrame at.size at.row at.col × RunLent at.size at.col state.lengths out.old map.old }
     ensures { (at.col < result.col) × BlockRun src.now at.size at.row at.col state out.old map.old result.col result.state out.new map.new }
 {
-    let size = at.size;
-    let row = at.row;
     let run = decode_run(src, at, state, out, map, tables);
-    let col = run.col;
-    let before = run.state;
-    let w = size.width;
-    if w <= col {
+    let w = at.size.width;
+    if w <= run.col {
         return run;
     }
-    let state = decode_block(src, V0Place { size, row, col }, before, out, map);
-    let bits = state.bits;
-    end_block(map, row * w + col, bits);
+    let next = V0Place { col: run.col, ..at };
+    let state = decode_block(src, next, run.state, out, map);
+    end_block(map, at.row * w + run.col, state.bits);
     Run {
-        col: col + V0Row::BLOCK,
+        col: run.col + V0Row::BLOCK,
         state,
     }
 }
@@ -166,8 +157,7 @@ pub fn decode_row(
         state = blocks.state;
         col = blocks.col;
     }
-    let bits = state.bits;
-    bits.filler
+    state.bits.filler
 }
 
 // A row whose data begins at `start`, by the literal rule alone: rows 0 and 1 have no inner block, so that they need no tables.
@@ -187,7 +177,6 @@ pub fn decode_early_row(
     for block in 0..V0Row::blocks_in(w) {
         let col = block * V0Row::BLOCK;
         state = decode_edge(src, V0Place { size, row, col }, state, out, map);
-        let bits = state.bits;
-        end_block(map, row * w + col, bits);
+        end_block(map, row * w + col, state.bits);
     }
 }

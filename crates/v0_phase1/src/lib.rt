@@ -60,9 +60,9 @@ fn store_residuals(out: &mut [u16], width: usize, col: usize, residuals: [u16; 1
 {
     if col + V0Row::BLOCK <= width {
         store_inner(out, width, col, residuals);
-        return;
+    } else {
+        store_edge(out, width, col, residuals);
     }
-    store_edge(out, width, col, residuals);
 }
 
 // Four residuals to column i of a row and every other one after it.
@@ -116,8 +116,7 @@ fn parse_by_record(
 {
     let block = read_block(src, row, true);
     dirs[k] = u8::from(block.up);
-    let residuals = block.residuals;
-    store_residuals(out, width, k * V0Row::BLOCK, residuals);
+    store_residuals(out, width, k * V0Row::BLOCK, block.residuals);
     block.row
 }
 
@@ -134,11 +133,10 @@ fn parse_block(
     ensures { Parsed src.now row width k out.old dirs.old result out.new dirs.new }
 {
     let bits = row.bits;
-    let before = row.lengths;
     let col = k * V0Row::BLOCK;
     if col + V0Row::BLOCK <= width && stands_within(src, bits, BLOCK_BYTES) {
         let base = bits.pos as usize - BACK_BYTES;
-        let head = window_head(src, base, BACK_BITS - bits.count as usize, before);
+        let head = window_head(src, base, BACK_BITS - bits.count as usize, row.lengths);
         let end = store_groups(src, base, head, out, width, col);
         dirs[k] = u8::from(head.up);
         let lengths = head.lengths;
@@ -162,14 +160,10 @@ fn parse_some(
     requires { RunLent width k row.lengths out.old dirs.old }
     ensures { Ran src.now width k row out.old dirs.old result.k result.row out.new dirs.new × (k < result.k) }
 {
-    let run = parse_run(src, row, width, k, &mut out[..], &mut dirs[..]);
-    let at = run.k;
-    if at < V0Row::blocks_in(width) {
-        let after = parse_block(src, run.row, width, at, &mut out[..], &mut dirs[..]);
-        return Run {
-            k: at + 1,
-            row: after,
-        };
+    let run = parse_run(src, row, width, k, out, dirs);
+    if run.k < V0Row::blocks_in(width) {
+        let row = parse_block(src, run.row, width, run.k, out, dirs);
+        return Run { k: run.k + 1, row };
     }
     run
 }
@@ -184,7 +178,7 @@ pub fn parse_v0_residuals(src: &[u8], offset: u32, width: usize, out: &mut [u16]
     let mut row = V0Row::fresh(2, offset);
     let mut k: usize = 0;
     while k < blocks {
-        let run = parse_some(src, row, width, k, &mut out[..], &mut dirs[..]);
+        let run = parse_some(src, row, width, k, out, dirs);
         row = run.row;
         k = run.k;
     }

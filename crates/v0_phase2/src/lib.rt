@@ -25,14 +25,12 @@ fn predictor(w: usize, row: usize, col: usize, up: bool, c: usize) -> Predictor
     ensures { result ≡ late_predictor w row col up c }
 {
     if up {
-        let p = (row - rows_up(c)) * w + col + c;
-        return Predictor::Sample(p);
+        Predictor::Sample((row - rows_up(c)) * w + col + c)
+    } else if 0 < col {
+        Predictor::Sample(row * w + col - (2 - c % 2))
+    } else {
+        Predictor::Constant
     }
-    if 0 < col {
-        let p = row * w + col - (2 - c % 2);
-        return Predictor::Sample(p);
-    }
-    Predictor::Constant
 }
 
 // Sample c of a block, if it lies within the row.
@@ -86,15 +84,11 @@ fn add_block(out: &mut [u16], w: usize, row: usize, col: usize, up: bool)
     requires { LateRow w row out.old × (col < w) }
     ensures { out.new ≡ predict_samples sample_stage w row col up order out.old }
 {
-    if col == 0 {
+    if 0 < col && col + V0Row::BLOCK <= w {
+        add_inner(out, w, row, col, up);
+    } else {
         add_edge(out, w, row, col, up);
-        return;
     }
-    if w < col + V0Row::BLOCK {
-        add_edge(out, w, row, col, up);
-        return;
-    }
-    add_inner(out, w, row, col, up);
 }
 
 // The blocks of a row from number `from` up to but not `to`. The row's directions begin at `start`.

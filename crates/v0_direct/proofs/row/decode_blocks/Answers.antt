@@ -8,14 +8,14 @@ pub decode_block-state-requires : goal.decode_block-state-requires
 decode_block-state-requires c =
     block_after c.requires.0 (omega arith) c.decode_run-run.ensures.ran c.requires.1 c.decode_run-run.auto.out c.decode_run-run.auto.map
 
-pub overflow_mul-row : goal.overflow_mul-row
-overflow_mul-row c =
+pub overflow_mul-at : goal.overflow_mul-at
+overflow_mul-at c =
     let i = c.requires.0 in
     let fit = product c.args.at.row c.args.at.size.width (omega (arith, i.row_in, i.height)) (omega (arith, i.width)) in
     record { fits = omega (arith, fit) }
 
-pub overflow_add-row : goal.overflow_add-row
-overflow_add-row c =
+pub overflow_add-at : goal.overflow_add-at
+overflow_add-at c =
     let i = c.requires.0 in
     let fit = product c.args.at.row c.args.at.size.width (omega (arith, i.row_in, i.height)) (omega (arith, i.width)) in
     record { fits = omega (arith, fit, i.width) }

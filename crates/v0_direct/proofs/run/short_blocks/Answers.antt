@@ -40,11 +40,11 @@ head_at-head-requires-in-loop-col c = let k = c.lengths_after-lengths.ensures in
   (k.0, c.args.tables.now.of_heads),
 )
 
-pub overflow_mul-row : goal.overflow_mul-row
-overflow_mul-row c = record { fits = omega (arith, inner_fits (here (goal.at.overflow_mul-row c).After-all_fit)) }
+pub overflow_mul-at : goal.overflow_mul-at
+overflow_mul-at c = record { fits = omega (arith, inner_fits (here (goal.at.overflow_mul-at c).After-all_fit)) }
 
-pub overflow_add-row : goal.overflow_add-row
-overflow_add-row c = record { fits = omega (arith, inner_fits (here (goal.at.overflow_add-row c).After-all_fit)) }
+pub overflow_add-at : goal.overflow_add-at
+overflow_add-at c = record { fits = omega (arith, inner_fits (here (goal.at.overflow_add-at c).After-all_fit)) }
 
 pub store_block-requires : goal.store_block-requires
 store_block-requires c = let k = c.lengths_after-lengths.ensures in let fit = sym c.all_fit.ensures ∙ c.if-not-all_fit.false in let lent = c.requires.inner.1.1.samples_lent in (
