@@ -39,7 +39,8 @@ pub fn residual_bits(from: Predictor, length: i32) -> u32
 {
     match from {
         Predictor::Skipped => 0,
-        Predictor::Constant | Predictor::Sample(_) => residual_length(length),
+        Predictor::Constant => residual_length(length),
+        Predictor::Sample(_) => residual_length(length),
     }
 }
 
