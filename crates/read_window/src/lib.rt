@@ -15,6 +15,8 @@ ghost use Rattle.std.specs.Prelude.{true, ◌≡◌, ◌+◌, ◌*◌, ◌/◌, 
 ghost use Rattle.rules.specs.Reader.{word_at};
 ghost use Rattle.read_window.specs.Window.{state_at, Window, stands_in, Standing, standing_in};
 
+pub mod four;
+
 use rules::Bits;
 
 // A record that stands in the stream is counted from three words before its position: how many bytes and bits these are.

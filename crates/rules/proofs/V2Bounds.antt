@@ -18,7 +18,7 @@ use Rattle.rules.specs.declared.reader.Got.{Got}
 use Rattle.rules.specs.declared.reader.Taken.{Taken}
 use Rattle.rules.specs.declared.v2.V2Hdr.{V2Hdr}
 use Rattle.rules.specs.declared.v2.V2Row.{V2Row}
-use Rattle.rules.specs.declared.v2.V2Block.TheVariants.{Next}
+use Rattle.rules.specs.V2.{Next}
 use Rattle.rules.specs.Reader.{fresh, read, four}
 use Rattle.rules.specs.Ranges.{Between, not_above, not_below, ScaleAt, Small, Fits}
 use Rattle.rules.specs.V2.{field_widths, header, top, option_2, option_4, scale_steps, rescaled, read_scale, read_motion, Base, given, copied, averaged, repeated, referred, base, motion_averages, refers_before, base_refusal, lengths_bit, Moded, length_step, lengths_from, no_lengths, flagged_lengths, read_lengths, position, Differences, difference_step, differences_from, read_differences, tail, based_tail, Block, read_block, blocks, fresh_row, fresh_mode, aligned, read_row, rows, read_frame, base_cell, average, value, sample_kind}

@@ -13,7 +13,7 @@ use Rattle.rules.specs.declared.answer.Size.{Size}
 use Rattle.rules.specs.declared.reader.Bits.{Bits}
 use Rattle.rules.specs.declared.v2.V2Hdr.{V2Hdr}
 use Rattle.rules.specs.declared.v2.V2Row.{V2Row}
-use Rattle.rules.specs.declared.v2.V2Block.TheVariants.{Next}
+use Rattle.rules.specs.V2.{Next}
 use Rattle.rules.specs.Reader.{has_filler}
 use Rattle.rules.specs.V2.{header, aligned, fresh_row, fresh_mode, Block, Parsed, read_block, state_after, Row, then, blocks, read_row, Frame, then_rows, rows, read_frame}
 use Rattle.rules.proofs.Cells.{All, nil, more, all_map}

@@ -17,7 +17,7 @@ use Rattle.rules.specs.declared.answer.Size.{Size}
 use Rattle.rules.specs.declared.reader.Bits.{Bits}
 use Rattle.rules.specs.declared.v2.V2Hdr.{V2Hdr}
 use Rattle.rules.specs.declared.v2.V2Row.{V2Row}
-use Rattle.rules.specs.declared.v2.V2Block.TheVariants.{Next}
+use Rattle.rules.specs.V2.{Next}
 use Rattle.rules.specs.Frame.{cells, tabulate}
 use Rattle.rules.specs.V2.{Kind, Base, given, copied, averaged, motion_averages, repeated, referred, base, refers_before, base_refusal, Block, read_block, blocks, fresh_row, fresh_mode, aligned, read_row, rows, read_frame, header, base_cell, block_cells, apply, frame}
 use Rattle.rules.specs.Map.{old_part, either_part, v2_marks, v2_map, all_old}

@@ -13,8 +13,8 @@ use Rattle.rules.specs.declared.reader.Got.{Got}
 use Rattle.rules.specs.declared.reader.Taken.{Taken}
 use Rattle.rules.specs.declared.v2.V2Hdr.{V2Hdr}
 use Rattle.rules.specs.declared.v2.V2Row.{V2Row}
-use Rattle.rules.specs.declared.v2.V2Block.{V2Block}
-use Rattle.rules.specs.declared.v2.V2Block.TheVariants.{Next, EarlyMotion, Outside, LongDifference}
+use Rattle.rules.specs.V2.{V2Block}
+use Rattle.rules.specs.V2.{Next, EarlyMotion, Outside, LongDifference}
 use Rattle.rules.specs.Reader.{has_filler, fresh, read, four}
 use Rattle.rules.specs.V2.{field_widths, header, option_1, option_2, option_4, aligned, fresh_row, fresh_mode, scale_steps, rescaled, read_scale, read_motion, base, base_refusal, lengths_bit, colour, read_length, Moded, length_step, lengths_from, no_lengths, flagged_lengths, read_lengths, position, Differences, difference_step, differences_from, read_differences, Block, Parsed, Tail, tail, based_tail, read_block, state_after, Row, then, blocks, read_row}
 use Rattle.rules.proofs.Tests.{by-test}

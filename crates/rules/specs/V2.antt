@@ -9,9 +9,6 @@ use Rattle.rules.specs.declared.reader.Got.{Got}
 use Rattle.rules.specs.declared.reader.Taken.{Taken}
 use Rattle.rules.specs.declared.v2.V2Hdr.{V2Hdr}
 use Rattle.rules.specs.declared.v2.V2Row.{V2Row}
-use Rattle.rules.specs.declared.v2.V2Lengths.{V2Lengths}
-use Rattle.rules.specs.declared.v2.V2Block.{V2Block}
-use Rattle.rules.specs.declared.v2.V2Block.TheVariants.{Next, EarlyMotion, Outside, LongDifference}
 use Rattle.rules.specs.Reader.{has_filler, fresh, reset_at, read, fields, four, read_signed}
 use Rattle.rules.specs.Frame.{tabulate, ended}
 
@@ -149,6 +146,12 @@ read_length s flag first b =
     (cond (eqb flag 1) (record { value = (first + 1) % 2 ^ 32; bits = b })
     (record { value = first; bits = b })))
 
+-- Four lengths, whether one was too long, and the reader's state after them.
+pub record V2Lengths : Type 0 where
+  pub four : List ℕ
+  pub long : Bool
+  pub bits : Bits
+
 -- Lengths, with what is then remembered.
 pub record Moded : Type 0 where
   pub lengths : V2Lengths
@@ -221,6 +224,13 @@ pub record Block : Type 0 where
   pub base : ℕ → Base
   pub differences : List ℤ
   pub filler : Bool
+
+-- A block's outcome: the next reader state, motion and scale; or refusal 5, 6 or 7, with the reader's state as it then stands.
+pub data V2Block : Type 0 where
+  Next : Bits → V2Row → V2Block
+  EarlyMotion : Bits → V2Block
+  Outside : Bits → V2Block
+  LongDifference : Bits → V2Block
 
 -- A block as the stream has it: its outcome, what is remembered after it, and, where the outcome is `Next`, what it does.
 pub record Parsed : Type 0 where

@@ -5,21 +5,15 @@ use mathlib.Core.Path.{◌≡◌, refl, ◌∙◌}
 use Prim.Native.Nat.{ℕ, ◌+◌, ◌*◌, ◌-◌, ◌%◌, ◌≤◌, ◌<◌}
 use native.Mathlib.Nat.{mul-le-mul}
 use native.Mathlib.Omega.{arith}
-use lib.Dec.{ltb, eqb, lit≤}
-use lib.IntN.{pos, ◌+ℤ◌}
+use lib.Dec.{ltb, eqb}
 use lib.ListN.{get_or}
-use lib.Signed.{mag}
-use mir.Syntax.{w64}
-use mir.Val.{to_z, of_z}
-use mir.ValLaws.{to_z-of_z}
 use borrow.Author.Tests.{lt-ltb, le-ltb, ltb-false, eqb-true, eqb-false, ne_eqb}
 use Rattle.rules.specs.Limits.{most_side}
 use Rattle.rules.specs.declared.v2.V2Hdr.{V2Hdr}
 use Rattle.rules.specs.Frame.{tabulate}
-use Rattle.rules.specs.V2.{motion_offsets, motion_averages, refers_before, base_refusal, repeated, referred, base, Kind, base_cell}
-use Rattle.rules.specs.Ranges.{offset_4, reference_5}
-use Rattle.rules.proofs.Cells.{All, nil, more, all_get}
-use Rattle.rules.proofs.V2Places.{further, offset_is, reference_is}
+use Rattle.rules.specs.V2.{motion_averages, refers_before, base_refusal, repeated, referred, base, Kind, base_cell}
+use Rattle.rules.specs.Ranges.{reference_5}
+use Rattle.rules.proofs.V2Places.{further, reference_is}
 use Rattle.rules.proofs.V2References.{reference_inside}
 use Rattle.rules.proofs.Tests.{by-test}
 use Rattle.v2_cells.specs.declared.V2Place.{V2Place}
@@ -36,16 +30,6 @@ rows_room row w h k = (
   mul-le-mul {n₂ = 16_384} {m₂ = 16_384} (omega arith) k,
   (mul-le-mul {n₂ = 16_384} {m₂ = 16_384} (omega arith) k, mul-le-mul {n₂ = 16_384} {m₂ = 16_384} (omega arith) k),
 )
-
--- An offset is −4 to 4, and the code's table has it in 64 bits.
-offset_small : (motion : ℕ) → mag (get_or motion_offsets motion (pos 0)) ≤ 4
-offset_small motion = all_get (λ z. mag z ≤ 4) table motion (pos 0) (lit≤ tt)
-  where
-    table : All (λ z. mag z ≤ 4) motion_offsets
-    table = more (lit≤ tt) (more (lit≤ tt) (more (lit≤ tt) (more (lit≤ tt) (more (lit≤ tt) (more (lit≤ tt) (more (lit≤ tt) nil))))))
-
-pub offset_code : (motion : ℕ) → to_z w64 (of_z w64 (get_or motion_offsets motion (pos 0))) +ℤ pos 4 ≡ pos (offset_4 motion)
-offset_code motion = rw (to_z-of_z w64 (get_or motion_offsets motion (pos 0)) (record { sfits = omega (arith, offset_small motion) })) (offset_is motion)
 
 -- A sample refers as far on from one of the same parity as it stands on from it.
 same_parity : (at : V2Place) (motion i d : ℕ) → d % 2 ≡ 0 → reference at motion (i + d) ≡ reference at motion i + d
@@ -105,7 +89,7 @@ along_inside n i refs r h =
     (λ e. rw e (let m : i % 2 ≡ 0 = eqb-true (i % 2) 0 e in omega (arith, r.even_end)))
     (λ e. rw e (omega (arith, r.odd_end)))
 
-pub bases_7 : (K : Kind ℕ) (f : List ℕ) (h : V2Hdr) (w row col motion : ℕ) (l : List ℕ) → motion ≡ 7
+pub bases_7 : {A : Type 0} (K : Kind A) (f : List A) (h : V2Hdr) (w row col motion : ℕ) (l : List A) → motion ≡ 7
     → l ≡ tabulate 16 0 (λ i. base_cell K f (repeated h w row col i)) → l ≡ tabulate 16 0 (λ i. base_cell K f (base h w row col motion i))
 unfolding base
 bases_7 K f h w row col motion l e el = simp e el
@@ -143,7 +127,7 @@ module _ {n : ℕ} {at : V2Place} {motion : ℕ} (inside : Inside n at) (other :
       omega (arith, each 1 (omega arith))))
 
   -- A sample's cell is the one at its place on the runs.
-  referred_is : (K : Kind ℕ) (f : List ℕ) (i : ℕ)
+  referred_is : {A : Type 0} (K : Kind A) (f : List A) (i : ℕ)
       → cell_from K f (get_or motion_averages motion false) (along (references at motion) i) ≡ base_cell K f (referred at.width at.row at.col motion i)
   unfolding referred base_cell
   referred_is K f i =
@@ -152,7 +136,7 @@ module _ {n : ℕ} {at : V2Place} {motion : ℕ} (inside : Inside n at) (other :
       let q : p + 5 - 5 ≡ p = omega arith in
       rw (reference_is at.width at.row at.col motion i, ← place_is i, le-ltb (p + 5) 5 l, q) (by-test (get_or motion_averages motion false) (λ e. rw e) (λ e. rw e))
 
-  pub bases_referred : (K : Kind ℕ) (f : List ℕ) (h : V2Hdr) {l : List ℕ} {refs : References} → refs ≡ references at motion
+  pub bases_referred : {A : Type 0} (K : Kind A) (f : List A) (h : V2Hdr) {l : List A} {refs : References} → refs ≡ references at motion
       → l ≡ tabulate 16 0 (λ i. cell_from K f refs.averaging (along refs i)) → l ≡ tabulate 16 0 (λ i. base_cell K f (base h at.width at.row at.col motion i))
   unfolding base
   bases_referred K f h er el = simp (ne_eqb motion 7 other) ((rw er at el) ∙ tabulate_same 16 0 _ _ (referred_is K f))

@@ -1,4 +1,4 @@
--- A list filled place by place, and a run of stores.
+-- A list filled place by place.
 use mathlib.Core.List.{List, [], ◌∷◌, ◌++◌}
 use mathlib.Core.Path.{◌≡◌, refl, sym, ap, ◌∙◌}
 use Prim.Native.Nat.{ℕ, zero, suc, ◌+◌, ◌≤◌, ◌<◌}
@@ -44,30 +44,26 @@ module _ {A : Type 0} {f : ℕ → A} {l : List A} where
       let e : i ≡ 16 = omega (arith, g.most) in
       sym (take_all 16 l (omega (arith, g.sixteen))) ∙ rw e at g.first
 
-pub fill_length : {A : Type 0} (f : ℕ → A) (l : List A) → l ≡ tabulate 16 0 f → length l ≡ 16
-unfolding tabulate
-fill_length f l e = rw e
-
 -- A loop that stores sixteen values: those from i on are left.
-pub record Stored (old s : List ℕ) (at : ℕ) (out : List ℕ) (i : ℕ) : Type 0 where
+pub record Stored {A : Type 0} (old s : List A) (at : ℕ) (out : List A) (i : ℕ) : Type 0 where
   pub most : i ≤ 16
   pub as_long : length out ≡ length old
   pub left : sets old at s ≡ sets out (at + i) (drop i s)
 
-module _ {old s : List ℕ} {at : ℕ} where
+module _ {A : Type 0} {old s : List A} {at : ℕ} where
   pub stored_none : Stored old s at old 0
   stored_none = record { most = omega arith; as_long = refl; left = rw add-zero }
 
-  pub stored_more : {out : List ℕ} {i : ℕ} → Stored old s at out i → length s ≡ 16 → i < 16 → Stored old s at (set out (at + i) (get_or s i 0)) (i + 1)
-  stored_more {out} {i} g e h =
+  pub stored_more : {out : List A} {i : ℕ} (v : A) → Stored old s at out i → length s ≡ 16 → i < 16 → Stored old s at (set out (at + i) (get_or s i v)) (i + 1)
+  stored_more {out} {i} v g e h =
       let n : at + (i + 1) ≡ suc (at + i) = omega arith in
       record {
         most = omega arith;
         as_long = simp length-set g.as_long;
-        left = g.left ∙ rw (drop-cons s i 0 (omega arith), n, add-one);
+        left = g.left ∙ rw (drop-cons s i v (omega arith), n, add-one);
       }
 
-  pub stored_all : {out : List ℕ} {i : ℕ} → Stored old s at out i → length s ≡ 16 → 16 ≤ i → out ≡ sets old at s
+  pub stored_all : {out : List A} {i : ℕ} → Stored old s at out i → length s ≡ 16 → 16 ≤ i → out ≡ sets old at s
   stored_all {out} {i} g e h = sym (g.left ∙ rw (drop_of_length-le s {i = i} (omega arith)))
 
 pub empty_is : (f : List ℕ) → length f ≡ 0 → f ≡ []

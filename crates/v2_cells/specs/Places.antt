@@ -1,7 +1,9 @@
 -- Places in a frame within the limits, and references as the code has them: 5 more than they are, so that none is below 0.
-use Rattle.std.specs.Prelude.{ℕ, ◌+◌, ◌-◌, ◌*◌, ◌%◌, ◌≤◌, ◌<◌, ◌≡◌, Bool, false, cond, List, eqb, get_or}
+use Rattle.std.specs.Prelude.{ℕ, ◌+◌, ◌-◌, ◌*◌, ◌%◌, ◌≤◌, ◌<◌, ◌≡◌, Bool, false, cond, List, eqb, get_or, Result, Ok, Err}
 use Rattle.std.proofs.lemmas.List.Edits.{sets}
 use Rattle.rules.specs.Limits.{most_side}
+use Rattle.rules.specs.declared.answer.Refusal.{Refusal}
+use Rattle.rules.specs.declared.answer.Refusal.TheVariants.{EarlyMotion, Outside}
 use Rattle.rules.specs.declared.v2.V2Hdr.{V2Hdr}
 use Rattle.rules.specs.Frame.{tabulate}
 use Rattle.rules.specs.Ranges.{reference_5}
@@ -65,18 +67,24 @@ pub record Runs (n : ℕ) (refs : References) : Type 0 where
   pub even_end : refs.even + 14 + cond refs.averaging 2 0 < n
   pub odd_end : refs.odd + 14 + cond refs.averaging 2 0 < n
 
+-- A block's base met no refusal, or 5 or 6.
+abbrev pub base_result : V2Place → ℕ → Result Unit Refusal
+base_result at motion =
+    let refusal = base_refusal at.row at.col motion in
+    cond (eqb refusal 5) (Err EarlyMotion) (cond (eqb refusal 6) (Err Outside) (Ok tt))
+
 -- The cell at p, or its average with the one two places on.
-abbrev pub cell_from : Kind ℕ → List ℕ → Bool → ℕ → ℕ
+abbrev pub cell_from : {A : Type 0} → Kind A → List A → Bool → ℕ → A
 cell_from K f averaging p =
     cond averaging (K.average (get_or f p (K.constant 0)) (get_or f (p + 2) (K.constant 0))) (get_or f p (K.constant 0))
 
 -- ── A block's cells ──
 
 -- The sixteen cells of a block's bases, by its motion, over a frame of cells; and those that motion 7 repeats.
-abbrev pub base_cells : Kind ℕ → V2Hdr → V2Place → ℕ → List ℕ → List ℕ
+abbrev pub base_cells : {A : Type 0} → Kind A → V2Hdr → V2Place → ℕ → List A → List A
 base_cells K h at motion f = tabulate 16 0 (λ i. base_cell K f (base h at.width at.row at.col motion i))
 
-abbrev pub repeated_cells : Kind ℕ → V2Hdr → V2Place → List ℕ → List ℕ
+abbrev pub repeated_cells : {A : Type 0} → Kind A → V2Hdr → V2Place → List A → List A
 repeated_cells K h at f = tabulate 16 0 (λ i. base_cell K f (repeated h at.width at.row at.col i))
 
 -- A map with a block's marks: each is that of the cells that the sample's base is read from.

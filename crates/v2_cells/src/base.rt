@@ -1,12 +1,15 @@
-// Step 3 of a block: the refusal that its base meets, and the sixteen samples that its differences are added to.
-ghost use Rattle.std.specs.Prelude.{◌≡◌, false, cond, ◌+◌, ◌^◌, ◌≤◌, ◌<◌, length, get_or};
+// Step 3 of a block: the refusal that its base meets, and the sixteen cells that its differences are added to.
+ghost use Rattle.std.specs.Prelude.{◌≡◌, false, cond, ◌+◌, ◌^◌, ◌<◌, length, get_or};
+ghost use Rattle.rules.specs.declared.v2.V2Hdr.{V2Hdr};
 ghost use Rattle.rules.specs.Frame.{tabulate};
-ghost use Rattle.rules.specs.V2.{motion_averages, average, refers_before, base_refusal, base_cell, sample_kind, repeated, base};
+ghost use Rattle.rules.specs.V2.{motion_averages, refers_before, base_refusal, base_cell, repeated};
 ghost use Rattle.rules.specs.Ranges.{offset_4, reference_5};
-ghost use Rattle.v2_cells.specs.Places.{Placed, Inside, Based, Referring, ReferringAt, references, along, Runs, cell_from, base_cells, repeated_cells};
+ghost use Rattle.rules.specs.Refusals.{answer_number};
+ghost use Rattle.v2_cells.specs.Places.{base_result, Placed, Inside, Based, Referring, ReferringAt, references, along, Runs, cell_from, base_cells, repeated_cells};
 
 use super::V2Place;
-use rules::{Answer, V2Hdr, V2Row};
+use super::cell::Cell;
+use rules::{Refusal, V2Row};
 
 // Where samples 0 and 1 of a block refer to, and whether each base is the average of two samples.
 #[derive(Clone, Copy)]
@@ -16,23 +19,22 @@ pub struct References {
     pub averaging: bool,
 }
 
-const OFFSETS: [i64; 7] = [-4, -2, -2, 0, 0, 2, 4];
+// The columns' offsets of motions 0 to 6, 4 more than they are so that none is below 0. A table of numbers alone is read where it lies.
+const OFFSETS_PLUS_4: [u8; 7] = [0, 2, 2, 4, 4, 6, 8];
 
-const AVERAGES: [bool; 7] = [false, false, true, false, true, false, false];
-
-// 4 more than a motion's offset, so that none is below 0.
 fn offset_plus_4(motion: u32) -> usize
     requires { motion < 7 }
     ensures { result ≡ offset_4 motion }
 {
-    (OFFSETS[motion as usize] + 4) as usize
+    usize::from(OFFSETS_PLUS_4[motion as usize])
 }
 
+// Whether a base of motion 0 to 6 is the average of two cells.
 fn averages(motion: u32) -> bool
     requires { motion < 7 }
     ensures { result ≡ get_or motion_averages motion false }
 {
-    AVERAGES[motion as usize]
+    motion == 2 || motion == 4
 }
 
 // Where sample 0 or 1 refers to, 5 places on, so that none is below 0.
@@ -49,7 +51,7 @@ fn reference_plus_5(at: V2Place, motion: u32, i: usize) -> usize
 }
 
 // The references of motions 0 to 6, in a block that meets no refusal.
-pub fn references_of(at: V2Place, motion: u32) -> References
+fn references_of(at: V2Place, motion: u32) -> References
     requires { Referring at motion }
     ensures { result ≡ references at motion }
 {
@@ -63,7 +65,7 @@ pub fn references_of(at: V2Place, motion: u32) -> References
 }
 
 // Where sample i refers to, from where samples 0 and 1 do.
-pub fn along_from(refs: References, i: usize) -> usize
+fn along_from(refs: References, i: usize) -> usize
     requires { (refs.even + 15 < 2 ^ 64) × ((refs.odd + 15 < 2 ^ 64) × (i < 16)) }
     ensures { result ≡ along refs i }
 {
@@ -84,82 +86,77 @@ fn refers_before(at: V2Place, motion: u32) -> bool
     at.col == 0 && motion < 3
 }
 
-// The refusal that the base meets, or 0.
-pub fn refusal_of(at: V2Place, motion: u32) -> u32
-    ensures { result ≡ base_refusal at.row at.col motion }
+// The refusal that the base meets, if it meets one.
+pub fn refusal_of(at: V2Place, motion: u32) -> Result<(), Refusal>
+    ensures number { answer_number result ≡ base_refusal at.row at.col motion }
+    ensures refusal { result ≡ base_result at motion }
 {
     if motion == V2Row::MOTION {
-        return 0;
+        return Ok(());
     }
     if at.row < 2 {
-        return Answer::EARLY_MOTION;
+        return Err(Refusal::EarlyMotion);
     }
     if refers_before(at, motion) {
-        return Answer::OUTSIDE;
+        return Err(Refusal::Outside);
     }
-    0
+    Ok(())
 }
 
-fn average_of(a: u16, b: u16) -> u16
-    ensures { result ≡ average a b }
-{
-    ((a as u32 + b as u32 + 1) / 2) as u16
-}
-
-// The sample at p, or its average with the one two places on.
-fn base_from(out: &[u16], p: usize, averaging: bool) -> u16
-    requires { p + cond averaging 2 0 < length out.now }
-    ensures { result ≡ cell_from (sample_kind 0) out.now averaging p }
+// The cell at p, or its average with the one two places on.
+fn base_from<C: Cell>(frame: &[C], p: usize, averaging: bool) -> C
+    requires { p + cond averaging 2 0 < length frame.now }
+    ensures { result ≡ cell_from C.kind frame.now averaging p }
 {
     if averaging {
-        average_of(out[p], out[p + 2])
+        frame[p].average(frame[p + 2])
     } else {
-        out[p]
+        frame[p]
     }
 }
 
 // The bases of motions 0 to 6.
-fn refer(out: &[u16], refs: References, values: &mut [u16; 16])
-    requires { Runs (length out.now) refs × (length values.old ≡ 16) }
-    ensures { values.new ≡ tabulate 16 0 (λ i. cell_from (sample_kind 0) out.now refs.averaging (along refs i)) }
+fn refer<C: Cell>(frame: &[C], refs: References, cells: &mut [C; 16])
+    requires { Runs (length frame.now) refs × (length cells.old ≡ 16) }
+    ensures { cells.new ≡ tabulate 16 0 (λ i. cell_from C.kind frame.now refs.averaging (along refs i)) }
 {
-    let mut i: usize = 0;
-    while i < V2Row::BLOCK {
-        values[i] = base_from(out, along_from(refs, i), refs.averaging);
-        i += 1;
+    for i in 0..V2Row::BLOCK {
+        cells[i] = base_from(frame, along_from(refs, i), refs.averaging);
     }
 }
 
-// One of the two samples that motion 7 repeats.
-fn before(out: &[u16], hdr: V2Hdr, at: V2Place, i: usize) -> u16
-    requires { Inside (length out.now) at × (i < 2) }
-    ensures { result ≡ base_cell (sample_kind 0) out.now (repeated hdr at.width at.row at.col i) }
+// One of the two cells that motion 7 repeats; `initial` is the one that the header's initial sample gives.
+fn before<C: Cell>(frame: &[C], initial: C, at: V2Place, i: usize) -> C
+    requires { Inside (length frame.now) at × (i < 2) }
+    ensures { (h : V2Hdr) → initial ≡ C.kind.constant h.initial → result ≡ base_cell C.kind frame.now (repeated h at.width at.row at.col i) }
 {
     if at.col == 0 {
-        return hdr.initial;
+        return initial;
     }
-    let first = at.first();
-    out[first - 2 + i % 2]
+    frame[at.first() - 2 + i % 2]
 }
 
 // The bases of motion 7.
-fn repeat(out: &[u16], hdr: V2Hdr, at: V2Place, values: &mut [u16; 16])
-    requires { Inside (length out.now) at }
-    ensures { values.new ≡ repeated_cells (sample_kind 0) hdr at out.now }
+fn repeat<C: Cell>(frame: &[C], initial: C, at: V2Place, cells: &mut [C; 16])
+    requires { Inside (length frame.now) at }
+    ensures { (h : V2Hdr) → initial ≡ C.kind.constant h.initial → cells.new ≡ repeated_cells C.kind h at frame.now }
 {
-    let a = before(out, hdr, at, 0);
-    let b = before(out, hdr, at, 1);
-    *values = [a, b, a, b, a, b, a, b, a, b, a, b, a, b, a, b];
+    let a = before(frame, initial, at, 0);
+    let b = before(frame, initial, at, 1);
+    for pair in 0..V2Row::BLOCK / 2 {
+        cells[2 * pair] = a;
+        cells[2 * pair + 1] = b;
+    }
 }
 
-// The bases of a block that meets no refusal.
-pub fn bases(out: &[u16], hdr: V2Hdr, at: V2Place, motion: u32, values: &mut [u16; 16])
-    requires { Based (length out.now) at motion (length values.old) }
-    ensures { values.new ≡ base_cells (sample_kind 0) hdr at motion out.now }
+// The bases of a block that meets no refusal, for samples and marks alike.
+pub fn bases<C: Cell>(frame: &[C], initial: C, at: V2Place, motion: u32, cells: &mut [C; 16])
+    requires { Based (length frame.now) at motion (length cells.old) }
+    ensures { (h : V2Hdr) → initial ≡ C.kind.constant h.initial → cells.new ≡ base_cells C.kind h at motion frame.now }
 {
     if motion == V2Row::MOTION {
-        repeat(out, hdr, at, values);
+        repeat(frame, initial, at, cells);
     } else {
-        refer(out, references_of(at, motion), values);
+        refer(frame, references_of(at, motion), cells);
     }
 }

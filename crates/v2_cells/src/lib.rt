@@ -1,10 +1,11 @@
-// What a V2 block does with a frame's cells: the base that it predicts from, its samples and its marks.
+// What a V2 block does with a frame's cells: the base that it predicts from, its samples and its marks. Samples and marks are cells.
 #![tactic(auto)]
 
 ghost use Rattle.std.specs.Prelude.{◌≡◌, ◌+◌, ◌*◌};
 ghost use Rattle.v2_cells.specs.Places.{Placed};
 
 pub mod base;
+pub mod cell;
 pub mod marks;
 pub mod samples;
 

@@ -1,6 +1,5 @@
 // Step 6 of a block: its samples.
-ghost use Rattle.std.specs.Prelude.{◌≡◌, ℕ, ◌+◌, ◌≤◌, ◌<◌, pos, ◌+ℤ◌, length, get_or};
-ghost use Rattle.std.proofs.lemmas.List.Edits.{sets};
+ghost use Rattle.std.specs.Prelude.{◌≡◌, ℕ, ◌<◌, pos, ◌+ℤ◌, length, get_or};
 ghost use Rattle.std.specs.Int.{w32};
 ghost use Rattle.std.proofs.Common.{SFits};
 ghost use Rattle.rules.specs.Frame.{tabulate};
@@ -9,18 +8,12 @@ ghost use Rattle.rules.specs.Ranges.{Between, Small, Fits};
 
 use rules::V2Row;
 
-fn wide(x: u16) -> i32
-    ensures { result ≡ pos x }
-{
-    x as i32
-}
-
 // Base + difference times (2 scale + 1) + scale.
 fn scaled(base: u16, d: i32, scale: i32) -> i32
     requires { Fits base d scale }
     ensures { result ≡ value base d scale }
 {
-    wide(base) + d * (2 * scale + 1) + scale
+    i32::from(base) + d * (2 * scale + 1) + scale
 }
 
 // Base + difference: what `scaled` comes to where the scale is 0, without its products.
@@ -28,7 +21,7 @@ fn unscaled(base: u16, d: i32) -> i32
     requires { SFits w32 (pos base +ℤ d) }
     ensures { result ≡ pos base +ℤ d }
 {
-    wide(base) + d
+    i32::from(base) + d
 }
 
 // A block has one scale, often 0: the compiler tests it once for all sixteen samples.
@@ -46,11 +39,7 @@ fn value_of(base: u16, d: i32, scale: i32) -> i32
 fn held(v: i32, top: u32) -> u32
     ensures { result ≡ hold top v }
 {
-    if v < 0 {
-        return 0;
-    }
-    let u = v as u32;
-    if u < top { u } else { top }
+    (v.max(0) as u32).min(top)
 }
 
 fn sample_of(base: u16, d: i32, scale: i32, top: u32) -> u16
@@ -62,24 +51,10 @@ fn sample_of(base: u16, d: i32, scale: i32, top: u32) -> u16
 
 // The sixteen samples from their bases and differences.
 pub fn build(base: &[u16; 16], d: &[i32; 16], scale: i32, top: u32, samples: &mut [u16; 16])
-    requires { ((k : ℕ) → Small (get_or d.now k (pos 0))) × (Between 512 4_605 scale × ((top < 65_536) × (length samples.old ≡ 16))) }
+    requires { ((k : ℕ) → Small (get_or d.now k (pos 0))) × (Between 512 4_605 scale × (top < 65_536)) }
     ensures { samples.new ≡ tabulate 16 0 (λ i. sample top scale (get_or d.now i (pos 0)) (get_or base.now i 0)) }
 {
-    let mut i: usize = 0;
-    while i < V2Row::BLOCK {
+    for i in 0..V2Row::BLOCK {
         samples[i] = sample_of(base[i], d[i], scale, top);
-        i += 1;
-    }
-}
-
-// Sixteen samples to their place.
-pub fn store(out: &mut [u16], at: usize, samples: &[u16; 16])
-    requires { (at + 16 ≤ length out.old) × (length samples.now ≡ 16) }
-    ensures { out.new ≡ sets out.old at samples.now }
-{
-    let mut k: usize = 0;
-    while k < V2Row::BLOCK {
-        out[at + k] = samples[k];
-        k += 1;
     }
 }

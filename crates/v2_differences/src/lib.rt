@@ -8,11 +8,9 @@ ghost use Rattle.v2_differences.specs.Four.{Short, short};
 ghost use Rattle.v2_differences.specs.Pairs.{signed_pair};
 ghost use Rattle.v2_differences.specs.Positions.{row_positions, positions, OfARow, stored_four};
 
-mod four;
-
-use four::four_at;
 use read_bits::{get_whole, read_signed};
 use read_fields::{field, signed_of};
+use read_window::four::four_at;
 use read_window::{BACK_BITS, BACK_BYTES, SHORT_BITS, stands_within, state_at};
 use rules::{Bits, V2Row};
 
@@ -90,15 +88,12 @@ fn by_pairs(
     ensures { (row : ℕ) → positions.now ≡ row_positions row → record { values = values.exit.now; bits = result } ≡ differences_from src.now row lengths 16 0 (record { values = values.entry.now; bits = bits }) }
 {
     let mut at = bits;
-    let mut k: usize = 0;
-    while k < V2Row::BLOCK {
+    for half in 0..V2Row::BLOCK / 2 {
+        let k = 2 * half;
         let pair = read_pair(src, at, lengths[k / 4]);
-        let a = pair.first;
-        let b = pair.second;
-        values[entry(positions, k)] = a;
-        values[entry(positions, k + 1)] = b;
+        values[entry(positions, k)] = pair.first;
+        values[entry(positions, k + 1)] = pair.second;
         at = pair.bits;
-        k += 2;
     }
     at
 }
@@ -133,13 +128,11 @@ fn by_windows(
 {
     let base = bits.pos as usize - BACK_BYTES;
     let mut q = BACK_BITS - bits.count as usize;
-    let mut j: usize = 0;
-    while j < 4 {
+    for j in 0..4 {
         let n = lengths[j];
-        let four = four_at(src, base, q, n);
+        let four: [i32; 4] = four_at(src, base, q, n);
         store_four(values, positions, 4 * j, four);
         q += 4 * n as usize;
-        j += 1;
     }
     state_at(src, base, q, bits.filler)
 }

@@ -1,10 +1,10 @@
 -- A block from its stages: what each stage gave is a variable with its equation.
 use mathlib.Core.Bool.{true, false}
 use mathlib.Core.List.{List}
-use mathlib.Core.Path.{◌≡◌, refl, ap₂, ◌∙◌}
+use mathlib.Core.Path.{◌≡◌, refl, ap, ap₂, ◌∙◌}
 use Prim.Native.Nat.{ℕ, ◌+◌, ◌≤◌}
 use native.Mathlib.Omega.{arith}
-use lib.Dec.{ltb, eqb, lit≤, lit<}
+use lib.Dec.{eqb, lit≤, lit<}
 use lib.IntN.{ℤ, pos}
 use lib.ListN.{get_or, replicate}
 use mir.Syntax.{w32}
@@ -13,18 +13,22 @@ use Rattle.rules.specs.Limits.{most_side}
 use Rattle.rules.specs.declared.reader.Bits.{Bits}
 use Rattle.rules.specs.declared.reader.Got.{Got}
 use Rattle.rules.specs.declared.reader.Taken.{Taken}
-use Rattle.rules.specs.declared.v2.V2Block.TheVariants.{Next, EarlyMotion, Outside, LongDifference}
+use Rattle.rules.specs.V2.{Next, EarlyMotion, Outside, LongDifference}
+use Rattle.rules.specs.declared.answer.Refusal.{Refusal}
+use Rattle.std.specs.Prelude.{Result, Ok, Err, IsErrAnd}
+use Rattle.v2_frame.specs.declared.block.Refused.{Refused}
 use Rattle.rules.specs.declared.v2.V2Hdr.{V2Hdr}
-use Rattle.rules.specs.declared.v2.V2Lengths.{V2Lengths}
+use Rattle.rules.specs.V2.{V2Lengths}
 use Rattle.rules.specs.declared.v2.V2Row.{V2Row}
 use Rattle.rules.specs.Frame.{tabulate}
-use Rattle.rules.specs.V2.{read_scale, read_motion, Base, given, copied, averaged, base, refers_before, base_refusal, Moded, read_lengths, Differences, differences_from, read_differences, tail, based_tail, read_block, top, base_cell, block_cells, sample, sample_kind}
+use Rattle.rules.specs.V2.{read_scale, read_motion, Base, given, copied, averaged, base, base_refusal, Moded, read_lengths, Differences, differences_from, read_differences, tail, based_tail, read_block, top, base_cell, block_cells, sample, sample_kind}
 use Rattle.rules.specs.Ranges.{Between, Small}
 use Rattle.rules.proofs.Cells.{all_get}
 use Rattle.rules.proofs.V2Bounds.{between_abs, mag_abs, scale_read, scale_within, motion_most, lengths_small, differences_small}
 use Rattle.rules.proofs.Tests.{by-test}
 use Rattle.v2_cells.specs.declared.V2Place.{V2Place}
-use Rattle.v2_frame.specs.Blocks.{Ready, written}
+use Rattle.v2_cells.specs.Places.{base_result}
+use Rattle.v2_frame.specs.Blocks.{Ready, block_result}
 
 -- A scale within the limits fits 32 signed bits.
 pub scale_fits : (z : ℤ) → Between 512 4_605 z → SFits w32 z
@@ -43,6 +47,11 @@ module _ (s : List ℕ) (h : V2Hdr) (n : ℕ) (at : V2Place) (b : Bits) (st : V2
 
   pub own_motion : (m : Got) → m ≡ read_motion s h st.motion b → m.value ≤ 7
   own_motion m e = rw e (motion_most s h st.motion b r.motion)
+
+-- What `?` hands on is the refusal that `from` makes.
+pub passed : {A : Type 0} (r : Result A Refused) (x : Refused) → IsErrAnd r (λ e. e ≡ x) → r ≡ Err x
+passed (Ok y) x p = absurd p
+passed (Err e) x p = ap Err p
 
 -- ── After the base ──
 
@@ -76,26 +85,11 @@ module _ (s : List ℕ) (h : V2Hdr) (row : ℕ) (st : V2Row) (mode : List (List 
           let q = differences_small s row l.four l.bits (rw (← e) at (lengths_small s h row mode b deep) (t)) in
           all_get Small (rw (← ed) at q) k (pos 0) (lit< tt)
 
-      pub tail_samples : (bases samples old : List ℕ) (t : ℕ) → t ≡ top h
+      pub tail_samples : (bases samples : List ℕ) (t : ℕ) → t ≡ top h
           → samples ≡ tabulate 16 0 (λ i. sample t st.scale (get_or ds i (pos 0)) (get_or bases i 0))
-          → samples ≡ written (Next b' st) (tabulate 16 0 (λ i. sample (top h) st.scale (get_or (tail s h row st mode b).differences i (pos 0)) (get_or bases i 0))) old
-      unfolding written
-      tail_samples bases samples old t et ev =
+          → samples ≡ tabulate 16 0 (λ i. sample (top h) st.scale (get_or (tail s h row st mode b).differences i (pos 0)) (get_or bases i 0))
+      tail_samples bases samples t et ev =
           ev ∙ ap₂ (λ (t : ℕ) (z : List ℤ). tabulate 16 0 (λ i. sample t st.scale (get_or z i (pos 0)) (get_or bases i 0))) et differences_are
-
--- After a refusal the samples stay.
-module _ (b : Bits) (new old : List ℕ) where
-  pub kept_early : old ≡ written (EarlyMotion b) new old
-  unfolding written
-  kept_early = refl
-
-  pub kept_outside : old ≡ written (Outside b) new old
-  unfolding written
-  kept_outside = refl
-
-  pub kept_long : old ≡ written (LongDifference b) new old
-  unfolding written
-  kept_long = refl
 
 -- ── The whole block ──
 
@@ -107,36 +101,43 @@ base_any t f (copied p) = refl
 base_any t f (averaged p q) = refl
 
 module _ (s : List ℕ) (h : V2Hdr) (w row col : ℕ) (b : Bits) (st : V2Row) (mode : List (List ℕ)) (c : Taken ℤ) (ec : c ≡ read_scale s h col st.scale b)
-    (m : Got) (em : m ≡ read_motion s h st.motion c.bits) (k : ℕ) (ek : k ≡ base_refusal row col m.value) where
-  pub block_early : k ≡ 5 → (EarlyMotion m.bits ≡ (read_block s h w row col b st mode).outcome) × (mode ≡ (read_block s h w row col b st mode).mode)
+    (m : Got) (em : m ≡ read_motion s h st.motion c.bits) where
+  early : eqb (base_refusal row col m.value) 5 ≡ true → (EarlyMotion m.bits ≡ (read_block s h w row col b st mode).outcome) × (mode ≡ (read_block s h w row col b st mode).mode)
   unfolding read_block based_tail
-  block_early e = (rw (← ec, ← em, ← ek, e), rw (← ec, ← em, ← ek, e))
+  early e = (rw (← ec, ← em, e), rw (← ec, ← em, e))
 
-  pub block_outside : k ≡ 6 → (Outside m.bits ≡ (read_block s h w row col b st mode).outcome) × (mode ≡ (read_block s h w row col b st mode).mode)
+  outside : eqb (base_refusal row col m.value) 5 ≡ false → eqb (base_refusal row col m.value) 6 ≡ true
+      → (Outside m.bits ≡ (read_block s h w row col b st mode).outcome) × (mode ≡ (read_block s h w row col b st mode).mode)
   unfolding read_block based_tail
-  block_outside e = (rw (← ec, ← em, ← ek, e), rw (← ec, ← em, ← ek, e))
+  outside e f = (rw (← ec, ← em, e, f), rw (← ec, ← em, e, f))
 
-  module _ (e5 : eqb k 5 ≡ false) (e6 : eqb k 6 ≡ false) where
+  -- A refusal that the base meets is the block's, and what was remembered stays.
+  pub block_refused : (x : Refusal) → Err x ≡ base_result (record { width = w; row = row; col = col }) m.value
+      → (Err (record { refusal = x; bits = m.bits }) ≡ block_result (read_block s h w row col b st mode).outcome) × (mode ≡ (read_block s h w row col b st mode).mode)
+  block_refused x e =
+      by-test (eqb (base_refusal row col m.value) 5)
+      (λ f. let is : ◌≡◌ {A = Result Unit Refusal} (Err x) (Err Refusal.EarlyMotion) = rw f at e in
+      let same : x ≡ Refusal.EarlyMotion = cc in
+      let q = early f in
+      (rw same (ap block_result q.0), q.1))
+      (λ f. by-test (eqb (base_refusal row col m.value) 6)
+      (λ g. let is : ◌≡◌ {A = Result Unit Refusal} (Err x) (Err Refusal.Outside) = rw (f, g) at e in
+      let same : x ≡ Refusal.Outside = cc in
+      let q = outside f g in
+      (rw same (ap block_result q.0), q.1))
+      (λ g. let is : ◌≡◌ {A = Result Unit Refusal} (Err x) (Ok tt) = rw (f, g) at e in absurd cc))
+
+  module _ (none : 0 ≡ base_refusal row col m.value) where
     pub block_outcome : (read_block s h w row col b st mode).outcome ≡ (tail s h row (record { motion = m.value; scale = c.value }) mode m.bits).outcome
     unfolding read_block based_tail
-    block_outcome = rw (← ec, ← em, ← ek, e5, e6)
+    block_outcome = rw (← ec, ← em, ← none)
 
     pub block_mode : (read_block s h w row col b st mode).mode ≡ (tail s h row (record { motion = m.value; scale = c.value }) mode m.bits).mode
     unfolding read_block based_tail
-    block_mode = rw (← ec, ← em, ← ek, e5, e6)
+    block_mode = rw (← ec, ← em, ← none)
 
     pub block_samples : (f bases : List ℕ) → bases ≡ tabulate 16 0 (λ i. base_cell (sample_kind 0) f (base h w row col m.value i))
         → tabulate 16 0 (λ i. sample (top h) c.value (get_or (tail s h row (record { motion = m.value; scale = c.value }) mode m.bits).differences i (pos 0)) (get_or bases i 0))
         ≡ block_cells (sample_kind (top h)) f (read_block s h w row col b st mode).block
     unfolding read_block based_tail block_cells tabulate
-    block_samples f bases eb = rw (← ec, ← em, ← ek, e5, e6, eb) (simp (base_any (top h)))
-
--- A refusal that is neither 5 nor 6 is 0.
-pub refusal_zero : (row col motion k : ℕ) → k ≡ base_refusal row col motion → (k ≡ 5 → ⊥) → (k ≡ 6 → ⊥) → k ≡ 0
-unfolding base_refusal
-refusal_zero row col motion k e a b =
-    by-test (eqb motion 7)
-    (λ f. (rw f at e))
-    (λ f. by-test (ltb row 2)
-    (λ g. absurd (a (rw (f, g) at e)))
-    (λ g. by-test (refers_before row col motion) (λ e₁. absurd (b (rw (f, g, e₁) at e))) (λ e₁. (rw (f, g, e₁) at e))))
+    block_samples f bases eb = rw (← ec, ← em, ← none, eb) (simp (base_any (top h)))

@@ -1,5 +1,5 @@
 -- A block's lengths, one after another: what the stages before gave is a variable with its equation.
-use Rattle.std.proofs.Common.{◌≡◌, ℕ, zero, suc, ◌+◌, ◌-◌, ◌/◌, ◌%◌, ◌^◌, ◌<◌, ◌≤◌, true, false, eqb, List, [], ◌∷◌, length, get_or, set, refl, add-one, arith, le-ltb, lt-ltb, ne_eqb}
+use Rattle.std.proofs.Common.{◌≡◌, ℕ, zero, suc, ◌+◌, ◌-◌, ◌/◌, ◌%◌, ◌^◌, ◌<◌, ◌≤◌, true, false, eqb, List, [], ◌∷◌, get_or, set, add-one, arith, le-ltb, lt-ltb, ne_eqb}
 use Rattle.rules.specs.declared.reader.Bits.{Bits}
 use Rattle.rules.specs.declared.reader.Got.{Got}
 use Rattle.rules.specs.declared.reader.Taken.{Taken}
@@ -48,14 +48,6 @@ module _ (s : List ℕ) (flag first : ℕ) (b : Bits) where
       go (suc zero) n l ev ew = let e : w ≡ (first + 1) % 2 ^ 32 = omega arith in rw e
       go (suc (suc zero)) n l ev ew = let e : w ≡ (first + 0xffff_ffff) % 2 ^ 32 = omega arith in rw e
       go (suc (suc (suc k))) n l ev ew = absurd (n (omega arith))
-
--- A list of three has its elements.
-pub three : (m : List (List ℕ)) → length m ≡ 3 → get_or m 0 [] ∷ get_or m 1 [] ∷ get_or m 2 [] ∷ [] ≡ m
-three [] e = absurd (omega (arith, e))
-three (a ∷ []) e = absurd (omega (arith, e))
-three (a ∷ b ∷ []) e = absurd (omega (arith, e))
-three (a ∷ b ∷ c ∷ []) e = refl
-three (a ∷ b ∷ c ∷ d ∷ m) e = absurd (omega (arith, e))
 
 -- One length, after those before it.
 module _ (s : List ℕ) (depth row : ℕ) (flags : List ℕ) (j : ℕ) (h : j < 4) (four : List ℕ) (b : Bits) (mode : List (List ℕ))

@@ -1,11 +1,11 @@
 // Step 4 of a block: its four lengths, and what is remembered of them.
 ghost use Rattle.std.specs.Prelude.{◌≡◌, ◌<◌, ◌≤◌};
 ghost use Rattle.rules.specs.V2.{lengths_bit, colour, read_length, flagged_lengths, read_lengths};
-ghost use Rattle.v2_parse.specs.Colours.{colours, moded};
+ghost use Rattle.v2_parse.specs.Lengths.{moded};
 
 use super::header::skips_bit;
 use read_bits::four::read_flags;
-use rules::{Bits, Got, V2Hdr, V2Lengths};
+use rules::{Bits, Got, Taken, V2Hdr};
 
 // 0 where lengths follow.
 fn lengths_bit(src: &[u8], hdr: V2Hdr, bits: Bits) -> Got
@@ -36,103 +36,47 @@ fn next_length(src: &[u8], flag: u32, first: u32, bits: Bits) -> Got
     if flag == 3 {
         return read_bits::get(src, bits, 4);
     }
-    let less = std::num::wrapping_sub_u32(flag / 2, flag % 2);
+    let less = (flag / 2).wrapping_sub(flag % 2);
     Got {
-        value: std::num::wrapping_sub_u32(first, less),
+        value: first.wrapping_sub(less),
         bits,
     }
 }
 
-// The remembered lengths of the three colours, for a result that has more beside them: a struct holds no array of arrays.
+// A length is above depth + 1: the four lengths so far, 0 where none was read, and the reader's state after them.
 #[derive(Clone, Copy)]
-pub struct Remembered {
-    pub first: [u32; 2],
-    pub second: [u32; 2],
-    pub third: [u32; 2],
+pub struct TooLong {
+    pub read: Taken<[u32; 4]>,
 }
 
-impl Remembered {
-    // Keeps each colour's pair of the 3 by 2 array.
-    pub fn of(lengths: [[u32; 2]; 3]) -> Remembered
-        ensures { colours result ≡ lengths }
-    {
-        let first = lengths[0];
-        let second = lengths[1];
-        let third = lengths[2];
-        Remembered {
-            first,
-            second,
-            third,
-        }
-    }
-
-    // Returns the 3 by 2 array that this was made of.
-    pub fn lengths(self) -> [[u32; 2]; 3]
-        ensures { result ≡ colours self }
-    {
-        let first = self.first;
-        let second = self.second;
-        let third = self.third;
-        [first, second, third]
-    }
-}
-
-// The lengths of one block, and what is remembered after them.
-#[derive(Clone, Copy)]
-pub struct BlockLengths {
-    pub read: V2Lengths,
-    pub remembered: Remembered,
-}
-
-impl BlockLengths {
-    fn of(read: V2Lengths, lengths: [[u32; 2]; 3]) -> BlockLengths
-        ensures { moded result ≡ record { lengths = read; mode = lengths } }
-    {
-        let remembered = Remembered::of(lengths);
-        BlockLengths { read, remembered }
-    }
-}
-
-// Reads the four lengths of a block, up to the first that is too long. What was remembered before it is a value of its own.
+// Reads the four lengths of a block, up to the first that is too long, and remembers each in its colour's pair.
 fn four_lengths(
     src: &[u8],
     depth: u32,
     row: usize,
-    lengths: [[u32; 2]; 3],
+    remembered: &mut [[u32; 2]; 3],
     bits: Bits,
-) -> BlockLengths
+) -> Result<Taken<[u32; 4]>, TooLong>
     requires { depth ≤ 16 }
-    ensures { moded result ≡ flagged_lengths src.now depth row lengths bits }
+    ensures { moded result remembered.new ≡ flagged_lengths src.now depth row remembered.old bits }
 {
-    let f = read_flags(src, bits);
-    let flags = f.value;
-    let mut remembered = lengths;
-    let mut four = [0u32; 4];
-    let mut at = f.bits;
-    let mut j: usize = 0;
-    while j < 4 {
-        let c = colour_of(row, j);
-        let g = next_length(src, flags[j], remembered[c][0], at);
-        let pair = [remembered[c][1], g.value];
-        remembered[c] = pair;
-        four[j] = g.value;
-        at = g.bits;
-        if depth + 1 < g.value {
-            let read = V2Lengths {
-                four,
-                long: true,
-                bits: at,
-            };
-            return BlockLengths::of(read, remembered);
-        }
-        j += 1;
-    }
-    let read = V2Lengths {
-        four,
-        long: false,
-        bits: at,
+    let flags = read_flags(src, bits);
+    let mut read = Taken {
+        value: [0u32; 4],
+        bits: flags.bits,
     };
-    BlockLengths::of(read, remembered)
+    for j in 0..4 {
+        let colour = colour_of(row, j);
+        let [first, second] = remembered[colour];
+        let length = next_length(src, flags.value[j], first, read.bits);
+        remembered[colour] = [second, length.value];
+        read.value[j] = length.value;
+        read.bits = length.bits;
+        if depth + 1 < length.value {
+            return Err(TooLong { read });
+        }
+    }
+    Ok(read)
 }
 
 // Reads a block's lengths: none where the stream says that all four are 0, and then what was remembered stays.
@@ -140,21 +84,18 @@ pub fn block_lengths(
     src: &[u8],
     hdr: V2Hdr,
     row: usize,
-    lengths: [[u32; 2]; 3],
+    remembered: &mut [[u32; 2]; 3],
     bits: Bits,
-) -> BlockLengths
+) -> Result<Taken<[u32; 4]>, TooLong>
     requires { hdr.depth ≤ 16 }
-    ensures { moded result ≡ read_lengths src.now hdr row lengths bits }
+    ensures { moded result remembered.new ≡ read_lengths src.now hdr row remembered.old bits }
 {
-    let g = lengths_bit(src, hdr, bits);
-    let next = g.bits;
-    if g.value == 0 {
-        return four_lengths(src, hdr.depth, row, lengths, next);
+    let flag = lengths_bit(src, hdr, bits);
+    if flag.value == 0 {
+        return four_lengths(src, hdr.depth, row, remembered, flag.bits);
     }
-    let read = V2Lengths {
-        four: [0u32; 4],
-        long: false,
-        bits: next,
-    };
-    BlockLengths::of(read, lengths)
+    Ok(Taken {
+        value: [0u32; 4],
+        bits: flag.bits,
+    })
 }

@@ -14,7 +14,7 @@ use Rattle.rules.specs.declared.reader.Bits.{Bits}
 use Rattle.rules.specs.declared.reader.Got.{Got}
 use Rattle.rules.specs.declared.reader.Taken.{Taken}
 use Rattle.rules.specs.declared.v2.V2Hdr.{V2Hdr}
-use Rattle.rules.specs.declared.v2.V2Block.TheVariants.{Next}
+use Rattle.rules.specs.V2.{Next}
 use Rattle.rules.specs.Reader.{fresh, has_filler, read, four, signed}
 use Rattle.rules.specs.Frame.{tabulate}
 use Rattle.rules.specs.V2.{field_widths, header, fresh_row, read_scale, read_motion, base, base_refusal, lengths_bit, read_length, Moded, length_step, lengths_from, no_lengths, flagged_lengths, read_lengths, position, Differences, difference_step, differences_from, read_differences, tail, based_tail, Block, read_block}

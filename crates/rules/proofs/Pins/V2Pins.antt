@@ -9,8 +9,8 @@ use Rattle.rules.specs.declared.reader.Bits.{Bits}
 use Rattle.rules.specs.declared.v2.V2Hdr.{V2Hdr}
 use Rattle.rules.specs.declared.reader.Taken.{Taken}
 use Rattle.rules.specs.declared.v2.V2Row.{V2Row}
-use Rattle.rules.specs.declared.v2.V2Block.{V2Block}
-use Rattle.rules.specs.declared.v2.V2Block.TheVariants.{Next, EarlyMotion, Outside, LongDifference}
+use Rattle.rules.specs.V2.{V2Block}
+use Rattle.rules.specs.V2.{Next, EarlyMotion, Outside, LongDifference}
 use Rattle.rules.specs.Reader.{fresh, fetched, counted, held, read, fields, four, signed, read_signed}
 use Rattle.rules.specs.Frame.{tabulate, change_cells}
 use Rattle.rules.specs.V2.{Kind, field_widths, header, top, option_1, option_2, option_4, aligned, fresh_row, fresh_mode, scale_steps, rescaled, read_scale, read_motion, Base, given, copied, averaged, repeated, motion_offsets, motion_averages, reference, referred, base, refers_before, base_refusal, lengths_bit, colour, read_length, Moded, length_step, lengths_from, no_lengths, flagged_lengths, read_lengths, position, Differences, difference_step, differences_from, read_differences, Block, number, state_after, Tail, tail, based_tail, read_block, Row, then, blocks, read_row, Frame, then_rows, rows, read_frame, base_cell, block_cells, write, apply, frame, average, value, hold, sample, sample_kind, decoded}

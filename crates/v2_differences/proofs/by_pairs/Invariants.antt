@@ -1,14 +1,10 @@
--- The loop's invariant: the differences from number k on, two at a time, come to what all sixteen come to, in each row whose
+-- The loop's invariant: the differences from number 2 half on, two at a time, come to what all sixteen come to, in each row whose
 -- positions the table's part has.
-use Rattle.std.proofs.Common.{◌≡◌, ℕ, ◌-◌, ◌%◌, ◌≤◌}
+use Rattle.std.proofs.Common.{◌≡◌, ℕ, ◌-◌, ◌*◌}
 use Rattle.rules.specs.V2.{differences_from}
 use Rattle.v2_differences.specs.Positions.{row_positions}
 use Rattle.v2_differences.proofs.by_pairs.Given as goal
 
-abbrev pub invariant-loop-k : goal.invariant-loop-k
-invariant-loop-k l =
-    ((l.k ≤ 16) × (l.k % 2 ≡ 0))
-    × ((row : ℕ) → l.positions ≡ row_positions row → differences_from l.src row l.lengths 16 0 (record { values = l.initial.values; bits = l.initial.at }) ≡ differences_from l.src row l.lengths (16 - l.k) l.k (record { values = l.values; bits = l.at }))
-
-abbrev pub decreases-loop-k : goal.decreases-loop-k
-decreases-loop-k l = 16 - l.k
+abbrev pub invariant-loop-half : goal.invariant-loop-half
+invariant-loop-half l =
+    (row : ℕ) → l.positions ≡ row_positions row → differences_from l.src row l.lengths 16 0 (record { values = l.initial.values; bits = l.initial.at }) ≡ differences_from l.src row l.lengths (16 - 2 * l.half) (2 * l.half) (record { values = l.values; bits = l.at })

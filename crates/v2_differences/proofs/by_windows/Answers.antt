@@ -9,7 +9,7 @@ pub four_at-four-requires : goal.four_at-four-requires
 four_at-four-requires c = let l = c.loop-j.invariant in
     let there = c.requires.0.there in
     let small = c.requires.1.0.most _ c.loop-j-test.true in
-    (small, omega (arith, small, there, l.late, l.soon, c.loop-j-test.true))
+    (omega arith, (small, omega (arith, small, there, l.late, l.soon, c.loop-j-test.true)))
 
 pub store_four-requires : goal.store_four-requires
 store_four-requires c = (c.requires.1.1, omega (arith, c.loop-j-test.true))

@@ -9,7 +9,7 @@ use Rattle.v2_cells.proofs.Fill.{filled_none, filled_more, filled_all}
 use Rattle.v2_cells.proofs.samples.build.Goals as goal
 
 pub loop-i-init : goal.loop-i-init
-loop-i-init c = filled_none c.requires.1.1.1
+loop-i-init c = filled_none c.told-samples
 
 pub sample_of-requires : goal.sample_of-requires
 sample_of-requires c =
@@ -17,7 +17,7 @@ sample_of-requires c =
     let z = get_or c.args.d.now k (pos 0) in
     let s : Small z = c.requires.0 k in
     let f : SFits w32 z = record { sfits = omega arith } in
-    rw (to_z-of_z w32 z f, to_z-of_z w32 c.args.scale c.ranges.scale) (s, (c.requires.1.0, c.requires.1.1.0))
+    rw (to_z-of_z w32 z f, to_z-of_z w32 c.args.scale c.ranges.scale) (s, c.requires.1)
 
 pub loop-i-preserved : goal.loop-i-preserved
 loop-i-preserved c =

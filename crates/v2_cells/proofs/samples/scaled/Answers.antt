@@ -28,18 +28,18 @@ pub overflow_add-result-2 : goal.overflow_add-result-2
 overflow_add-result-2 c =
     let f = c.requires in
     let m = pos 2 *ℤ c.args.scale in
-    simp (c.wide.ensures, to_z-of_z w32 (pos c.args.base) (record { sfits = omega arith }), to_z-of_z w32 c.args.d c.ranges.d, to_z-of_z w32 c.args.scale c.ranges.scale, to_z-of_z w32 m (record { sfits = f.twice }), to_z-of_z w32 (m +ℤ pos 1) (record { sfits = f.factor }), to_z-of_z w32 (c.args.d *ℤ (m +ℤ pos 1)) (record { sfits = f.product })) (record { sfits = f.sum })
+    simp (c.from.ensures, to_z-of_z w32 (pos c.args.base) (record { sfits = omega arith }), to_z-of_z w32 c.args.d c.ranges.d, to_z-of_z w32 c.args.scale c.ranges.scale, to_z-of_z w32 m (record { sfits = f.twice }), to_z-of_z w32 (m +ℤ pos 1) (record { sfits = f.factor }), to_z-of_z w32 (c.args.d *ℤ (m +ℤ pos 1)) (record { sfits = f.product })) (record { sfits = f.sum })
 
 pub overflow_add-result-3 : goal.overflow_add-result-3
 unfolding value
 overflow_add-result-3 c =
     let f = c.requires in
     let m = pos 2 *ℤ c.args.scale in
-    simp (c.wide.ensures, to_z-of_z w32 (pos c.args.base) (record { sfits = omega arith }), to_z-of_z w32 c.args.d c.ranges.d, to_z-of_z w32 c.args.scale c.ranges.scale, to_z-of_z w32 m (record { sfits = f.twice }), to_z-of_z w32 (m +ℤ pos 1) (record { sfits = f.factor }), to_z-of_z w32 (c.args.d *ℤ (m +ℤ pos 1)) (record { sfits = f.product }), to_z-of_z w32 (pos c.args.base +ℤ c.args.d *ℤ (m +ℤ pos 1)) (record { sfits = f.sum })) (record { sfits = f.whole })
+    simp (c.from.ensures, to_z-of_z w32 (pos c.args.base) (record { sfits = omega arith }), to_z-of_z w32 c.args.d c.ranges.d, to_z-of_z w32 c.args.scale c.ranges.scale, to_z-of_z w32 m (record { sfits = f.twice }), to_z-of_z w32 (m +ℤ pos 1) (record { sfits = f.factor }), to_z-of_z w32 (c.args.d *ℤ (m +ℤ pos 1)) (record { sfits = f.product }), to_z-of_z w32 (pos c.args.base +ℤ c.args.d *ℤ (m +ℤ pos 1)) (record { sfits = f.sum })) (record { sfits = f.whole })
 
 pub returns : goal.returns
 unfolding value
 returns c =
     let f = c.requires in
     let m = pos 2 *ℤ c.args.scale in
-    simp (c.wide.ensures, to_z-of_z w32 (pos c.args.base) (record { sfits = omega arith }), to_z-of_z w32 c.args.d c.ranges.d, to_z-of_z w32 c.args.scale c.ranges.scale, to_z-of_z w32 m (record { sfits = f.twice }), to_z-of_z w32 (m +ℤ pos 1) (record { sfits = f.factor }), to_z-of_z w32 (c.args.d *ℤ (m +ℤ pos 1)) (record { sfits = f.product }), to_z-of_z w32 (pos c.args.base +ℤ c.args.d *ℤ (m +ℤ pos 1)) (record { sfits = f.sum }), to_z-of_z w32 (pos c.args.base +ℤ c.args.d *ℤ (m +ℤ pos 1) +ℤ c.args.scale) (record { sfits = f.whole })) refl
+    simp (c.from.ensures, to_z-of_z w32 (pos c.args.base) (record { sfits = omega arith }), to_z-of_z w32 c.args.d c.ranges.d, to_z-of_z w32 c.args.scale c.ranges.scale, to_z-of_z w32 m (record { sfits = f.twice }), to_z-of_z w32 (m +ℤ pos 1) (record { sfits = f.factor }), to_z-of_z w32 (c.args.d *ℤ (m +ℤ pos 1)) (record { sfits = f.product }), to_z-of_z w32 (pos c.args.base +ℤ c.args.d *ℤ (m +ℤ pos 1)) (record { sfits = f.sum }), to_z-of_z w32 (pos c.args.base +ℤ c.args.d *ℤ (m +ℤ pos 1) +ℤ c.args.scale) (record { sfits = f.whole })) refl

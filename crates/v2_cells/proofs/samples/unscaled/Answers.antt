@@ -8,8 +8,8 @@ use Rattle.v2_cells.proofs.samples.unscaled.Goals as goal
 
 pub overflow_add-result : goal.overflow_add-result
 overflow_add-result c =
-    simp (c.wide.ensures, to_z-of_z w32 (pos c.args.base) (record { sfits = omega arith }), to_z-of_z w32 c.args.d c.ranges.d) c.requires
+    simp (c.from.ensures, to_z-of_z w32 (pos c.args.base) (record { sfits = omega arith }), to_z-of_z w32 c.args.d c.ranges.d) c.requires
 
 pub returns : goal.returns
 returns c =
-    simp (c.wide.ensures, to_z-of_z w32 (pos c.args.base) (record { sfits = omega arith }), to_z-of_z w32 c.args.d c.ranges.d, to_z-of_z w32 (pos c.args.base +ℤ c.args.d) c.requires) refl
+    simp (c.from.ensures, to_z-of_z w32 (pos c.args.base) (record { sfits = omega arith }), to_z-of_z w32 c.args.d c.ranges.d, to_z-of_z w32 (pos c.args.base +ℤ c.args.d) c.requires) refl

@@ -1,36 +1,36 @@
 -- No length is above 17, so that no difference leaves 17 bits.
-use native.Mathlib.Omega.{arith}
-use mir.Syntax.{w32}
+use Rattle.std.proofs.Common.{refl, ap, ◌∙◌, arith, w32}
 use mir.ValLaws.{to_z-of_z}
 use Rattle.rules.proofs.V2Bounds.{top_below}
-use Rattle.v2_frame.proofs.BlockLaws.{tail_mode, tail_long, tail_next, tail_small, tail_samples, kept_long, scale_fits}
+use Rattle.v2_frame.specs.Blocks.{block_result}
+use Rattle.v2_frame.proofs.BlockLaws.{passed, tail_mode, tail_long, tail_next, tail_small, tail_samples, scale_fits}
 use Rattle.v2_frame.proofs.block.read_tail.Goals as goal
 
-pub returns-then-read : goal.returns-then-read
-returns-then-read c =
-    let e = c.block_lengths-l.ensures in
+pub returns-in_err-read : goal.returns-in_err-read
+returns-in_err-read c =
+    let e = c.in_err-read.ensures in
+    let is = passed c.from_residual.result _ c.from_residual.ensures.1 in
     record {
-      outcome = tail_long _ _ _ _ _ _ _ _ e c.if-read.true;
-      remembered = tail_mode _ _ _ _ _ _ _ _ e;
-      samples = kept_long _ _ _;
+      outcome = is ∙ ap block_result (tail_long _ _ _ c.args.state _ _ _ _ e refl);
+      remembered = tail_mode _ _ _ c.args.state _ _ _ _ e;
+      samples = rw is;
     }
 
-pub block_differences-b2-requires : goal.block_differences-b2-requires
-block_differences-b2-requires c = record { row = _; are = c.requires.1.1.1 }
+pub block_differences-after-requires : goal.block_differences-after-requires
+block_differences-after-requires c = record { row = _; are = c.requires.1.1 }
 
 pub build-requires : goal.build-requires
 build-requires c =
     let z = c.args.state.scale in
-    let e = c.block_lengths-l.ensures in
     rw (to_z-of_z w32 z (scale_fits z c.requires.1.0))
-    (tail_small _ _ _ c.args.state _ _ _ _ e _ _ (c.block_differences-b2.ensures _ c.requires.1.1.1) c.requires.0 c.if-read.false, (c.requires.1.0, (omega (arith, c.top_of-most.ensures, top_below c.args.hdr c.requires.0), c.requires.1.1.0)))
+    (tail_small _ _ _ c.args.state _ _ _ _ c.in_ok-read.ensures _ _ (c.block_differences-after.ensures _ c.requires.1.1) c.requires.0 refl, (c.requires.1.0, omega (arith, c.top_of.ensures, top_below c.args.hdr c.requires.0)))
 
 pub returns : goal.returns
 returns c =
     let z = c.args.state.scale in
-    let e = c.block_lengths-l.ensures in
-    let ed = c.block_differences-b2.ensures _ c.requires.1.1.1 in record {
-      outcome = tail_next _ _ _ _ _ _ _ _ e _ _ ed c.if-read.false;
-      remembered = tail_mode _ _ _ _ _ _ _ _ e;
-      samples = tail_samples _ _ _ _ _ _ _ _ e _ _ ed c.args.base.now _ c.args.samples.now _ c.top_of-most.ensures (simp (to_z-of_z w32 z (scale_fits z c.requires.1.0)) at c.build.ensures);
+    let e = c.in_ok-read.ensures in
+    let ed = c.block_differences-after.ensures _ c.requires.1.1 in record {
+      outcome = ap block_result (tail_next _ _ _ _ _ _ _ _ e _ _ ed refl);
+      remembered = tail_mode _ _ _ c.args.state _ _ _ _ e;
+      samples = tail_samples _ _ _ c.args.state _ _ _ _ e _ _ ed c.args.base.now _ _ c.top_of.ensures (simp (to_z-of_z w32 z (scale_fits z c.requires.1.0)) at c.build.ensures);
     }

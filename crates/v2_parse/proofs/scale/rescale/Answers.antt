@@ -5,10 +5,10 @@ use Rattle.v2_parse.proofs.HeaderLaws.{got_below, step_fits, rescaled_set, resca
 use Rattle.v2_parse.proofs.scale.rescale.Goals as goal
 
 pub signed-requires : goal.signed-requires
-signed-requires c = omega (arith, got_below _ _ _ _ c.get-v.ensures)
+signed-requires c = omega (arith, got_below _ _ _ _ c.get-set.ensures)
 
 pub returns-then-code-eq3 : goal.returns-then-code-eq3
-returns-then-code-eq3 c = rw (to_z-of_z w32 c.signed.result (record { sfits = c.signed.type_inv })) (rescaled_set _ _ _ _ c.get-code.ensures _ _ c.if-code-eq3.true c.get-v.ensures c.signed.ensures)
+returns-then-code-eq3 c = rw (to_z-of_z w32 c.signed.result (record { sfits = c.signed.type_inv })) (rescaled_set _ _ _ _ c.get-code.ensures _ _ c.if-code-eq3.true c.get-set.ensures c.signed.ensures)
 
 pub stepped-requires : goal.stepped-requires
 stepped-requires c =
