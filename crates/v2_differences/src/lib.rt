@@ -12,7 +12,7 @@ use read_bits::{get_whole, read_signed};
 use read_fields::{field, signed_of};
 use read_window::four::four_at;
 use read_window::{BACK_BITS, BACK_BYTES, SHORT_BITS, stands_within, state_at};
-use rules::{Bits, V2Row};
+use rules::{Bits, Taken, V2Row};
 
 // Where the sixteen differences go in even rows, and in odd ones: docs/RULES.md, "V2", a block's differences.
 const POSITIONS: [[u8; 16]; 2] = [
@@ -41,38 +41,26 @@ fn entry(positions: &[u8; 16], k: usize) -> usize
     requires { OfARow positions.now × (k < 16) }
     ensures { (result ≡ slice_index positions.now k) × (result < 16) }
 {
-    positions[k] as usize
-}
-
-// Two differences, and the reader's state after them.
-#[derive(Clone, Copy)]
-struct Pair {
-    first: i32,
-    second: i32,
-    bits: Bits,
+    usize::from(positions[k])
 }
 
 // Two differences of n bits, by one read where 32 bits hold both: a read costs more than a cut of its value.
-fn read_pair(src: &[u8], bits: Bits, n: u32) -> Pair
+fn read_pair(src: &[u8], bits: Bits, n: u32) -> Taken<(i32, i32)>
     ensures { result ≡ signed_pair src.now n bits }
 {
     if n <= 16 {
-        let g = get_whole(src, bits, 2 * n);
-        let v = g.value as u64;
-        let next = g.bits;
-        return Pair {
-            first: signed_of(field(v, n, n), n),
-            second: signed_of(field(v, 0, n), n),
-            bits: next,
+        let both = get_whole(src, bits, 2 * n);
+        let v = u64::from(both.value);
+        return Taken {
+            value: (signed_of(field(v, n, n), n), signed_of(field(v, 0, n), n)),
+            bits: both.bits,
         };
     }
-    let a = read_signed(src, bits, n);
-    let b = read_signed(src, a.bits, n);
-    let next = b.bits;
-    Pair {
-        first: a.value,
-        second: b.value,
-        bits: next,
+    let first = read_signed(src, bits, n);
+    let second = read_signed(src, first.bits, n);
+    Taken {
+        value: (first.value, second.value),
+        bits: second.bits,
     }
 }
 
@@ -91,8 +79,9 @@ fn by_pairs(
     for half in 0..V2Row::BLOCK / 2 {
         let k = 2 * half;
         let pair = read_pair(src, at, lengths[k / 4]);
-        values[entry(positions, k)] = pair.first;
-        values[entry(positions, k + 1)] = pair.second;
+        let (first, second) = pair.value;
+        values[entry(positions, k)] = first;
+        values[entry(positions, k + 1)] = second;
         at = pair.bits;
     }
     at
@@ -141,16 +130,7 @@ fn by_windows(
 fn are_short(lengths: [u32; 4]) -> bool
     ensures { result ≡ short lengths }
 {
-    if SHORT_BITS < lengths[0] {
-        return false;
-    }
-    if SHORT_BITS < lengths[1] {
-        return false;
-    }
-    if SHORT_BITS < lengths[2] {
-        return false;
-    }
-    lengths[3] <= SHORT_BITS
+    lengths.iter().all(|length| *length <= SHORT_BITS)
 }
 
 // The sixteen differences, each at its position, for a row that has these.
