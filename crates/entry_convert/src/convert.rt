@@ -2,9 +2,9 @@
 ghost use Rattle.std.specs.Prelude.{◌≡◌, ◌*◌, ◌%◌, length};
 ghost use Rattle.entry_convert.specs.Convert.{any_marked, Frame, late_answer, late_stream, call, Yields};
 
-use entry_refusals::{Lending, is_too_small, refuse};
+use entry_refusals::{is_too_small, refuse};
 use frame_map::greatest_of;
-use rules::{Answer, Size, V2Row};
+use rules::{Refusal, Size, V2Row};
 use samsung::decode_v0_reference_map;
 use write_frame::measure::v2_length;
 use write_frame::write::write_v2;
@@ -30,14 +30,14 @@ fn write_decoded(
     ensures stream { stream.new ≡ late_stream width height samples.now map.now stream.old }
 {
     if is_marked(map) {
-        return Written::refused(Answer::MARKED);
+        return Written::refused(Refusal::Marked.number());
     }
     if is_too_bright(samples) {
-        return Written::refused(Answer::TOO_BRIGHT);
+        return Written::refused(Refusal::TooBright.number());
     }
     let length = v2_length(samples, width, height);
     if stream.len() < length {
-        return Written::refused(Answer::SHORT_OUTPUT);
+        return Written::refused(Refusal::ShortOutput.number());
     }
     write_v2(stream, samples, width, height);
     Written::done(length as u64)
@@ -58,19 +58,19 @@ pub fn v0_to_v2(
         result samples.new map.new stream.new }
 {
     let size = Size { width, height };
-    let refusal = refuse(
+    let refused = refuse(
         size,
         is_too_small(size),
         samples.len(),
-        Lending::Length(offsets.len()),
-        Lending::Length(map.len()),
-        Lending::Nothing,
+        Some(offsets.len()),
+        Some(map.len()),
+        None,
     );
-    if refusal != 0 {
-        return Written::refused(refusal);
+    if let Err(refusal) = refused {
+        return Written::refused(refusal.number());
     }
     if width % V2Row::BLOCK != 0 {
-        return Written::refused(Answer::BAD_WIDTH);
+        return Written::refused(Refusal::BadWidth.number());
     }
     // The answer isn't needed: no refusal of this decoder is left, so that it is done, and where a word was missing the map tells
     // it (16).

@@ -4,9 +4,9 @@ ghost use Rattle.frame_blank.specs.Blanking.{stated, unstated};
 ghost use Rattle.frame_blank.specs.Calls.{call, Yields};
 ghost use Rattle.frame_blank.specs.MapLent.{meant};
 
-use entry_refusals::{Lending, refuse_lent};
-use frame_blank::{Blanked, Filling, blank_frame, is_bad_map, tally_frame};
-use rules::{Answer, Size};
+use entry_refusals::refuse_lent;
+use frame_blank::{Blanked, blank_frame, is_bad_map, tally_frame};
+use rules::{Refusal, Size};
 
 // 13: a list has less than three numbers for each run.
 fn is_short_list(list: usize, runs: usize) -> bool
@@ -22,24 +22,23 @@ fn blank_by(
     map: &[u8],
     width: usize,
     height: usize,
-    fill: Filling,
+    fill: Option<u16>,
     runs: &mut [u32],
 ) -> Blanked
     ensures { Yields (call (meant fill) samples.old map.now width height runs.old)
         result samples.new runs.new }
 {
     let size = Size { width, height };
-    let refusal = refuse_lent(size, samples.len(), Lending::Length(map.len()));
-    if refusal != 0 {
-        return Blanked::refused(refusal);
+    if let Err(refusal) = refuse_lent(size, samples.len(), Some(map.len())) {
+        return Blanked::refused(refusal.number());
     }
     let n = width * height;
     if is_bad_map(&map[..n]) {
-        return Blanked::refused(Answer::BAD_MAP);
+        return Blanked::refused(Refusal::BadMap.number());
     }
     let found = tally_frame(&map[..n], size);
     if is_short_list(runs.len(), found.runs) {
-        return Blanked::refused(Answer::SHORT_RUNS);
+        return Blanked::refused(Refusal::ShortRuns.number());
     }
     blank_frame(&mut samples[..n], &map[..n], size, fill, runs);
     Blanked::done(found.marked as u64, found.runs as u64)
@@ -57,7 +56,7 @@ pub fn blank_with(
     ensures { Yields (call (stated fill) samples.old map.now width height runs.old)
         result samples.new runs.new }
 {
-    blank_by(samples, map, width, height, Filling::Stated(fill), runs)
+    blank_by(samples, map, width, height, Some(fill), runs)
 }
 
 // Sets the samples that a map marks to the nearest unmarked sample to their left, of their row and of their column's parity, or to
@@ -72,5 +71,5 @@ pub fn blank(
     ensures { Yields (call unstated samples.old map.now width height runs.old)
         result samples.new runs.new }
 {
-    blank_by(samples, map, width, height, Filling::Unstated, runs)
+    blank_by(samples, map, width, height, None, runs)
 }

@@ -11,8 +11,7 @@ use Rattle.rules.specs.declared.answer.Size.{Size}
 use Rattle.rules.specs.Frame.{cells}
 use Rattle.rules.specs.V0.{blocks_in}
 use Rattle.rules.specs.Answer.{too_large, scratch_bytes, first_of}
-use Rattle.entry_refusals.specs.declared.Lending.{Lending}
-use Rattle.entry_refusals.specs.declared.Lending.TheVariants.{Length}
+use Rattle.std.specs.Prelude.{Option, Some}
 use Rattle.entry_refusals.specs.Lending.{short}
 use Rattle.rules.proofs.Tests.{neither}
 
@@ -26,7 +25,7 @@ unfolding too_large
 size_most z e = let q = neither _ _ e in (ltb-false _ _ q.0, ltb-false _ _ q.1)
 
 -- What a call that is not refused may count on.
-pub record Room (z : Size) (samples : ℕ) (offsets map scratch : Lending) : Type 0 where
+pub record Room (z : Size) (samples : ℕ) (offsets map scratch : Option ℕ) : Type 0 where
   pub wide : z.width ≤ most_side
   pub high : z.height ≤ most_side
   pub few : z.width * z.height ≤ 268_435_456
@@ -43,7 +42,7 @@ first_zero false false true t4 e = absurd (omega arith)
 first_zero false false false true e = absurd (omega arith)
 first_zero false false false false e = (refl, (refl, refl))
 
-pub room : (z : Size) (small : Bool) (samples : ℕ) (offsets map scratch : Lending) (k : ℕ)
+pub room : (z : Size) (small : Bool) (samples : ℕ) (offsets map scratch : Option ℕ) (k : ℕ)
     → k ≡ first_of (too_large z) small (ltb samples (cells z) || short offsets z.height) (short map (cells z) || short scratch (scratch_bytes z))
     → k ≡ 0 → Room z samples offsets map scratch
 room z small samples offsets map scratch k e q =
@@ -62,7 +61,7 @@ room z small samples offsets map scratch k e q =
     }
 
 -- A buffer that is lent and not short is long enough.
-pub long_enough : (m n : ℕ) → short (Length m) n ≡ false → n ≤ m
+pub long_enough : (m n : ℕ) → short (Some m) n ≡ false → n ≤ m
 unfolding short
 long_enough m n e = ltb-false m n e
 

@@ -1,4 +1,5 @@
 -- What bytes say, one by one and as a list.
+use Rattle.std.specs.Int.{from_bool}
 use mathlib.Core.Path.{◌≡◌, refl, ap, ap₂, ◌∙◌}
 use mathlib.Core.Bool.{Bool, true, false, ◌||◌, ◌&&◌, not}
 use mathlib.Core.List.{List, [], ◌∷◌, ◌++◌}
@@ -26,6 +27,12 @@ other_marked (suc b) n = lt-ltb 0 (suc b) (omega arith)
 pub unmarked_zero : (b : ℕ) → marked b ≡ false → b ≡ 0
 unfolding marked
 unmarked_zero b e = let k = ltb-false 0 b e in omega arith
+
+-- A test as a number.
+pub bit_is : (t : Bool) → from_bool t ≡ bit t
+unfolding bit
+bit_is true = refl
+bit_is false = refl
 
 pub bit_most : (t : Bool) → bit t ≤ 1
 unfolding bit

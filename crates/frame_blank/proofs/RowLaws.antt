@@ -1,4 +1,5 @@
 -- What the loops over a row keep: what is done, with what is left from here, is the whole row's.
+use Rattle.std.specs.Prelude.{Option, Some, None}
 use mathlib.Core.Path.{◌≡◌, refl, sym, ap, ap₂, ◌∙◌}
 use mathlib.Core.Bool.{true, false, ◌&&◌, not, cond}
 use mathlib.Core.List.{List, [], ◌∷◌, ◌++◌, append-nil}
@@ -16,8 +17,6 @@ use Rattle.frame_map.proofs.GreatestLaws.{left_more}
 use Rattle.frame_blank.specs.declared.Tally.{Tally}
 use Rattle.frame_blank.specs.Blanking.{Fill, marked, bit, count, unstated, blank_row, run, stretch, runs_from, row_runs, numbers}
 use Rattle.frame_blank.specs.MapLent.{tally, meant, left_of, turns, by_turns, RowBlanked}
-use Rattle.frame_blank.specs.declared.Filling.{Filling}
-use Rattle.frame_blank.specs.declared.Filling.TheVariants.{Stated, Unstated}
 use Rattle.frame_blank.specs.declared.Turns.{Turns}
 use Rattle.frame_blank.proofs.ByteLaws.{bit_most, bit_set, start_is, none_marked, count_none}
 use Rattle.frame_blank.proofs.RunLaws.{runs_step, runs_none, left_at, left_passed, left_run, stretch_most, stretch_marked}
@@ -149,16 +148,17 @@ pub record Turned (row₀ : List ℕ) (from columns a b end : ℕ) (row : List �
   pub kept : length row ≡ length row₀
   pub left : sets row at (by_turns (end - at) a b) ≡ sets row₀ from (by_turns columns a b)
 
-pub turned_none : (row : List ℕ) (from columns a b : ℕ) → Turned row from columns a b (from + columns) row from
-turned_none row from columns a b =
-    let e : from + columns - from ≡ columns = omega arith in record { ends = refl; below = omega arith; kept = refl; left = rw e }
+pub turned_none : (row : List ℕ) (from columns a b at : ℕ) → at ≡ from → Turned row from columns a b (from + columns) row at
+turned_none row from columns a b at same =
+    let e : from + columns - from ≡ columns = omega arith in
+    record { ends = refl; below = omega arith; kept = refl; left = rw (same, e) }
 
 module _ {row₀ : List ℕ} {from columns a b end : ℕ} {row : List ℕ} {at : ℕ} (t : Turned row₀ from columns a b end row at) where
-  pub turned_two : 1 < end - at → Turned row₀ from columns a b end (set (set row at a) (at + 1) b) (at + 2)
+  pub turned_two : (next : ℕ) → next ≡ at + 2 → 1 < end - at → Turned row₀ from columns a b end (set (set row at a) (at + 1) b) next
   unfolding by_turns
-  turned_two h =
+  turned_two next e h =
       let one : at + 1 ≡ suc at = omega arith in
-      let two : at + 2 ≡ suc (suc at) = omega arith in
+      let two : next ≡ suc (suc at) = omega arith in
       let more : end - at ≡ suc (suc (end - suc (suc at))) = omega arith in
       record {
         ends = t.ends;
@@ -167,19 +167,19 @@ module _ {row₀ : List ℕ} {from columns a b end : ℕ} {row : List ℕ} {at :
         left = rw (one, two) (rw more at t.left);
       }
 
-  pub turned_last : at < end → end - at ≤ 1 → set row at a ≡ sets row₀ from (by_turns columns a b)
+  pub turned_last : (last : ℕ) → last ≡ at → end ≡ at + 1 → set row last a ≡ sets row₀ from (by_turns columns a b)
   unfolding by_turns
-  turned_last h k = let one : end - at ≡ 1 = omega arith in rw one at t.left
+  turned_last last same h = let one : end - at ≡ 1 = omega arith in rw same (rw one at t.left)
 
   pub turned_all : end ≤ at → row ≡ sets row₀ from (by_turns columns a b)
   unfolding by_turns
   turned_all h = let none : end - at ≡ 0 = omega arith in rw none at t.left
 
 -- A fill has two values in a run, by turns.
-by_turns_fill : (fill : Filling) (row map : List ℕ) (c : ℕ) → marked (get_or map c 0) ≡ true → meant fill row map (suc (suc c)) ≡ meant fill row map c
+by_turns_fill : (fill : Option ℕ) (row map : List ℕ) (c : ℕ) → marked (get_or map c 0) ≡ true → meant fill row map (suc (suc c)) ≡ meant fill row map c
 unfolding meant unstated
-by_turns_fill (Stated v) row map c e = refl
-by_turns_fill Unstated row map c e = rw e
+by_turns_fill (Some v) row map c e = refl
+by_turns_fill None row map c e = rw e
 
 -- What a blanked sample is, the next of its parity is set to, if it is marked.
 unstated_next : (row map : List ℕ) (c : ℕ) → c < length row → get_or (blank_row unstated row map) c 0 ≡ unstated row map (suc (suc c))
@@ -190,7 +190,7 @@ left_is : (row : List ℕ) (i c by : ℕ) → i ≡ c + by → left_of row i by 
 unfolding left_of
 left_is row i c by e = let back : i - by ≡ c = omega arith in rw (le-ltb i by (omega arith), back)
 
-module _ (fill : Filling) (row₀ map : List ℕ) where
+module _ (fill : Option ℕ) (row₀ map : List ℕ) where
   abbrev want : List ℕ
   want = blank_row (meant fill) row₀ map
 
@@ -205,12 +205,12 @@ module _ (fill : Filling) (row₀ map : List ℕ) where
       before : (c i : ℕ) → Filled (blank_row unstated row₀ map) row₀ row i → c < i → get_or row c 0 ≡ unstated row₀ map (suc (suc c))
       before c i f h = filled_get (blank_row_length unstated row₀ map) f c h ∙ unstated_next row₀ map c (omega (arith, f.below))
 
-      go : (fill : Filling) (i : ℕ) → Filled (blank_row (meant fill) row₀ map) row₀ row i
+      go : (fill : Option ℕ) (i : ℕ) → Filled (blank_row (meant fill) row₀ map) row₀ row i
           → ((turns fill row i).first ≡ meant fill row₀ map i) × ((turns fill row i).second ≡ meant fill row₀ map (suc i))
-      go (Stated v) i f = (refl, refl)
-      go Unstated zero f = (refl, refl)
-      go Unstated (suc zero) f = (refl, before 0 1 f (omega arith))
-      go Unstated (suc (suc c)) f = (left_is row (suc (suc c)) c 2 (omega arith) ∙ before c (suc (suc c)) f (omega arith), left_is row (suc (suc c)) (suc c) 1 (omega arith) ∙ before (suc c) (suc (suc c)) f (omega arith))
+      go (Some v) i f = (refl, refl)
+      go None zero f = (refl, refl)
+      go None (suc zero) f = (refl, before 0 1 f (omega arith))
+      go None (suc (suc c)) f = (left_is row (suc (suc c)) c 2 (omega arith) ∙ before c (suc (suc c)) f (omega arith), left_is row (suc (suc c)) (suc c) 1 (omega arith) ∙ before (suc c) (suc (suc c)) f (omega arith))
 
   filled_turns : (k a b : ℕ) (row : List ℕ) (i : ℕ) → Filled want row₀ row i → i + k ≤ length row₀ → ((j : ℕ) → j < k → marked (get_or map (i + j) 0) ≡ true)
       → a ≡ meant fill row₀ map i → b ≡ meant fill row₀ map (suc i) → Filled want row₀ (sets row i (by_turns k a b)) (i + k)
@@ -279,7 +279,7 @@ module _ {row : ℕ} {m : List ℕ} {from : ℕ} {runs₀ runs : List ℕ} {at c
 
 -- ── A row's call ──
 
-module _ (fill : Filling) {row : ℕ} {m : List ℕ} {from : ℕ} {samples₀ runs₀ : List ℕ} where
+module _ (fill : Option ℕ) {row : ℕ} {m : List ℕ} {from : ℕ} {samples₀ runs₀ : List ℕ} where
   -- Where nothing is left at a column all is set and listed.
   pub row_blanked : {samples runs : List ℕ} {at col : ℕ} → Listed row m from runs₀ runs at col → Filled (blank_row (meant fill) samples₀ m) samples₀ samples col
       → length samples₀ ≡ length m → length m ≤ col → RowBlanked (meant fill) row samples₀ m from runs₀ at samples runs

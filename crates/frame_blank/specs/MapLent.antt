@@ -1,32 +1,30 @@
 -- What the functions ask of what they are lent, what the loops over bytes find, and what a row's call leaves.
-use Rattle.std.specs.Prelude.{ℕ, zero, suc, ◌+◌, ◌-◌, ◌*◌, ◌≤◌, cond, ◌≡◌, List, [], ◌∷◌, ltb, length, get_or}
+use Rattle.std.specs.Prelude.{ℕ, zero, suc, ◌+◌, ◌-◌, ◌*◌, ◌≤◌, cond, ◌≡◌, List, [], ◌∷◌, ltb, length, get_or, Option, Some, None}
 use Rattle.std.proofs.lemmas.List.Edits.{sets}
 use Rattle.rules.specs.Limits.{most_side}
 use Rattle.rules.specs.declared.answer.Size.{Size}
 use Rattle.rules.specs.Frame.{cells}
 use Rattle.frame_blank.specs.declared.Tally.{Tally}
 use Rattle.frame_blank.specs.declared.Turns.{Turns}
-use Rattle.frame_blank.specs.declared.Filling.{Filling}
-use Rattle.frame_blank.specs.declared.Filling.TheVariants.{Stated, Unstated}
 use Rattle.frame_blank.specs.Blanking.{Fill, stated, unstated, blank_row, Run, count, row_runs, runs_of, numbers}
 
 -- How many samples are marked, and how many runs there are.
 abbrev pub tally : List ℕ → List Run → Tally
 tally m rs = record { marked = count m; runs = length rs }
 
--- The fill that is asked for.
-unfoldable pub meant : Filling → Fill
-meant (Stated v) = stated v
-meant Unstated = unstated
+-- The fill that is asked for: a stated value, or none is stated.
+unfoldable pub meant : Option ℕ → Fill
+meant (Some v) = stated v
+meant None = unstated
 
 -- What lies so many columns to the left in a row; 0 if that is past its start.
 unfoldable pub left_of : List ℕ → ℕ → ℕ → ℕ
 left_of row c by = cond (ltb c by) 0 (get_or row (c - by) 0)
 
 -- What a run is set to that starts at a column of a row, whose samples before it are set.
-unfoldable pub turns : Filling → List ℕ → ℕ → Turns
-turns (Stated v) row c = record { first = v; second = v }
-turns Unstated row c = record { first = left_of row c 2; second = left_of row c 1 }
+unfoldable pub turns : Option ℕ → List ℕ → ℕ → Turns
+turns (Some v) row c = record { first = v; second = v }
+turns None row c = record { first = left_of row c 2; second = left_of row c 1 }
 
 -- Two values by turns.
 unfoldable pub by_turns : ℕ → ℕ → ℕ → List ℕ

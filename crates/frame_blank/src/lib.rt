@@ -5,12 +5,13 @@
 ghost use Rattle.std.specs.Prelude.{◌≡◌, [], ◌∷◌, ◌+◌, ◌*◌, ◌≤◌, ◌<◌, ltb, length, drop};
 ghost use Rattle.std.proofs.lemmas.List.Edits.{sets};
 ghost use Rattle.rules.specs.Limits.{most_side};
+ghost use Rattle.rules.specs.Refusals.{refusal_number};
 ghost use Rattle.frame_blank.specs.Blanking.{marked, bad_map, bit, blanked, stretch, row_runs, runs_of, numbers};
 ghost use Rattle.frame_blank.specs.Calls.{refused, blanked_done};
 ghost use Rattle.frame_blank.specs.MapLent.{tally, meant, left_of, turns, by_turns, MapLent, RowLent, RowBlanked, FrameLent};
 
 use frame_map::greatest_of;
-use rules::{Answer, Size};
+use rules::{Answer, Refusal, Size};
 
 // The answer, how many samples were set, and how many runs they make; both are 0 unless samples were set.
 #[repr(C)]
@@ -49,6 +50,19 @@ impl Blanked {
     }
 }
 
+// A refusal's answer, with no samples and no runs.
+impl From<Refusal> for Blanked {
+    ghost from_gives = { λ refusal blanked. blanked ≡ refused (refusal_number refusal) };
+
+    fn from(refusal: Refusal) -> Blanked {
+        Blanked {
+            answer: Answer::from(refusal),
+            count: 0,
+            runs: 0,
+        }
+    }
+}
+
 // How many samples are marked, and how many runs they make.
 #[derive(Clone, Copy)]
 pub struct Tally {
@@ -67,14 +81,14 @@ pub fn is_bad_map(map: &[u8]) -> bool
 fn mark(byte: u8) -> u16
     ensures { result ≡ bit (marked byte) }
 {
-    if byte == 0 { 0 } else { 1 }
+    u16::from(0 < byte)
 }
 
 // 1 if a run starts at a sample, by the mark before and its own.
 fn starts(before: u16, mark: u16) -> u16
     ensures { result ≡ bit (ltb before mark) }
 {
-    if before < mark { 1 } else { 0 }
+    u16::from(before < mark)
 }
 
 // The marked samples and the runs of a row; most rows have none. Numbers of 16 bits hold them and can be added many at once.
@@ -88,17 +102,15 @@ fn tally_row(map: &[u8]) -> Tally
     let mut marked: u16 = 0;
     let mut runs: u16 = 0;
     let mut before: u16 = 0;
-    let mut i: usize = 0;
-    while i < map.len() {
-        let now = mark(map[i]);
+    for x in map {
+        let now = mark(*x);
         marked += now;
         runs += starts(before, now);
         before = now;
-        i += 1;
     }
     Tally {
-        marked: marked as usize,
-        runs: runs as usize,
+        marked: usize::from(marked),
+        runs: usize::from(runs),
     }
 }
 
@@ -109,23 +121,14 @@ pub fn tally_frame(map: &[u8], size: Size) -> Tally
 {
     let mut marked: usize = 0;
     let mut runs: usize = 0;
-    let mut row: usize = 0;
-    while row < size.height {
+    for row in 0..size.height {
         let at = row * size.width;
         let end = at + size.width;
         let more = tally_row(&map[at..end]);
         marked += more.marked;
         runs += more.runs;
-        row += 1;
     }
     Tally { marked, runs }
-}
-
-// What marked samples are set to: a stated value, or none is stated.
-#[derive(Clone, Copy)]
-pub enum Filling {
-    Stated(u16),
-    Unstated,
 }
 
 // What a run's samples are set to by turns: the first of them, and the second.
@@ -145,16 +148,16 @@ fn left_of(samples: &[u16], col: usize, by: usize) -> u16
 
 // What a run is set to that starts at a column. With no stated fill that is what lies to its left: a sample there is not marked, or
 // was set before, so nothing is looked for further on.
-fn turns_at(samples: &[u16], col: usize, fill: Filling) -> Turns
+fn turns_at(samples: &[u16], col: usize, fill: Option<u16>) -> Turns
     requires { col ≤ length samples.now }
     ensures { result ≡ turns fill samples.now col }
 {
     match fill {
-        Filling::Stated(value) => Turns {
+        Some(value) => Turns {
             first: value,
             second: value,
         },
-        Filling::Unstated => {
+        None => {
             let first = left_of(samples, col, 2);
             let second = left_of(samples, col, 1);
             Turns { first, second }
@@ -167,15 +170,13 @@ fn set_run(samples: &mut [u16], from: usize, columns: usize, fill: Turns)
     requires { from + columns ≤ length samples.old }
     ensures { samples.new ≡ sets samples.old from (by_turns columns fill.first fill.second) }
 {
-    let end = from + columns;
-    let mut at = from;
-    while 1 < end - at {
+    for k in 0..columns / 2 {
+        let at = from + 2 * k;
         samples[at] = fill.first;
         samples[at + 1] = fill.second;
-        at += 2;
     }
-    if at < end {
-        samples[at] = fill.first;
+    if columns % 2 == 1 {
+        samples[from + columns - 1] = fill.first;
     }
 }
 
@@ -184,14 +185,12 @@ fn stretch_at(map: &[u8], first: usize) -> usize
     requires { first ≤ length map.now }
     ensures { result ≡ stretch (drop first map.now) }
 {
-    let mut end = first;
-    while end < map.len() {
+    for end in first..map.len() {
         if map[end] == 0 {
             return end - first;
         }
-        end += 1;
     }
-    end - first
+    map.len() - first
 }
 
 // A run, as three numbers of the list.
@@ -209,7 +208,7 @@ fn blank_row(
     samples: &mut [u16],
     map: &[u8],
     row: usize,
-    fill: Filling,
+    fill: Option<u16>,
     runs: &mut [u32],
     from: usize,
 ) -> usize
@@ -221,6 +220,7 @@ fn blank_row(
     }
     let mut at = from;
     let mut col: usize = 0;
+    // Not a `for`: a run's columns are passed at once.
     while col < map.len() {
         if map[col] == 0 {
             col += 1;
@@ -236,15 +236,14 @@ fn blank_row(
     at
 }
 
-// Blanks a frame and lists its runs.
-pub fn blank_frame(samples: &mut [u16], map: &[u8], size: Size, fill: Filling, runs: &mut [u32])
+// Blanks a frame, by a fill if one is stated, and lists its runs.
+pub fn blank_frame(samples: &mut [u16], map: &[u8], size: Size, fill: Option<u16>, runs: &mut [u32])
     requires { FrameLent size samples.old map.now runs.old }
     ensures samples { samples.new ≡ blanked (meant fill) size samples.old map.now }
     ensures runs { runs.new ≡ sets runs.old 0 (numbers (runs_of size map.now)) }
 {
     let mut at: usize = 0;
-    let mut row: usize = 0;
-    while row < size.height {
+    for row in 0..size.height {
         let start = row * size.width;
         let end = start + size.width;
         at = blank_row(
@@ -255,6 +254,5 @@ pub fn blank_frame(samples: &mut [u16], map: &[u8], size: Size, fill: Filling, r
             runs,
             at,
         );
-        row += 1;
     }
 }

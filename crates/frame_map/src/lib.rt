@@ -2,10 +2,10 @@
 // parts of two in an average. And the greatest byte, by which maps are tested.
 #![tactic(auto)]
 
-ghost use Rattle.std.specs.Prelude.{◌≡◌, ◌+◌, ◌^◌, ◌≤◌, ◌<◌, max, length, replicate};
+ghost use Rattle.std.specs.Prelude.{◌≡◌, ◌+◌, ◌^◌, ◌≤◌, ◌<◌, length, replicate};
 ghost use Rattle.rules.specs.Frame.{change_cells};
 ghost use Rattle.rules.specs.Map.{with_filler, either_part};
-ghost use Rattle.frame_map.specs.Greatest.{greatest};
+ghost use Rattle.frame_map.specs.Greatest.{greatest, greatest_by};
 
 // The bytes of a block.
 const BLOCK: usize = 16;
@@ -14,11 +14,7 @@ const BLOCK: usize = 16;
 pub fn mark_all(map: &mut [u8], byte: u8)
     ensures { map.new ≡ replicate (length map.old) byte }
 {
-    let mut i: usize = 0;
-    while i < map.len() {
-        map[i] = byte;
-        i += 1;
-    }
+    map.fill(byte);
 }
 
 // At entry every sample rests on an old value.
@@ -45,10 +41,8 @@ fn fill_whole(map: &mut [u8], place: usize)
     requires { place + 16 ≤ length map.old }
     ensures { map.new ≡ change_cells with_filler 0 16 place map.old }
 {
-    let mut i: usize = 0;
-    while i < BLOCK {
+    for i in 0..BLOCK {
         map[place + i] = map[place + i] % 2 + 2;
-        i += 1;
     }
 }
 
@@ -57,10 +51,8 @@ fn fill_edge(map: &mut [u8], place: usize)
     requires { place + 16 < 2 ^ 64 }
     ensures { map.new ≡ change_cells with_filler 0 16 place map.old }
 {
-    let mut k: usize = 0;
-    while k < BLOCK {
+    for k in 0..BLOCK {
         fill_byte(map, place + k);
-        k += 1;
     }
 }
 
@@ -80,22 +72,20 @@ pub fn either_part(a: u8, b: u8) -> u8
     a | b
 }
 
-// The greater of two bytes.
-fn greater(a: u8, b: u8) -> u8
-    ensures { result ≡ max a b }
+// The greatest of a list and of `least`. A loop that never leaves early can take many at once.
+pub fn greatest<T: Ord + Copy>(list: &[T], least: T) -> T
+    ensures { result ≡ greatest_by T.cmp least list.now }
 {
-    if a < b { b } else { a }
+    let mut most = least;
+    for x in list {
+        most = most.max(*x);
+    }
+    most
 }
 
-// The greatest byte, or 0. A loop that never leaves early can take many bytes at once.
+// The greatest byte, or 0.
 pub fn greatest_of(map: &[u8]) -> u8
     ensures { result ≡ greatest map.now }
 {
-    let mut most: u8 = 0;
-    let mut i: usize = 0;
-    while i < map.len() {
-        most = greater(most, map[i]);
-        i += 1;
-    }
-    most
+    greatest(map, 0)
 }

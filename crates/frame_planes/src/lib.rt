@@ -13,10 +13,8 @@ fn split_row(row: &[u16], first: usize, to: &mut [u16])
     requires { (first ≤ 1) × (length to.old ≡ (length row.now + 1 - first) / 2) }
     ensures { to.new ≡ evens (drop first row.now) }
 {
-    let mut k: usize = 0;
-    while k < to.len() {
+    for k in 0..to.len() {
         to[k] = row[2 * k + first];
-        k += 1;
     }
 }
 
@@ -25,14 +23,13 @@ fn weave_row(evens: &[u16], odds: &[u16], row: &mut [u16])
     requires { (length evens.now ≡ even_count (length row.old)) × (length odds.now ≡ odd_count (length row.old)) }
     ensures { row.new ≡ weave evens.now odds.now }
 {
-    let mut k: usize = 0;
-    while k < odds.len() {
+    let pairs = odds.len();
+    for k in 0..pairs {
         row[2 * k] = evens[k];
         row[2 * k + 1] = odds[k];
-        k += 1;
     }
-    if k < evens.len() {
-        row[2 * k] = evens[k];
+    if pairs < evens.len() {
+        row[2 * pairs] = evens[pairs];
     }
 }
 
@@ -71,12 +68,10 @@ fn put_rows(samples: &[u16], size: Size, parity: usize, half: &mut [u16])
     ensures { half.new ≡ by_columns (evens (drop parity (rows_of size samples.now))) }
 {
     let rows = (size.height + 1 - parity) / 2;
-    let mut k: usize = 0;
-    while k < rows {
+    for k in 0..rows {
         let at = (2 * k + parity) * size.width;
         let end = at + size.width;
         put_row(&samples[at..end], rows, k, half);
-        k += 1;
     }
 }
 
@@ -106,11 +101,9 @@ pub fn from_planes(planes: &[u16], size: Size, samples: &mut [u16])
     requires { PlanesLent size planes.now samples.old }
     ensures { samples.new ≡ from_planes size planes.now }
 {
-    let mut row: usize = 0;
-    while row < size.height {
+    for row in 0..size.height {
         let at = row * size.width;
         let end = at + size.width;
         take_frame_row(planes, size, row, &mut samples[at..end]);
-        row += 1;
     }
 }

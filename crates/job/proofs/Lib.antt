@@ -3,7 +3,6 @@ pub mod WrittenLaws
 pub mod DecimalLaws
 pub mod TextLaws
 pub mod OffsetsLaws
-pub mod FieldsLaws
 pub mod SizeLaws
 pub mod JobLaws
 pub mod AnswerLaws

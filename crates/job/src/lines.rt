@@ -41,10 +41,8 @@ fn put_bytes(text: &mut [u8], n: usize, bytes: &[u8]) -> usize
     ensures { Appends text.old n bytes.now text.new result }
 {
     let mut at = n;
-    let mut i = 0;
-    while i < bytes.len() {
-        at = put(text, at, bytes[i]);
-        i += 1;
+    for byte in bytes {
+        at = put(text, at, *byte);
     }
     at
 }
@@ -88,12 +86,6 @@ fn put_sample(text: &mut [u8], n: usize, value: usize, mark: u8) -> usize
     end
 }
 
-fn wide(value: u16) -> usize
-    ensures { result ≡ value }
-{
-    value as usize
-}
-
 // Samples, each with its mark.
 fn put_samples(text: &mut [u8], n: usize, samples: &[u16], map: &[u8]) -> usize
     requires map_len { length map.now ≡ length samples.now }
@@ -101,10 +93,8 @@ fn put_samples(text: &mut [u8], n: usize, samples: &[u16], map: &[u8]) -> usize
     ensures { Appends text.old n (samples_text samples.now map.now) text.new result }
 {
     let mut at = n;
-    let mut i = 0;
-    while i < samples.len() {
-        at = put_sample(text, at, wide(samples[i]), map[i]);
-        i += 1;
+    for i in 0..samples.len() {
+        at = put_sample(text, at, usize::from(samples[i]), map[i]);
     }
     at
 }
@@ -135,12 +125,10 @@ fn put_rows(
     ensures { Appends text.old n (rows_text width height 0 samples.now map.now) text.new result }
 {
     let mut at = n;
-    let mut row = 0;
-    while row < height {
+    for row in 0..height {
         let first = row * width;
         let end = first + width;
         at = put_row(text, at, row, &samples[first..end], &map[first..end]);
-        row += 1;
     }
     at
 }

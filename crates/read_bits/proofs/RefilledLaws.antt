@@ -1,9 +1,9 @@
 -- Both ways of `refill` leave enough, and one cut of what it leaves is the read.
 use Rattle.std.proofs.Common.{◌≡◌, ℕ, ◌+◌, ◌-◌, ◌*◌, ◌%◌, ◌^◌, ◌<◌, ◌≤◌, min, List, ◌∙◌, arith}
-use Rattle.rules.specs.Reader.{fetched, counted, held, first_bits}
+use Rattle.rules.specs.Reader.{fetched, read_as, is_missing, counted, held, first_bits}
 use Rattle.rules.proofs.ReaderLaws.{held_small, read_held, read_next, read_capped}
 use Rattle.rules.specs.declared.reader.Bits.{Bits}
-use Rattle.rules.specs.declared.reader.Word.{Word}
+use Rattle.std.specs.Prelude.{Option}
 use Rattle.read_bits.specs.Refilled.{joined_with, Enough, Whole}
 use Rattle.read_bits.specs.declared.Refilled.{Refilled}
 
@@ -22,8 +22,8 @@ module _ (s : List ℕ) (b : Bits) (k h : ℕ) (few : k ≤ 32) (is : h ≡ held
         whole = λ e. absurd (omega (arith, is));
       }
 
-  pub enough_next : (w : Word) (n : ℕ) (r : Refilled) → h < k → w ≡ fetched s b.pos → w.value < 2 ^ 32 → n ≡ counted b.filler w.missing
-      → r ≡ joined_with b h w.value n → Enough s b k r
+  pub enough_next : (w : Option ℕ) (n : ℕ) (r : Refilled) → h < k → w ≡ fetched s b.pos → read_as w < 2 ^ 32 → n ≡ counted b.filler (is_missing w)
+      → r ≡ joined_with b h (read_as w) n → Enough s b k r
   enough_next w n r l ew lw en er =
       let m : min k 32 ≡ k = omega arith in
       rw er

@@ -1,6 +1,6 @@
 -- What `refill` leaves for the one cut of `get_whole`, and what that gives.
 use Rattle.std.specs.Prelude.{◌≡◌, ℕ, ◌+◌, ◌-◌, ◌*◌, ◌%◌, ◌^◌, ◌<◌, ◌≤◌, min, List}
-use Rattle.rules.specs.Reader.{fetched, held, first_bits, read}
+use Rattle.rules.specs.Reader.{fetched, read_as, held, first_bits, read}
 use Rattle.rules.specs.declared.reader.Bits.{Bits}
 use Rattle.rules.specs.declared.reader.Got.{Got}
 use Rattle.read_bits.specs.declared.Refilled.{Refilled}
@@ -24,9 +24,9 @@ pub record Enough (s : List ℕ) (b : Bits) (k : ℕ) (r : Refilled) : Type 0 wh
   pub enough : k ≤ r.bits.count
   pub few : r.bits.count < k + 32
   pub reads : read s b k ≡ cut r k
-  pub whole : held b < k → (fetched s b.pos).value < 2 ^ 32
+  pub whole : held b < k → read_as (fetched s b.pos) < 2 ^ 32
 
 -- A read of n bits. If it fetched a word, that word has 32 bits.
 pub record Whole (s : List ℕ) (b : Bits) (n : ℕ) (r : Got) : Type 0 where
   pub reads : r ≡ read s b n
-  pub whole : held b < min n 32 → (fetched s b.pos).value < 2 ^ 32
+  pub whole : held b < min n 32 → read_as (fetched s b.pos) < 2 ^ 32

@@ -17,7 +17,7 @@ ghost use Rattle.read_bits.specs.Refilled.{joined_with, Enough, Whole};
 pub mod four;
 
 use read_fields::{field, residual_of, signed_of};
-pub use rules::{Bits, Got, Taken, Word};
+pub use rules::{Bits, Got, Taken};
 
 // The word of four bytes, lowest first.
 fn word_of(a: u8, b: u8, c: u8, d: u8) -> u32
@@ -26,24 +26,18 @@ fn word_of(a: u8, b: u8, c: u8, d: u8) -> u32
     a as u32 + b as u32 * 256 + c as u32 * 65_536 + d as u32 * 16_777_216
 }
 
-// The word at `pos`; where fewer than 4 bytes remain, the filler.
-pub fn fetch(src: &[u8], pos: u64) -> Word
+// The word at `pos`, or none where fewer than 4 bytes remain: it is read as the filler.
+pub fn fetch(src: &[u8], pos: u64) -> Option<u32>
     ensures { result ≡ fetched src.now pos }
 {
     let at = pos as usize;
     let n = src.len();
     if 4 <= n {
         if at <= n - 4 {
-            return Word {
-                value: word_of(src[at], src[at + 1], src[at + 2], src[at + 3]),
-                missing: false,
-            };
+            return Some(word_of(src[at], src[at + 1], src[at + 2], src[at + 3]));
         }
     }
-    Word {
-        value: Bits::FILLER,
-        missing: true,
-    }
+    None
 }
 
 // How many bits a read of n takes.
@@ -97,15 +91,15 @@ struct Refilled {
 }
 
 // The bits held and those of a word that follows them, and the state after it with a count of missing words.
-fn joined(bits: Bits, have: u32, next: Word, filler: u64) -> Refilled
+fn joined(bits: Bits, have: u32, word: u32, filler: u64) -> Refilled
     requires { have < 32 }
-    ensures { result ≡ joined_with bits have next.value filler }
+    ensures { result ≡ joined_with bits have word filler }
 {
     Refilled {
-        words: bits.word as u64 * 4_294_967_296 + next.value as u64,
+        words: bits.word as u64 * 4_294_967_296 + word as u64,
         bits: Bits {
             pos: std::num::wrapping_add_u64(bits.pos, Bits::WORD_BYTES),
-            word: next.value,
+            word,
             count: have + Bits::WORD_BITS,
             filler,
         },
@@ -130,11 +124,10 @@ fn refill(src: &[u8], bits: Bits, k: u32) -> Refilled
             },
         };
     }
-    let next = fetch(src, bits.pos);
-    if next.missing {
-        return joined(bits, have, next, count_missing(bits.filler));
+    match fetch(src, bits.pos) {
+        Some(word) => joined(bits, have, word, bits.filler),
+        None => joined(bits, have, Bits::FILLER, count_missing(bits.filler)),
     }
-    joined(bits, have, next, bits.filler)
 }
 
 // Reads n bits, at most 32, and says that a word it fetched has 32 bits: so the value can be cut into shorter fields. Both ways

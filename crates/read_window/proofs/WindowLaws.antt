@@ -12,6 +12,7 @@ use lib.Dec.{ltb, leb, eqb}
 use lib.ListN.{length}
 use lib.Pow.{pow_pos, pow-add, high, low, field, shl-shr, shl_exact, shr_mod, shr-shr, mod-pow-add}
 use borrow.Author.Tests.{le-leb, lt-leb, lt-ltb, le-ltb, leb-true, leb-false, ltb-true, eqb-true}
+use Rattle.std.specs.Prelude.{Some}
 use Rattle.rules.specs.Reader.{word_at, fetched, held, read, fields}
 use Rattle.rules.proofs.ReaderLaws.{fetched_there, counted_there, held_is, read_held, read_next, above, fields_none, fields_more}
 use Rattle.rules.proofs.Tests.{both, by-test}
@@ -96,7 +97,7 @@ on s base i r m f some few more fit there far whole =
     let v : ℕ = word_at s (base + i * 4 + 4) in
     let cap : min n 32 ≡ n = omega arith in
     let holds : held (at_word s base i r f) ≡ 32 - r = held_is (at_word s base i r f) (omega arith) in
-    let next : fetched s (base + i * 4 + 4) ≡ record { value = v; missing = false } = fetched_there s (base + i * 4 + 4) (omega arith) in
+    let next : fetched s (base + i * 4 + 4) ≡ Some v = fetched_there s (base + i * 4 + 4) (omega arith) in
     let p : (base + i * 4 + 4 + 4) % 2 ^ 64 ≡ base + (i + 1) * 4 + 4 = omega arith in
     let b : base + (i + 1) * 4 ≡ base + i * 4 + 4 = omega arith in
     let c : 32 - r + 32 - n ≡ 32 - m = omega arith in

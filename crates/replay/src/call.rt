@@ -1,8 +1,9 @@
 // One recorded call.
 ghost use Rattle.std.specs.Prelude.{◌≡◌, ◌<◌, ◌≤◌, length, take};
 
-use super::samples::{fill, sum, sum_bytes, sum_offsets};
-use rules::Answer;
+use super::samples::{fill, sum};
+use rules::{Answer, Bits};
+use std::cmp;
 
 const SAMPLES: usize = 290_000;
 
@@ -18,26 +19,15 @@ const V2: u32 = 2;
 
 const NOT_TOLD: u32 = 4_294_967_295;
 
-pub(crate) fn least(a: usize, b: usize) -> usize
-    ensures { (result ≤ a) × (result ≤ b) }
-{
-    if a < b {
-        return a;
-    }
-    b
-}
-
 // The number whose four bytes start at `at`.
 fn number(bytes: &[u8], at: usize) -> u32 {
-    let word = read_bits::fetch(bytes, at as u64);
-    word.value
+    read_bits::fetch(bytes, at as u64).unwrap_or(Bits::FILLER)
 }
 
 pub(crate) fn word(bytes: &[u8], at: usize) -> usize
     ensures { result < 4_294_967_296 }
 {
-    let word = read_bits::fetch(bytes, at as u64);
-    word.value as usize
+    number(bytes, at) as usize
 }
 
 // Where the stream's length stands: after the size and the offsets.
@@ -67,27 +57,25 @@ fn recorded_sum(call: &[u8]) -> usize {
 fn stream_count(call: &[u8], rest: &[u8]) -> usize
     ensures { (result ≤ length rest.now) × (result ≡ length (take result rest.now)) }
 {
-    least(word(call, length_at(call)), rest.len())
+    word(call, length_at(call)).min(rest.len())
 }
 
 fn offset_count(call: &[u8], offsets: &[u32]) -> usize
     ensures { (result ≤ length offsets.now) × (result ≡ length (take result offsets.now)) }
 {
-    least(word(call, 12), offsets.len())
+    cmp::min(word(call, 12), offsets.len())
 }
 
 fn sample_count(call: &[u8], samples: &[u16]) -> usize
     ensures { (result ≤ length samples.now) × (result ≡ length (take result samples.now)) }
 {
-    least(word(call, end_at(call)), samples.len())
+    cmp::min(word(call, end_at(call)), samples.len())
 }
 
 fn read_offsets(call: &[u8], offsets: &mut [u32]) {
-    let mut i: usize = 0;
-    while i < offsets.len() {
-        let word = read_bits::fetch(call, std::num::wrapping_add_u64(16, 4 * i as u64));
-        offsets[i] = word.value;
-        i += 1;
+    for i in 0..offsets.len() {
+        let at = std::num::wrapping_add_u64(16, 4 * i as u64);
+        offsets[i] = read_bits::fetch(call, at).unwrap_or(Bits::FILLER);
     }
 }
 
@@ -128,7 +116,7 @@ fn decode_rest(call: &[u8], rest: &[u8], out: &mut [u16], phases: bool) -> Answe
 }
 
 fn decode_call(call: &[u8], out: &mut [u16], phases: bool) -> Answer {
-    let start = least(length_at(call) + 4, call.len());
+    let start = cmp::min(length_at(call) + 4, call.len());
     decode_rest(call, &call[start..], out, phases)
 }
 
@@ -155,8 +143,8 @@ fn differs_written(call: &[u8], samples: &[u16]) -> bool {
     if is_other(call, written.answer) {
         return true;
     }
-    let bytes = sum_bytes(written.length as usize, &stream);
-    sum_offsets(bytes, &offsets) != recorded_sum(call)
+    let bytes = sum(written.length as usize, &stream);
+    sum(bytes, &offsets) != recorded_sum(call)
 }
 
 fn differs_over(call: &[u8], out: &mut [u16], phases: bool) -> bool {
@@ -170,7 +158,7 @@ fn differs_over(call: &[u8], out: &mut [u16], phases: bool) -> bool {
     if is_other(call, answer) {
         return true;
     }
-    sum(out) != recorded_sum(call)
+    sum(0, out) != recorded_sum(call)
 }
 
 fn differs_lent(call: &[u8], samples: &mut [u16], phases: bool) -> bool {

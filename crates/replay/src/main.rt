@@ -7,7 +7,7 @@ mod call;
 mod samples;
 
 use call::{differs, end_at, word};
-use std::{env, fs, io};
+use std::{cmp, env, fs, io};
 
 const INPUT: usize = 140_000;
 
@@ -30,9 +30,9 @@ fn replay_file(rt: &HostRuntime, path: &str) -> io::Result<()> {
 
 // Of a longer record only the first bytes are read.
 fn replay(rt: &HostRuntime, record: &[u8]) -> io::Result<()> {
-    let n = call::least(record.len(), INPUT);
+    let n = cmp::min(record.len(), INPUT);
     let count = word(&record[..n], 0);
-    let held = call::least(count, n / CALL);
+    let held = cmp::min(count, n / CALL);
     let differ = differing(&record[..n], held);
     tell(
         rt,
@@ -49,31 +49,23 @@ fn tell(rt: &HostRuntime, count: u64, differ: u64) -> io::Result<()> {
 fn differing(input: &[u8], count: usize) -> u64 {
     let mut at = 4;
     let mut differ = 0;
-    let mut i = 0;
-    while i < count {
+    for _ in 0..count {
         differ = std::num::wrapping_add_u64(differ, differing_at(input, at));
         at = next_at(input, at);
-        i += 1;
     }
     differ
 }
 
 // 1 if the call at `at` differs by an entry, else 0.
 fn differing_at(input: &[u8], at: usize) -> u64 {
-    let start = call::least(at, input.len());
+    let start = cmp::min(at, input.len());
     let call = &input[start..];
-    if differs(call, false) {
-        return 1;
-    }
-    if differs(call, true) {
-        return 1;
-    }
-    0
+    u64::from(differs(call, false) || differs(call, true))
 }
 
 // Where the call after the one at `at` starts.
 fn next_at(input: &[u8], at: usize) -> usize {
-    let start = call::least(at, input.len());
+    let start = cmp::min(at, input.len());
     let end = end_at(&input[start..]);
     std::num::wrapping_add_usize(start, end + 20)
 }

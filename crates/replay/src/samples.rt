@@ -19,54 +19,21 @@ fn sample_of(x: usize, quarter: bool) -> u16
 // The samples that a seed makes, or a quarter of each, so that none is above 16,383.
 pub(crate) fn fill(samples: &mut [u16], seed: usize, quarter: bool) {
     let mut x = seed;
-    let mut i: usize = 0;
-    while i < samples.len() {
+    for sample in samples {
         x = next_old(x);
-        samples[i] = sample_of(x, quarter);
-        i += 1;
+        *sample = sample_of(x, quarter);
     }
 }
 
-fn next_sum(sum: usize, number: u32) -> usize {
-    (31 * (sum % 4_294_967_296) + number as usize) % 4_294_967_296
-}
-
-fn next_by_sample(sum: usize, sample: u16) -> usize {
-    next_sum(sum, sample as u32)
-}
-
-fn next_by_byte(sum: usize, byte: u8) -> usize {
-    next_sum(sum, byte as u32)
-}
-
-pub(crate) fn sum(samples: &[u16]) -> usize {
-    let mut sum = 0;
-    let mut i: usize = 0;
-    while i < samples.len() {
-        sum = next_by_sample(sum, samples[i]);
-        i += 1;
-    }
-    sum
-}
-
-// Goes on with a sum over bytes.
-pub(crate) fn sum_bytes(first: usize, bytes: &[u8]) -> usize {
+// Goes on with a sum over numbers.
+pub(crate) fn sum<T>(first: usize, numbers: &[T]) -> usize
+where
+    T: Copy,
+    u32: From<T>,
+{
     let mut sum = first;
-    let mut i: usize = 0;
-    while i < bytes.len() {
-        sum = next_by_byte(sum, bytes[i]);
-        i += 1;
-    }
-    sum
-}
-
-// Goes on with a sum over offsets.
-pub(crate) fn sum_offsets(first: usize, offsets: &[u32]) -> usize {
-    let mut sum = first;
-    let mut i: usize = 0;
-    while i < offsets.len() {
-        sum = next_sum(sum, offsets[i]);
-        i += 1;
+    for number in numbers {
+        sum = (31 * (sum % 4_294_967_296) + u32::from(*number) as usize) % 4_294_967_296;
     }
     sum
 }

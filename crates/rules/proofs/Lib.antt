@@ -9,6 +9,7 @@ pub mod Longer
 pub mod Tests
 pub mod Traced
 pub mod Refusals
+pub mod RefusalNumbers
 pub mod Order
 pub mod Predictors
 pub mod V0Blocks

@@ -15,7 +15,7 @@ use Rattle.rules.specs.declared.reader.Bits.{Bits}
 use Rattle.rules.specs.declared.v0.Predictor.{Predictor}
 use Rattle.rules.specs.declared.v0.V0Row.{V0Row}
 use Rattle.rules.specs.declared.v2.V2Hdr.{V2Hdr}
-use Rattle.rules.specs.Reader.{fetched, most_filler, counted, has_filler, fresh, reset_at, held, read}
+use Rattle.rules.specs.Reader.{fetched, is_missing, most_filler, counted, has_filler, fresh, reset_at, held, read}
 use Rattle.rules.specs.Missing.{past_end, missing_of, flag_after, fetches, Run, stay, reads, resets, rows_sum}
 use Rattle.rules.specs.V0 as V0
 use Rattle.rules.specs.V2 as V2
@@ -30,7 +30,7 @@ use Rattle.rules.proofs.V2Traced.{header_traced, row_traced}
 
 -- ── One read ──
 
-missing_is : (s : List ℕ) (p : ℕ) → (fetched s p).missing ≡ past_end s p
+missing_is : (s : List ℕ) (p : ℕ) → is_missing (fetched s p) ≡ past_end s p
 missing_is s p =
     by-test (leb (p + 4) (length s)) (λ e. rw (fetched_there s p (leb-true _ _ e), e)) (λ e. rw (fetched_missing s p (leb-false _ _ e), e))
 

@@ -13,19 +13,19 @@ use lib.Pow.{pow_pos, pow_mono, pow-add, high, field, shr-shr, mod-mod-pow}
 use lib.Seq.{get_or-take, take-take}
 use lib.Signed.{mag}
 use borrow.Author.Tests.{le-leb, lt-leb, lt-ltb, le-ltb, ltb-true, ltb-false, leb-true, leb-false}
-use Rattle.rules.specs.Reader.{word_at, fetched, most_filler, counted, held, from_held, from_next, read, fields, four, signed, read_signed, modulo, read_residual}
+use Rattle.rules.specs.Reader.{word_at, fetched, read_as, is_missing, most_filler, counted, held, from_held, from_next, read, fields, four, signed, read_signed, modulo, read_residual}
 use Rattle.rules.specs.declared.reader.Bits.{Bits}
 use Rattle.rules.specs.declared.reader.Got.{Got}
-use Rattle.rules.specs.declared.reader.Word.{Word}
+use Rattle.std.specs.Prelude.{Some, None}
 use Rattle.rules.proofs.Tests.{by-test}
 
 -- ── Words ──
 
-pub fetched_there : (s : List ℕ) (p : ℕ) → p + 4 ≤ length s → fetched s p ≡ record { value = word_at s p; missing = false }
+pub fetched_there : (s : List ℕ) (p : ℕ) → p + 4 ≤ length s → fetched s p ≡ Some (word_at s p)
 unfolding fetched
 fetched_there s p h = simp (le-leb _ _ h)
 
-pub fetched_missing : (s : List ℕ) (p : ℕ) → length s < p + 4 → fetched s p ≡ record { value = 0xffff_ffff; missing = true }
+pub fetched_missing : (s : List ℕ) (p : ℕ) → length s < p + 4 → fetched s p ≡ None
 unfolding fetched
 fetched_missing s p h = simp (lt-leb _ _ h)
 
@@ -133,7 +133,7 @@ read_zero s b =
 pub read_kept : (s : List ℕ) (b : Bits) (n : ℕ) → (read s b n).bits.filler ≡ 0 → b.filler ≡ 0
 read_kept s b n =
     read_either (λ g. g.bits.filler ≡ 0 → b.filler ≡ 0) s b n (λ h e. e)
-    (λ h e. (counted_zero b.filler (fetched s b.pos).missing e).0)
+    (λ h e. (counted_zero b.filler (is_missing (fetched s b.pos)) e).0)
 
 -- The same state read on streams that agree in their first q bytes, where the word that it may fetch lies below q.
 pub read_agree : (s t : List ℕ) (b : Bits) (n q : ℕ) → take q s ≡ take q t → q ≤ length s → q ≤ length t → b.pos + 4 ≤ q → read s b n ≡ read t b n
@@ -141,7 +141,7 @@ unfolding read
 read_agree s t b n q e hs ht h = rw (fetched_agree s t q b.pos e hs ht h)
 
 -- A word that is there in the first p bytes of a stream is the stream's.
-fetched_prefix : (s : List ℕ) (p at : ℕ) → p ≤ length s → (fetched (take p s) at).missing ≡ false → fetched (take p s) at ≡ fetched s at
+fetched_prefix : (s : List ℕ) (p at : ℕ) → p ≤ length s → is_missing (fetched (take p s) at) ≡ false → fetched (take p s) at ≡ fetched s at
 fetched_prefix s p at l m =
     by-test (leb (at + 4) p)
     (λ e. fetched_agree (take p s) s p at (take-take p p s (omega arith)) (omega (arith, len)) l (leb-true (at + 4) p e))
@@ -154,7 +154,7 @@ fetched_prefix s p at l m =
 pub read_prefix : (s : List ℕ) (p : ℕ) (b : Bits) (n : ℕ) → p ≤ length s → (read (take p s) b n).bits.filler ≡ 0 → read (take p s) b n ≡ read s b n
 read_prefix s p b n l =
     read_either (λ g. g.bits.filler ≡ 0 → g ≡ read s b n) (take p s) b n (λ h e. sym (read_held s b n h))
-    (λ h e. rw (fetched_prefix s p b.pos l (counted_zero b.filler (fetched (take p s) b.pos).missing e).1) (sym (read_next s b n h)))
+    (λ h e. rw (fetched_prefix s p b.pos l (counted_zero b.filler (is_missing (fetched (take p s) b.pos)) e).1) (sym (read_next s b n h)))
 
 -- ── A read split in two ──
 
@@ -219,14 +219,14 @@ module _ (s : List ℕ) (st : Bits) (a b : ℕ) (fit : a + b ≤ 32) where
         next_of s mid b (omega arith) (omega (arith, e)),
         e,
         c,
-        split_second (st.word * 2 ^ 32 + (fetched s st.pos).value) (held st + 32 - (a + b)) a b,
+        split_second (st.word * 2 ^ 32 + read_as (fetched s st.pos)) (held st + 32 - (a + b)) a b,
       )
 
   -- The next word is needed at once, and serves both.
   rest_next : held st < a → Rest
   rest_next h =
-      let w : Word = fetched s st.pos in
-      let mid : Bits = (from_next st w a).bits in
+      let w : ℕ = read_as (fetched s st.pos) in
+      let mid : Bits = (from_next st (fetched s st.pos) a).bits in
       let e : held mid ≡ held st + 32 - a = held_is mid (omega arith) in
       let c : held st + 32 - a - b ≡ held st + 32 - (a + b) = omega arith in
       rw (
@@ -235,8 +235,8 @@ module _ (s : List ℕ) (st : Bits) (a b : ℕ) (fit : a + b ≤ 32) where
         held_of s mid b (omega arith) (omega (arith, e)),
         e,
         c,
-        split_second (st.word * 2 ^ 32 + w.value) (held st + 32 - (a + b)) a b,
-        above st.word w.value (held st + 32 - (a + b)) b (omega arith),
+        split_second (st.word * 2 ^ 32 + w) (held st + 32 - (a + b)) a b,
+        above st.word w (held st + 32 - (a + b)) b (omega arith),
       )
 
   pub read_split_rest : read s (read s st a).bits b ≡ record { value = (read s st (a + b)).value % 2 ^ b; bits = (read s st (a + b)).bits }
@@ -248,7 +248,7 @@ module _ (s : List ℕ) (st : Bits) (a b : ℕ) (fit : a + b ≤ 32) where
       (λ f. rest_next (leb-false a (held st) f)))
 
   -- Where a word is fetched, it must be one of 32 bits.
-  pub read_split_first : (held st < a + b → (fetched s st.pos).value < 2 ^ 32) → (read s st (a + b)).value / 2 ^ b ≡ (read s st a).value
+  pub read_split_first : (held st < a + b → read_as (fetched s st.pos) < 2 ^ 32) → (read s st (a + b)).value / 2 ^ b ≡ (read s st a).value
   read_split_first w =
       by-test (leb (a + b) (held st))
       (λ e. first_held (leb-true (a + b) (held st) e))
@@ -267,16 +267,16 @@ module _ (s : List ℕ) (st : Bits) (a b : ℕ) (fit : a + b ≤ 32) where
           rw (
             next_of s st (a + b) fit h,
             held_of s st a (omega arith) l,
-            split_first (st.word * 2 ^ 32 + (fetched s st.pos).value) (held st + 32 - (a + b)) a b,
+            split_first (st.word * 2 ^ 32 + read_as (fetched s st.pos)) (held st + 32 - (a + b)) a b,
             c,
-            in_first st.word (fetched s st.pos).value (held st - a) (w h),
+            in_first st.word (read_as (fetched s st.pos)) (held st - a) (w h),
           )
 
       first_next : held st < a → (read s st (a + b)).value / 2 ^ b ≡ (read s st a).value
       first_next h =
           let c : held st + 32 - (a + b) + b ≡ held st + 32 - a = omega arith in
           rw (next_of s st (a + b) fit (omega arith), next_of s st a (omega arith) h, ← c)
-          (split_first (st.word * 2 ^ 32 + (fetched s st.pos).value) (held st + 32 - (a + b)) a b)
+          (split_first (st.word * 2 ^ 32 + read_as (fetched s st.pos)) (held st + 32 - (a + b)) a b)
 
 -- ── Fields ──
 
@@ -325,8 +325,8 @@ cut_low a (n ∷ ns) v =
     rw (cut_field v a (total ns) n) (ap (λ x. v / 2 ^ total ns % 2 ^ n ∷ cut ns (v % 2 ^ x)) e ∙ ap (λ xs. v / 2 ^ total ns % 2 ^ n ∷ xs) (cut_low (a + n) ns v))
 
 -- A read that ends within the word that the first part fetched, or that was held, fetches no other.
-whole_rest : (s : List ℕ) (b : Bits) (n m : ℕ) → n + m ≤ 32 → (held b < n + m → (fetched s b.pos).value < 2 ^ 32)
-    → held (read s b n).bits < m → (fetched s (read s b n).bits.pos).value < 2 ^ 32
+whole_rest : (s : List ℕ) (b : Bits) (n m : ℕ) → n + m ≤ 32 → (held b < n + m → read_as (fetched s b.pos) < 2 ^ 32)
+    → held (read s b n).bits < m → read_as (fetched s (read s b n).bits.pos) < 2 ^ 32
 whole_rest s b n m fit w =
     by-test (leb n (held b))
     (λ e. let l = leb-true n (held b) e in
@@ -339,10 +339,10 @@ whole_rest s b n m fit w =
     rw (next_of s b n (omega arith) l) (λ h. absurd (omega (arith, c))))
   where
     Goal : Type 0
-    Goal = held (read s b n).bits < m → (fetched s (read s b n).bits.pos).value < 2 ^ 32
+    Goal = held (read s b n).bits < m → read_as (fetched s (read s b n).bits.pos) < 2 ^ 32
 
 -- Fields of at most 32 bits together are one read, cut.
-pub fields_at_once : (s : List ℕ) (n : ℕ) (ns : List ℕ) (b : Bits) → n + total ns ≤ 32 → (held b < n + total ns → (fetched s b.pos).value < 2 ^ 32)
+pub fields_at_once : (s : List ℕ) (n : ℕ) (ns : List ℕ) (b : Bits) → n + total ns ≤ 32 → (held b < n + total ns → read_as (fetched s b.pos) < 2 ^ 32)
     → fields s (n ∷ ns) b ≡ record { values = cut (n ∷ ns) (read s b (n + total ns)).value; bits = (read s b (n + total ns)).bits }
 unfolding cut total
 fields_at_once s n [] b fit w =

@@ -4,7 +4,8 @@ use mathlib.Core.Path.{◌≡◌, refl}
 use mathlib.Core.List.{[], ◌∷◌, map}
 use lib.ListN.{replicate}
 use Rattle.rules.specs.Frame.{tabulate}
-use Rattle.rules_bands.specs.Bands.{Cut, cut, sized, fits, band_start, blocks_per_band, step_count, step_band, step_block, block_directions}
+use Rattle.rules_bands.specs.declared.Cut.{Cut}
+use Rattle.rules_bands.specs.Bands.{cut, sized, fits, band_start, blocks_per_band, step_count, step_band, step_block, block_directions}
 
 -- 7 late rows in 3 bands of 2, 2 and 3 rows, and 40 columns in blocks of 16, the last of 8.
 abbrev uneven : Cut

@@ -18,7 +18,8 @@ use Rattle.rules.specs.Phases.{Stage, sample_stage, predict_blocks, phase_two, s
 use Rattle.rules.proofs.V0Cells.{phase_one_length, phase_two_length, first_rows_length}
 use Rattle.rules.proofs.Spill.{cell}
 use Rattle.rules.proofs.TwoPhase.{scratch_length}
-use Rattle.rules_bands.specs.Bands.{Cut, late_rows, fits, band_start, blocks_per_band, step_count, step_band, step_block, after, in_turn, none_done, good, row_directions, block_directions, predict_band, do_step, do_steps, in_bands}
+use Rattle.rules_bands.specs.declared.Cut.{Cut}
+use Rattle.rules_bands.specs.Bands.{late_rows, fits, band_start, blocks_per_band, step_count, step_band, step_block, after, in_turn, none_done, good, row_directions, block_directions, predict_band, do_step, do_steps, in_bands}
 use Rattle.rules_bands.proofs.Finished.{at, Done, Ready, Left, still, is_first, Bytes, blocks_left}
 use Rattle.rules_bands.proofs.Counters.{Stands, stands, Counts, none_counts, after_own, after_other, counts_after, done_after, Turns, end, next, turns, good_full}
 use Rattle.rules.proofs.Tests.{both}

@@ -16,7 +16,8 @@ use Rattle.rules.specs.Phases.{scratch}
 use Rattle.rules.specs.Answer as Plain
 use Rattle.rules.proofs.Refusals.{samples_enough}
 use Rattle.rules.proofs.Tests.{by-test}
-use Rattle.rules_bands.specs.Bands.{Cut, fits, good, in_bands}
+use Rattle.rules_bands.specs.declared.Cut.{Cut}
+use Rattle.rules_bands.specs.Bands.{fits, good, in_bands}
 use Rattle.rules_bands.specs.Call.{Call, plain, buffers, lengths, list_refusal, refusal, answer, samples_after, scratch_after, Yields}
 use Rattle.rules_bands.proofs.AnySequence.{in_bands_two_phase}
 

@@ -12,7 +12,8 @@ use lib.Dec.{ltb, eqb}
 use lib.ListN.{length, get_or, set, replicate, length-set, length-replicate}
 use lib.Seq.{get_or-set_same, get_or-set_other}
 use borrow.Author.Tests.{ltb-true, eqb-true, lt-ltb, eq-eqb, ne_eqb}
-use Rattle.rules_bands.specs.Bands.{Cut, blocks_per_band, step_count, step_band, step_block, ready, after, in_turn, none_done, good}
+use Rattle.rules_bands.specs.declared.Cut.{Cut}
+use Rattle.rules_bands.specs.Bands.{blocks_per_band, step_count, step_band, step_block, ready, after, in_turn, none_done, good}
 use Rattle.rules.proofs.Tests.{both}
 
 -- ── Tests ──

@@ -8,7 +8,8 @@ use Rattle.rules.specs.V0 as V0
 use Rattle.rules.specs.Phases as Phases
 use Rattle.rules.specs.Answer as Plain
 use Rattle.rules_bands.specs.Bands as Bands
-use Rattle.rules_bands.specs.Bands.{Cut, cut, sized, fits, blocks_per_band, ready, after, in_turn, good}
+use Rattle.rules_bands.specs.declared.Cut.{Cut}
+use Rattle.rules_bands.specs.Bands.{cut, sized, fits, blocks_per_band, ready, after, in_turn, good}
 use Rattle.rules_bands.specs.Call as Call
 use Rattle.rules_bands.specs.Call.{list_refusal}
 use Rattle.rules_bands.specs.Examples.{defined, examples}

@@ -13,7 +13,8 @@ use lib.Seq.{get_or-set_same, get_or-set_other}
 use borrow.Author.Tests.{eq-eqb}
 use Rattle.rules.specs.Frame.{cells}
 use Rattle.rules.specs.Phases.{two_phase}
-use Rattle.rules_bands.specs.Bands.{Cut, late_rows, blocks_per_band, step_count, step_band, step_block, fits, ready, after, in_turn, none_done, good, in_bands}
+use Rattle.rules_bands.specs.declared.Cut.{Cut}
+use Rattle.rules_bands.specs.Bands.{late_rows, blocks_per_band, step_count, step_band, step_block, fits, ready, after, in_turn, none_done, good, in_bands}
 use Rattle.rules_bands.specs.Sequence.{Among, here, later, Once, now, Ready, AllReady, Does}
 use Rattle.rules_bands.specs.Sequence as Sequence
 use Rattle.rules_bands.proofs.Counters.{some_block, Stands, stands, is_ready, Step_of, step_of, all_full, sum_zeros, zeros, Counts, none_counts, counts_after, done_after, Turns, end, next, turns, is_in_turn, Adds, adds, sum_most, good_full, good_length, one_ready}

@@ -6,7 +6,8 @@ use Rattle.rules.specs.declared.answer.Answer.{Answer}
 use Rattle.rules.specs.Frame.{cells}
 use Rattle.rules.specs.Phases.{scratch}
 use Rattle.rules.specs.Answer as Plain
-use Rattle.rules_bands.specs.Bands.{Cut, sized, cut, fits, good, in_bands}
+use Rattle.rules_bands.specs.declared.Cut.{Cut}
+use Rattle.rules_bands.specs.Bands.{sized, cut, fits, good, in_bands}
 
 -- What a call asks for, and the samples and the scratch that it is lent, as it finds them.
 pub record Call : Type 0 where

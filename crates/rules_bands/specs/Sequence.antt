@@ -1,6 +1,7 @@
 -- The good lists of steps (docs/RULES.md, "V0 in bands") said without counters: the steps before tell which blocks are done.
 use Rattle.std.specs.Prelude.{ℕ, ◌-◌, ◌<◌, ◌≢◌, List, [], ◌∷◌}
-use Rattle.rules_bands.specs.Bands.{Cut, blocks_per_band, step_count, step_band, step_block}
+use Rattle.rules_bands.specs.declared.Cut.{Cut}
+use Rattle.rules_bands.specs.Bands.{blocks_per_band, step_count, step_band, step_block}
 
 -- A number is among those of a list.
 pub data Among (n : ℕ) : List ℕ → Type 0 where

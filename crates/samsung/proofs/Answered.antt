@@ -1,10 +1,10 @@
 -- Promise P1, for the decoders: a call of an entry point that decodes by the plain rules is answered by done or by one of 1 to 8,
 -- and 1 to 4 leave every buffer as it was. What 5 to 8 leave is what the rules say, as for every answer: the blocks before the one
 -- at fault, under 8 its row.
-use Prim.Native.Nat.{ℕ, ◌≤◌}
-use mathlib.Core.Path.{◌≡◌, refl, sym, ap, ◌∙◌}
+use Prim.Native.Nat.{◌≤◌}
+use mathlib.Core.Path.{◌≡◌, refl, ap}
 use native.Mathlib.Omega.{arith}
-use Rattle.rules.specs.Answer.{lengths, refused, refusal, answer}
+use Rattle.rules.specs.Answer.{lengths, refusal, answer}
 use Rattle.rules.proofs.Isolation.{Returned}
 use Rattle.rules.proofs.Refusals.{answer_most, answer_early, yields_once}
 use Rattle.samsung.proofs.EntryLaws.{refused_yields}

@@ -1,12 +1,11 @@
 -- A call in bands is done exactly if the plain two_phase call is lent enough, the cut fits and the list is good; else it changes nothing.
 -- One that is done equals the plain two_phase call: asked the same over the same buffers, they give the same answer, samples and
 -- scratch, whatever the cut and the list of steps.
-use Prim.Native.Nat.{ℕ}
 use mathlib.Core.Path.{◌≡◌, sym, ap, ◌∙◌}
 use mathlib.Core.Logic.{◌≢◌}
 use Rattle.rules_bands.specs.Call as Bands
 use Rattle.rules_bands.proofs.Calls.{Passed, passed, refusal_list, samples_kept, scratch_kept}
-use Rattle.rules_bands.proofs.Lists.{done_passed, same_answer, same_samples, same_scratch}
+use Rattle.rules_bands.proofs.Lists.{same_answer, same_samples, same_scratch}
 use Rattle.rules.proofs.Isolation.{Returned}
 use Rattle.samsung.proofs.Isolation.{Call, Banded, called, yielded, returned, last_in_bands, ended}
 

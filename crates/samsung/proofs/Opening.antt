@@ -15,8 +15,8 @@ use Rattle.rules.specs.declared.answer.Size.{Size}
 use Rattle.rules.specs.Frame.{cells}
 use Rattle.rules.specs.Answer.{direct, two_phase, v2, Ask, ask, Buffers, buffers, lengths, too_large, too_small, short_samples, short_offsets, short_map, short_scratch, scratch_bytes, first_of, refusal}
 use Rattle.rules.proofs.Refusals.{size_most, samples_enough, offsets_enough, map_enough, scratch_enough}
-use Rattle.entry_refusals.specs.declared.Lending.{Lending}
-use Rattle.entry_refusals.specs.declared.Lending.TheVariants.{Nothing, Length}
+use Rattle.std.specs.Prelude.{Some, None}
+use Rattle.std.specs.Prelude as Code
 use Rattle.entry_refusals.specs.Lending.{short}
 use Rattle.entry_refusals.proofs.RefusalLaws.{cells_most}
 use Rattle.rules_bands.specs.Bands.{sized}
@@ -29,9 +29,9 @@ pub record Tested (a : Ask) (found : Buffers) (k : ℕ) : Type 0 where
   pub is : refusal a (lengths found) ≡ k
 
 -- A map as the test takes it.
-abbrev pub lending : Option (List ℕ) → Lending
-lending none = Nothing
-lending (some map) = Length (length map)
+abbrev pub lending : Option (List ℕ) → Code.Option ℕ
+lending none = None
+lending (some map) = Some (length map)
 
 map_short : (map : Option (List ℕ)) (z : Size) → short (lending map) (cells z) ≡ short_map (Option.map length map) z
 unfolding short short_map
@@ -40,19 +40,19 @@ map_short (some map) z = refl
 
 module _ {s : List ℕ} {w h : ℕ} {samples : List ℕ} {k : ℕ} where
   pub direct_tested : {offsets : List ℕ} {map : Option (List ℕ)}
-      → k ≡ first_of (too_large (sized w h)) false (ltb (length samples) (w * h) || short (Length (length offsets)) h) (short (lending map) (w * h) || short Nothing (scratch_bytes (sized w h)))
+      → k ≡ first_of (too_large (sized w h)) false (ltb (length samples) (w * h) || short (Some (length offsets)) h) (short (lending map) (w * h) || short None (scratch_bytes (sized w h)))
       → Tested (ask direct s offsets w h) (buffers samples map none) k
   unfolding refusal too_small short_samples short_offsets short_scratch short
   direct_tested {map = map} e = record { is = sym (rw (map_short map (sized w h)) at e) }
 
   pub two_phase_tested : {offsets scratch : List ℕ}
-      → k ≡ first_of (too_large (sized w h)) false (ltb (length samples) (w * h) || short (Length (length offsets)) h) (short Nothing (w * h) || short (Length (length scratch)) (scratch_bytes (sized w h)))
+      → k ≡ first_of (too_large (sized w h)) false (ltb (length samples) (w * h) || short (Some (length offsets)) h) (short None (w * h) || short (Some (length scratch)) (scratch_bytes (sized w h)))
       → Tested (ask two_phase s offsets w h) (buffers samples none (some scratch)) k
   unfolding refusal too_small short_samples short_offsets short_map short_scratch short
   two_phase_tested e = record { is = sym e }
 
   pub v2_tested : {map : Option (List ℕ)}
-      → k ≡ first_of (too_large (sized w h)) (too_small v2 (sized w h)) (ltb (length samples) (w * h) || short Nothing h) (short (lending map) (w * h) || short Nothing (scratch_bytes (sized w h)))
+      → k ≡ first_of (too_large (sized w h)) (too_small v2 (sized w h)) (ltb (length samples) (w * h) || short None h) (short (lending map) (w * h) || short None (scratch_bytes (sized w h)))
       → Tested (ask v2 s [] w h) (buffers samples map none) k
   unfolding refusal short_samples short_offsets short_scratch short
   v2_tested {map} e = record { is = sym (rw (map_short map (sized w h)) at e) }
@@ -88,6 +88,23 @@ opened {a} {found} t zero =
       map_enough = λ map e. map_enough a l ok (length map) (ap (Option.map length) e);
       scratch_enough = scratch_enough a l ok;
     }
+
+-- An entry's own test, passed.
+module _ (s : List ℕ) where
+  pub direct_opened : (offsets : List ℕ) (w h : ℕ) (samples : List ℕ) (map : Option (List ℕ))
+      → 0 ≡ first_of (too_large (sized w h)) false (ltb (length samples) (w * h) || short (Some (length offsets)) h) (short (lending map) (w * h) || short None (scratch_bytes (sized w h)))
+      → Opened (ask direct s offsets w h) (buffers samples map none)
+  direct_opened offsets w h samples map e = opened (direct_tested e) refl
+
+  pub two_phase_opened : (offsets : List ℕ) (w h : ℕ) (samples scratch : List ℕ)
+      → 0 ≡ first_of (too_large (sized w h)) false (ltb (length samples) (w * h) || short (Some (length offsets)) h) (short None (w * h) || short (Some (length scratch)) (scratch_bytes (sized w h)))
+      → Opened (ask two_phase s offsets w h) (buffers samples none (some scratch))
+  two_phase_opened offsets w h samples scratch e = opened (two_phase_tested e) refl
+
+  pub v2_opened : (w h : ℕ) (samples : List ℕ) (map : Option (List ℕ))
+      → 0 ≡ first_of (too_large (sized w h)) (too_small v2 (sized w h)) (ltb (length samples) (w * h) || short None h) (short (lending map) (w * h) || short None (scratch_bytes (sized w h)))
+      → Opened (ask v2 s [] w h) (buffers samples map none)
+  v2_opened w h samples map e = opened (v2_tested e) refl
 
 -- So a V0 decoder is lent what it asks for, with a map or without.
 pub direct_v0 : direct ≢ v2

@@ -6,27 +6,25 @@ ghost use Rattle.rules.specs.Answer.{direct, ask, buffers};
 ghost use Rattle.v0_direct.specs.FrameLent.{FrameLent};
 ghost use Rattle.rules_clean.specs.Verdict.{verdict};
 ghost use Rattle.rules_clean.specs.Clean.{Yields};
+ghost use Rattle.v0_clean.specs.Faults.{told};
 
-use entry_refusals::{Lending, refuse_direct, refused};
+use entry_refusals::refuse_direct;
 use frame_map::mark_all;
 use rules::{Answer, Size};
-use v0_clean::check_frame;
+use v0_clean::{Fault, answer_of, check_frame};
 use v0_direct::frame::decode_frame;
 
 // Decodes a frame if it is clean; else returns its first fault, and changes nothing.
-fn decode_checked(src: &[u8], offsets: &[u32], size: Size, out: &mut [u16]) -> Answer
+fn decode_checked(src: &[u8], offsets: &[u32], size: Size, out: &mut [u16]) -> Result<(), Fault>
     requires { FrameLent size offsets.now out.old [] }
-    ensures answered { result ≡ verdict src.now offsets.now size }
+    ensures answered { told result ≡ verdict src.now offsets.now size }
     ensures samples { out.new
-        ≡ cond (eqb result.number 0) (decoded src.now offsets.now size out.old) out.old }
+        ≡ cond (eqb (told result).number 0) (decoded src.now offsets.now size out.old) out.old }
 {
-    let told = check_frame(src, offsets, size);
-    if told.number != 0 {
-        return told;
-    }
+    check_frame(src, offsets, size)?;
     let mut no_map = [0u8; 0];
     decode_frame(src, offsets, size, out, &mut no_map);
-    told
+    Ok(())
 }
 
 // Decodes a clean V0 frame over what `out` holds. Refusals 1 and 3, then 17 to 19 with their row; each changes nothing.
@@ -42,12 +40,11 @@ pub fn decode_v0_clean(
         result (buffers out.new none none) }
 {
     let size = Size { width, height };
-    let refusal = refuse_direct(size, out.len(), offsets.len(), Lending::Nothing);
-    if refusal != 0 {
-        return refused(refusal);
+    if let Err(refusal) = refuse_direct(size, out.len(), offsets.len(), None) {
+        return Answer::from(refusal);
     }
     let n = width * height;
-    decode_checked(src, offsets, size, &mut out[..n])
+    answer_of(decode_checked(src, offsets, size, &mut out[..n]))
 }
 
 // Decodes a clean V0 frame over what `out` holds, and its map, which is all 0. Refusals 1, 3 and 4, then 17 to 19 with their row;
@@ -65,15 +62,13 @@ pub fn decode_v0_clean_map(
         result (buffers out.new (some map.new) none) }
 {
     let size = Size { width, height };
-    let refusal = refuse_direct(size, out.len(), offsets.len(), Lending::Length(map.len()));
-    if refusal != 0 {
-        return refused(refusal);
+    if let Err(refusal) = refuse_direct(size, out.len(), offsets.len(), Some(map.len())) {
+        return Answer::from(refusal);
     }
     let n = width * height;
-    let verdict = decode_checked(src, offsets, size, &mut out[..n]);
-    if verdict.number != 0 {
-        return verdict;
+    if let Err(fault) = decode_checked(src, offsets, size, &mut out[..n]) {
+        return Answer::from(fault);
     }
     mark_all(&mut map[..n], 0);
-    verdict
+    Answer::done()
 }

@@ -2,7 +2,7 @@
 ghost use Rattle.std.proofs.Math.Option.{none, some};
 ghost use Rattle.rules.specs.Answer.{direct, ask, buffers, Yields};
 
-use entry_refusals::{Lending, refuse_direct, refused};
+use entry_refusals::refuse_direct;
 use frame_map::mark_old;
 use rules::{Answer, Size};
 use v0_direct::frame::decode_frame;
@@ -20,9 +20,8 @@ pub fn decode_v0_reference(
         result (buffers out.new none none) }
 {
     let size = Size { width, height };
-    let refusal = refuse_direct(size, out.len(), offsets.len(), Lending::Nothing);
-    if refusal != 0 {
-        return refused(refusal);
+    if let Err(refusal) = refuse_direct(size, out.len(), offsets.len(), None) {
+        return Answer::from(refusal);
     }
     let n = width * height;
     let mut no_map = [0u8; 0];
@@ -45,9 +44,8 @@ pub fn decode_v0_reference_map(
         result (buffers out.new (some map.new) none) }
 {
     let size = Size { width, height };
-    let refusal = refuse_direct(size, out.len(), offsets.len(), Lending::Length(map.len()));
-    if refusal != 0 {
-        return refused(refusal);
+    if let Err(refusal) = refuse_direct(size, out.len(), offsets.len(), Some(map.len())) {
+        return Answer::from(refusal);
     }
     let n = width * height;
     let marks = &mut map[..n];

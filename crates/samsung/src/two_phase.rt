@@ -2,7 +2,7 @@
 ghost use Rattle.std.proofs.Math.Option.{none, some};
 ghost use Rattle.rules.specs.Answer.{two_phase, ask, buffers, Yields};
 
-use entry_refusals::{refuse_two_phase, refused};
+use entry_refusals::refuse_two_phase;
 use rules::{Answer, Size};
 use v0_two_phase::frame::decode_frame;
 
@@ -20,9 +20,8 @@ pub fn decode_v0(
         result (buffers out.new none (some scratch.new)) }
 {
     let size = Size { width, height };
-    let refusal = refuse_two_phase(size, out.len(), offsets.len(), scratch.len());
-    if refusal != 0 {
-        return refused(refusal);
+    if let Err(refusal) = refuse_two_phase(size, out.len(), offsets.len(), scratch.len()) {
+        return Answer::from(refusal);
     }
     let n = width * height;
     decode_frame(src, offsets, size, &mut out[..n], scratch);

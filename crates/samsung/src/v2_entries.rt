@@ -3,7 +3,7 @@ ghost use Rattle.std.specs.Prelude.{[]};
 ghost use Rattle.std.proofs.Math.Option.{none, some};
 ghost use Rattle.rules.specs.Answer.{v2, ask, buffers, Yields};
 
-use entry_refusals::{Lending, refuse_v2, refused};
+use entry_refusals::refuse_v2;
 use frame_map::mark_old;
 use rules::{Answer, Size};
 use v2_frame::frame::decode_frame;
@@ -15,9 +15,8 @@ pub fn decode_v2(src: &[u8], width: usize, height: usize, out: &mut [u16]) -> An
         result (buffers out.new none none) }
 {
     let size = Size { width, height };
-    let refusal = refuse_v2(size, out.len(), Lending::Nothing);
-    if refusal != 0 {
-        return refused(refusal);
+    if let Err(refusal) = refuse_v2(size, out.len(), None) {
+        return Answer::from(refusal);
     }
     let n = width * height;
     let mut no_map = [0u8; 0];
@@ -38,9 +37,8 @@ pub fn decode_v2_map(
         result (buffers out.new (some map.new) none) }
 {
     let size = Size { width, height };
-    let refusal = refuse_v2(size, out.len(), Lending::Length(map.len()));
-    if refusal != 0 {
-        return refused(refusal);
+    if let Err(refusal) = refuse_v2(size, out.len(), Some(map.len())) {
+        return Answer::from(refusal);
     }
     let n = width * height;
     let marks = &mut map[..n];

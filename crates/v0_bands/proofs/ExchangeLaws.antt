@@ -11,7 +11,8 @@ use borrow.Author.Tests.{eq-eqb, ne_eqb}
 use Rattle.rules.specs.Limits.{most_side}
 use Rattle.rules.specs.V0.{exchange_columns, sample_kind}
 use Rattle.v0_cells.specs.Places.{InColumns}
-use Rattle.rules_bands.specs.Bands.{Cut, cut, sized, blocks_per_band}
+use Rattle.rules_bands.specs.declared.Cut.{Cut}
+use Rattle.rules_bands.specs.Bands.{blocks_per_band}
 use Rattle.rules_bands.proofs.AnySequence.{Fitting, fitting, reach}
 use Rattle.rules_bands.proofs.CheckLaws.{bands_most}
 use Rattle.rules_bands.proofs.Counters.{some_block}
@@ -29,8 +30,8 @@ module _ (w row end from to : ℕ) where
     pub same_length : length f ≡ length f₀
     pub cells_are : exchange_part w ((to - from) / 2) from ((end - r) / 2) r f ≡ exchange_part w ((to - from) / 2) from ((end - row) / 2) row f₀
 
-  pub pairs_begun : (f : List ℕ) → PartLent w row end from to f → Pairs f f row
-  pairs_begun f p = record { even = p.pairs.0; within = p.rows; same_length = refl; cells_are = refl }
+  pub pairs_begun : (f : List ℕ) (r : ℕ) → r ≡ row → PartLent w row end from to f → Pairs f f r
+  pairs_begun f r e p = rw e (record { even = p.pairs.0; within = p.rows; same_length = refl; cells_are = refl })
 
   -- A pair of rows that is left lies in the part.
   pub pair_lent : (f₀ f : List ℕ) (r : ℕ) → r < end → PartLent w row end from to f₀ → Pairs f₀ f r → InColumns w r from to f
@@ -46,10 +47,11 @@ module _ (w row end from to : ℕ) where
         inside = omega (arith, p.lent, q.same_length);
       }
 
-  pub pairs_on : (f₀ f f' : List ℕ) (r : ℕ) → r < end → PartLent w row end from to f₀ → f' ≡ exchange_columns sample_kind w r ((to - from) / 2) from f
-      → Pairs f₀ f r → Pairs f₀ f' (r + 2)
+  pub pairs_on : (f₀ f f' : List ℕ) (r next : ℕ) → next ≡ r + 2 → r < end → PartLent w row end from to f₀
+      → f' ≡ exchange_columns sample_kind w r ((to - from) / 2) from f → Pairs f₀ f r → Pairs f₀ f' next
   unfolding exchange_part
-  pairs_on f₀ f f' r l p e q =
+  pairs_on f₀ f f' r next on l p e q =
+      rw on (
       let ev = q.even in
       let ev' = p.pairs.1 in
       let n : (end - r) / 2 ≡ suc ((end - (r + 2)) / 2) = omega arith in
@@ -58,7 +60,7 @@ module _ (w row end from to : ℕ) where
         within = omega arith;
         same_length = ap length e ∙ columns_length w r ((to - from) / 2) from f ∙ q.same_length;
         cells_are = ap (exchange_part w ((to - from) / 2) from ((end - (r + 2)) / 2) (r + 2)) e ∙ (rw n at q.cells_are);
-      }
+      })
 
   pub pairs_done : (f₀ f : List ℕ) (r : ℕ) → end ≤ r → Pairs f₀ f r → f ≡ exchange_part w ((to - from) / 2) from ((end - row) / 2) row f₀
   unfolding exchange_part
@@ -77,13 +79,14 @@ module _ {h bands band : ℕ} (p : RowLent h bands band) where
   pub start_fits : (late : ℕ) → late ≡ h - 2 → band * late / bands ≤ 1_048_576
   start_fits late e = omega (arith, div-le_self (band * late) bands, rows_fit late e)
 
-  pub row_last : (w b : ℕ) → band ≡ bands → h / 2 * 2 ≡ freed_rows (cut (sized w h) bands b) band
+module _ (c : Cut) (band : ℕ) where
+  pub row_last : band ≡ c.bands → c.size.height / 2 * 2 ≡ freed_rows c band
   unfolding freed_rows
-  row_last w b e = rw (eq-eqb band bands e)
+  row_last e = rw (eq-eqb band c.bands e)
 
-  pub row_first : (w b late : ℕ) → late ≡ h - 2 → band ≢ bands → band * late / bands / 2 * 2 ≡ freed_rows (cut (sized w h) bands b) band
+  pub row_first : (late : ℕ) → late ≡ c.size.height - 2 → band ≢ c.bands → band * late / c.bands / 2 * 2 ≡ freed_rows c band
   unfolding freed_rows
-  row_first w b late e ne = rw (e, ne_eqb band bands ne)
+  row_first late e ne = rw (e, ne_eqb band c.bands ne)
 
 module _ {c : Cut} {blocks block : ℕ} (p : ColumnLent c blocks block) where
   fit : Fitting c
@@ -119,7 +122,7 @@ module _ {c : Cut} {blocks n : ℕ} {f : List ℕ} (p : StepLent c blocks n f) w
   row_lent band l = record {
     height = p.height;
     some_band = fit'.some_band;
-    most_bands = bands_most c.size.width c.size.height c.bands c.block_width p.width p.cut_fits;
+    most_bands = bands_most c p.width p.cut_fits;
     within = l;
   }
 

@@ -14,7 +14,8 @@ use borrow.Author.Tests.{lt-ltb, le-ltb, eq-eqb, ne_eqb}
 use Rattle.rules.specs.V0.{blocks_in, exchange, sample_kind}
 use Rattle.rules.specs.Phases.{sample_stage}
 use Rattle.rules.proofs.V0Cells.{exchange_length}
-use Rattle.rules_bands.specs.Bands.{Cut, late_rows, fits, band_start, blocks_per_band, step_count, step_band, step_block, after, in_turn, none_done, good, do_step, do_steps}
+use Rattle.rules_bands.specs.declared.Cut.{Cut}
+use Rattle.rules_bands.specs.Bands.{late_rows, fits, band_start, blocks_per_band, step_count, step_band, step_block, after, in_turn, none_done, good, do_step, do_steps}
 use Rattle.rules_bands.proofs.Finished.{still}
 use Rattle.rules_bands.proofs.Counters.{zeros, Stands, stands, Counts, after_own, after_other, done_after, Turns, end, next, turns, good_full}
 use Rattle.rules_bands.proofs.AnySequence.{column_of, same_cells, Fitting, fitting, start_zero, start_last, start_up, step_from, step_to, Of_step, Bands_done, Step_ready, Step_left, step_left, elsewhere, step_ready, step_done, none_done_yet, reach, good_done}

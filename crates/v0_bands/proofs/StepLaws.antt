@@ -11,7 +11,8 @@ use lib.ListN.{length, get_or, take, drop, length-take, length-drop, drop_of_len
 use lib.Seq.{drop-cons, get_or-take, get_or-drop, ext_get_or}
 use Rattle.rules.specs.V0.{blocks_in}
 use Rattle.rules.specs.Phases.{Stage, sample_stage, predict_blocks}
-use Rattle.rules_bands.specs.Bands.{Cut, cut, sized, late_rows, blocks_per_band, step_count, in_turn, none_done, good, block_directions, predict_band, do_step}
+use Rattle.rules_bands.specs.declared.Cut.{Cut}
+use Rattle.rules_bands.specs.Bands.{late_rows, blocks_per_band, step_count, in_turn, none_done, good, block_directions, predict_band, do_step}
 use Rattle.rules_bands.proofs.AnySequence.{column_of, Fitting, fitting, start_up, start_last}
 use Rattle.rules_bands.proofs.CheckLaws.{bands_most}
 use Rattle.rules_bands.proofs.Counters.{some_block, stands, Turns, end, next, turns}
@@ -42,43 +43,44 @@ part_of ds st n i m lent =
     lengths' = simp (length-take, length-drop) (omega arith)
 
 module _ (g : Stage ℕ) (w b block n row : ℕ) (ds : List ℕ) where
+  -- Up to row r, from its first row on.
   pub record Band (f₀ f : List ℕ) (r : ℕ) : Type 0 where
-    pub below : r ≤ n
+    pub begun : row ≤ r
+    pub below : r ≤ row + n
     pub same_length : length f ≡ length f₀
-    pub cells_are : predict_band g w b block (n - r) (row + r) ds f ≡ predict_band g w b block n row ds f₀
+    pub cells_are : predict_band g w b block (row + n - r) r ds f ≡ predict_band g w b block n row ds f₀
 
-  pub band_begun : (f : List ℕ) → Band f f 0
+  pub band_begun : (f : List ℕ) → Band f f row
   band_begun f =
-      let x : n - 0 ≡ n = omega arith in
-      let y : row + 0 ≡ row = omega arith in
-      record { below = omega arith; same_length = refl; cells_are = rw (x, y) }
+      let x : row + n - row ≡ n = omega arith in
+      record { begun = omega arith; below = omega arith; same_length = refl; cells_are = rw x }
 
-  pub band_on : (f₀ f f' : List ℕ) (r : ℕ) → r < n → b % 16 ≡ 0 → (row + r - 2) * blocks_in w + blocks_in w ≤ length ds → length f' ≡ length f
+  pub band_on : (f₀ f f' : List ℕ) (r : ℕ) → r < row + n → b % 16 ≡ 0 → (r - 2) * blocks_in w + blocks_in w ≤ length ds → length f' ≡ length f
       → (to : ℕ) → to ≡ min (block * (b / 16) + b / 16) (blocks_in w)
-      → f' ≡ predict_blocks g w (row + r) (block * (b / 16) * 16) (take (to - block * (b / 16)) (drop ((row + r - 2) * blocks_in w + block * (b / 16)) ds)) f
+      → f' ≡ predict_blocks g w r (block * (b / 16) * 16) (take (to - block * (b / 16)) (drop ((r - 2) * blocks_in w + block * (b / 16)) ds)) f
       → Band f₀ f r → Band f₀ f' (r + 1)
   unfolding predict_band
   band_on f₀ f f' r l b16 lent same to et q p =
-      record { below = omega arith; same_length = same ∙ p.same_length; cells_are = sym left ∙ p.cells_are }
+      record { begun = omega (arith, p.begun); below = omega arith; same_length = same ∙ p.same_length; cells_are = sym left ∙ p.cells_are }
     where
       i : ℕ
       i = block * (b / 16)
 
-      is : f' ≡ predict_blocks g w (row + r) (block * b) (block_directions w b block (row + r) ds) f
+      is : f' ≡ predict_blocks g w r (block * b) (block_directions w b block r ds) f
       is = q
-          ∙ ap (λ x. predict_blocks g w (row + r) x (take (to - i) (drop ((row + r - 2) * blocks_in w + i) ds)) f) (column_of b block b16)
-          ∙ ap (λ x. predict_blocks g w (row + r) (block * b) x f)
-          (ap (λ x. take (x - i) (drop ((row + r - 2) * blocks_in w + i) ds)) et ∙ sym (part_of ds ((row + r - 2) * blocks_in w) (blocks_in w) i (b / 16) lent))
+          ∙ ap (λ x. predict_blocks g w r x (take (to - i) (drop ((r - 2) * blocks_in w + i) ds)) f) (column_of b block b16)
+          ∙ ap (λ x. predict_blocks g w r (block * b) x f)
+          (ap (λ x. take (x - i) (drop ((r - 2) * blocks_in w + i) ds)) et ∙ sym (part_of ds ((r - 2) * blocks_in w) (blocks_in w) i (b / 16) lent))
 
-      left : predict_band g w b block (n - r) (row + r) ds f ≡ predict_band g w b block (n - (r + 1)) (row + (r + 1)) ds f'
+      left : predict_band g w b block (row + n - r) r ds f ≡ predict_band g w b block (row + n - (r + 1)) (r + 1) ds f'
       left =
-          let x : n - r ≡ suc (n - (r + 1)) = omega arith in
-          let y : row + (r + 1) ≡ suc (row + r) = omega arith in
+          let x : row + n - r ≡ suc (row + n - (r + 1)) = omega arith in
+          let y : r + 1 ≡ suc r = omega arith in
           rw (x, y, is)
 
-  pub band_done : (f₀ f : List ℕ) (r : ℕ) → n ≤ r → Band f₀ f r → f ≡ predict_band g w b block n row ds f₀
+  pub band_done : (f₀ f : List ℕ) (r : ℕ) → row + n ≤ r → Band f₀ f r → f ≡ predict_band g w b block n row ds f₀
   unfolding predict_band
-  band_done f₀ f r l p = let none : n - r ≡ 0 = omega arith in rw none at p.cells_are
+  band_done f₀ f r l p = let none : row + n - r ≡ 0 = omega arith in rw none at p.cells_are
 
 -- A row's number times the blocks of a row fits a machine word.
 pub small_product : (x y : ℕ) → x ≤ 16_384 → y ≤ 1_024 → x * y < 18_446_744_073_709_551_616
@@ -89,18 +91,18 @@ module _ {w b block row n : ℕ} {f dirs : List ℕ} (p : BandLent w b block row
   pub from_low : block * (b / 16) * 16 < w
   from_low = omega (arith, p.begins, column_of b block p.multiple)
 
-  pub directions_within : (r : ℕ) → r < n → (row + r - 2) * blocks_in w + blocks_in w ≤ length dirs
-  directions_within r l =
+  pub directions_within : (r : ℕ) → row ≤ r → r < row + n → (r - 2) * blocks_in w + blocks_in w ≤ length dirs
+  directions_within r k l =
       let two = p.rows_above in
-      let q : suc (row + r - 2) * blocks_in w ≤ (row + n - 2) * blocks_in w = mul-le-mul_right (blocks_in w) (omega arith) in
-      omega (arith, p.directions_lent, suc-mul (row + r - 2) (blocks_in w))
+      let q : suc (r - 2) * blocks_in w ≤ (row + n - 2) * blocks_in w = mul-le-mul_right (blocks_in w) (omega arith) in
+      omega (arith, p.directions_lent, suc-mul (r - 2) (blocks_in w))
 
-  pub row_late : (g : List ℕ) → length g ≡ length f → (r : ℕ) → r < n → LateRow w (row + r) g
-  row_late g e r l =
+  pub row_late : (g : List ℕ) → length g ≡ length f → (r : ℕ) → row ≤ r → r < row + n → LateRow w r g
+  row_late g e r k l =
       let two = p.rows_above in
       let low = p.rows_below in
-      let q : suc (row + r) * w ≤ (row + n) * w = mul-le-mul_right w (omega arith) in
-      record { width = p.width; rows_above = omega arith; row_below = omega arith; row_lent = omega (arith, p.rows_lent, suc-mul (row + r) w) }
+      let q : suc r * w ≤ (row + n) * w = mul-le-mul_right w (omega arith) in
+      record { width = p.width; rows_above = omega arith; row_below = omega arith; row_lent = omega (arith, p.rows_lent, suc-mul r w) }
 
 -- ── The steps ──
 
@@ -109,62 +111,62 @@ turns_low c end i l = absurd (omega arith)
 turns_low c (next {done = done} {n = n} e rest) zero l = (stands c done n e).low
 turns_low c (next e rest) (suc i) l = turns_low c rest i (omega arith)
 
-module _ {w h k b : ℕ} {steps f dirs : List ℕ} (p : StepsLent w h k b steps f dirs) (i : ℕ) (l : i < length steps) where
+module _ {c : Cut} {steps f dirs : List ℕ} (p : StepsLent c steps f dirs) (i : ℕ) (l : i < length steps) where
   -- A step of a good list is a block's number.
-  pub step_low : get_or steps i 0 < k * blocks_per_band (cut (sized w h) k b)
+  pub step_low : get_or steps i 0 < c.bands * blocks_per_band c
   unfolding good
   step_low =
-      let e = both (eqb (length steps) (step_count (cut (sized w h) k b))) (in_turn (cut (sized w h) k b) (none_done (cut (sized w h) k b)) steps) p.list_good in
-      turns_low (cut (sized w h) k b) (turns (cut (sized w h) k b) (none_done (cut (sized w h) k b)) steps e.1) i l
+      let e = both (eqb (length steps) (step_count c)) (in_turn c (none_done c) steps) p.list_good in
+      turns_low c (turns c (none_done c) steps e.1) i l
 
-  fit : Fitting (cut (sized w h) k b)
-  fit = fitting (cut (sized w h) k b) p.cut_fits
+  fit : Fitting c
+  fit = fitting c p.cut_fits
 
-  pub bands_some : 0 < k
+  pub bands_some : 0 < c.bands
   bands_some = fit.some_band
 
-  module _ (blocks late : ℕ) (is : blocks ≡ blocks_per_band (cut (sized w h) k b)) (is' : late ≡ h - 2) where
+  module _ (blocks late : ℕ) (is : blocks ≡ blocks_per_band c) (is' : late ≡ c.size.height - 2) where
     pub blocks_some : 0 < blocks
-    blocks_some = rw is (some_block (cut (sized w h) k b) (get_or steps i 0) step_low)
+    blocks_some = rw is (some_block c (get_or steps i 0) step_low)
 
-    pub band_low : get_or steps i 0 / blocks < k
+    pub band_low : get_or steps i 0 / blocks < c.bands
     band_low = (div-lt_iff_lt-mul blocks_some).1 (rw is step_low)
 
     -- Its band begins and ends within the late rows.
-    pub start_end : get_or steps i 0 / blocks * late / k ≤ (get_or steps i 0 / blocks + 1) * late / k
-    start_end = rw (is', add-one) (start_up (cut (sized w h) k b) fit (get_or steps i 0 / blocks) (suc (get_or steps i 0 / blocks)) (omega arith))
+    pub start_end : get_or steps i 0 / blocks * late / c.bands ≤ (get_or steps i 0 / blocks + 1) * late / c.bands
+    start_end = rw (is', add-one) (start_up c fit (get_or steps i 0 / blocks) (suc (get_or steps i 0 / blocks)) (omega arith))
 
-    pub end_low : (get_or steps i 0 / blocks + 1) * late / k ≤ h - 2
+    pub end_low : (get_or steps i 0 / blocks + 1) * late / c.bands ≤ c.size.height - 2
     end_low =
         rw (is', add-one)
-        (let q = start_up (cut (sized w h) k b) fit (suc (get_or steps i 0 / blocks)) k band_low in
-        omega (arith, start_last (cut (sized w h) k b) fit))
+        (let q = start_up c fit (suc (get_or steps i 0 / blocks)) c.bands band_low in
+        omega (arith, start_last c fit))
 
-    late_some : h - 2 ≢ 0
-    late_some = some_late (cut (sized w h) k b) fit (rw is at blocks_some)
+    late_some : c.size.height - 2 ≢ 0
+    late_some = some_late c fit (rw is at blocks_some)
 
     -- Its block begins within the row.
-    block_begins : get_or steps i 0 % blocks * b < w
-    block_begins = begins (cut (sized w h) k b) fit (get_or steps i 0 % blocks) (let q = mod-lt (get_or steps i 0) blocks_some in omega (arith, is))
+    block_begins : get_or steps i 0 % blocks * c.block_width < c.size.width
+    block_begins = begins c fit (get_or steps i 0 % blocks) (let q = mod-lt (get_or steps i 0) blocks_some in omega (arith, is))
 
     -- What it frees is lent.
-    pub step_lent : (g : List ℕ) → length g ≡ length f → StepLent (cut (sized w h) k b) blocks (get_or steps i 0) g
+    pub step_lent : (g : List ℕ) → length g ≡ length f → StepLent c blocks (get_or steps i 0) g
     step_lent g e = record { width = p.width; height = p.height; cut_fits = p.cut_fits; blocks_are = is; low = step_low; lent = omega (arith, p.lent) }
 
     -- So the block of its band is lent.
     pub band_lent : (g : List ℕ) → length g ≡ length f
-        → BandLent w b (get_or steps i 0 % blocks) (get_or steps i 0 / blocks * late / k + 2)
-        ((get_or steps i 0 / blocks + 1) * late / k - get_or steps i 0 / blocks * late / k) g dirs
+        → BandLent c.size.width c.block_width (get_or steps i 0 % blocks) (get_or steps i 0 / blocks * late / c.bands + 2)
+        ((get_or steps i 0 / blocks + 1) * late / c.bands - get_or steps i 0 / blocks * late / c.bands) g dirs
     band_lent g e =
-        let first = get_or steps i 0 / blocks * late / k in
-        let last = (get_or steps i 0 / blocks + 1) * late / k in
+        let first = get_or steps i 0 / blocks * late / c.bands in
+        let last = (get_or steps i 0 / blocks + 1) * late / c.bands in
         let x = start_end in
         let y = end_low in
         let z = late_some in
         let s : first + 2 + (last - first) ≡ last + 2 = omega arith in
-        let rows : (last + 2) * w ≤ h * w = mul-le-mul_right w (omega arith) in
+        let rows : (last + 2) * c.size.width ≤ c.size.height * c.size.width = mul-le-mul_right c.size.width (omega arith) in
         let s' : first + 2 + (last - first) - 2 ≡ last = omega arith in
-        let ds : last * blocks_in w ≤ (h - 2) * blocks_in w = mul-le-mul_right (blocks_in w) y in
+        let ds : last * blocks_in c.size.width ≤ (c.size.height - 2) * blocks_in c.size.width = mul-le-mul_right (blocks_in c.size.width) y in
         record {
           width = p.width;
           multiple = fit.blocks_16;
@@ -178,7 +180,7 @@ module _ {w h k b : ℕ} {steps f dirs : List ℕ} (p : StepsLent w h k b steps 
     -- Products of rows and bands are small.
     pub rows_most : (get_or steps i 0 / blocks + 1) * late ≤ 1_048_576
     rows_most =
-        let m : (get_or steps i 0 / blocks + 1) * late ≤ 64 * late = mul-le-mul_right late (omega (arith, band_low, bands_most w h k b p.width p.cut_fits)) in
+        let m : (get_or steps i 0 / blocks + 1) * late ≤ 64 * late = mul-le-mul_right late (omega (arith, band_low, bands_most c p.width p.cut_fits)) in
         omega (arith, p.height)
 
     pub first_most : get_or steps i 0 / blocks * late ≤ 1_048_576

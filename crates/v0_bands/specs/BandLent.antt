@@ -1,11 +1,11 @@
 -- What a block of a band, the exchange of what it frees, and the steps of a list are lent.
 use Rattle.std.specs.Prelude.{ℕ, ◌+◌, ◌-◌, ◌*◌, ◌%◌, ◌≤◌, ◌<◌, ◌≡◌, true, List, length}
 use Rattle.rules.specs.Limits.{most_side}
-use Rattle.rules.specs.declared.answer.Size.{Size}
 use Rattle.rules.specs.Frame.{cells}
 use Rattle.rules.specs.Answer.{scratch_bytes}
 use Rattle.rules.specs.V0.{blocks_in}
-use Rattle.rules_bands.specs.Bands.{Cut, sized, cut, fits, blocks_per_band, step_count, good}
+use Rattle.rules_bands.specs.declared.Cut.{Cut}
+use Rattle.rules_bands.specs.Bands.{fits, blocks_per_band, step_count, good}
 
 -- n late rows from a row on, of w cells, with their direction bytes; and a block of b columns that begins within a row.
 pub record BandLent (w b block row n : ℕ) (f dirs : List ℕ) : Type 0 where
@@ -52,20 +52,20 @@ pub record StepLent (c : Cut) (blocks n : ℕ) (f : List ℕ) : Type 0 where
   pub lent : c.size.height * c.size.width ≤ length f
 
 -- A frame of late rows cut into bands, and a good list.
-pub record StepsLent (w h bands block_width : ℕ) (steps f dirs : List ℕ) : Type 0 where
-  pub width : w ≤ most_side
-  pub height : h ≤ most_side
-  pub cut_fits : fits (cut (sized w h) bands block_width) ≡ true
-  pub list_good : good (cut (sized w h) bands block_width) steps ≡ true
-  pub lent : h * w ≤ length f
-  pub directions_lent : (h - 2) * blocks_in w ≤ length dirs
+pub record StepsLent (c : Cut) (steps f dirs : List ℕ) : Type 0 where
+  pub width : c.size.width ≤ most_side
+  pub height : c.size.height ≤ most_side
+  pub cut_fits : fits c ≡ true
+  pub list_good : good c steps ≡ true
+  pub lent : c.size.height * c.size.width ≤ length f
+  pub directions_lent : (c.size.height - 2) * blocks_in c.size.width ≤ length dirs
 
 -- A whole frame, with its offsets, scratch and list, once refusals 1, 3, 4, 11 and 12 are passed.
-pub record FrameLent (z : Size) (bands block_width : ℕ) (offsets out scratch steps : List ℕ) : Type 0 where
-  pub width : z.width ≤ most_side
-  pub height : z.height ≤ most_side
-  pub offsets_enough : z.height ≤ length offsets
-  pub samples_lent : length out ≡ cells z
-  pub scratch_lent : scratch_bytes z ≤ length scratch
-  pub cut_fits : fits (cut z bands block_width) ≡ true
-  pub list_good : good (cut z bands block_width) steps ≡ true
+pub record FrameLent (c : Cut) (offsets out scratch steps : List ℕ) : Type 0 where
+  pub width : c.size.width ≤ most_side
+  pub height : c.size.height ≤ most_side
+  pub offsets_enough : c.size.height ≤ length offsets
+  pub samples_lent : length out ≡ cells c.size
+  pub scratch_lent : scratch_bytes c.size ≤ length scratch
+  pub cut_fits : fits c ≡ true
+  pub list_good : good c steps ≡ true

@@ -3,7 +3,8 @@
 use Rattle.std.specs.Prelude.{ℕ, zero, suc, ◌+◌, ◌-◌, ◌*◌, ◌/◌, cond, List, [], ◌∷◌, ltb, eqb}
 use Rattle.rules.specs.V0.{exchange_columns, sample_kind}
 use Rattle.rules.specs.Phases.{sample_stage}
-use Rattle.rules_bands.specs.Bands.{Cut, band_start, step_band, step_block, do_step}
+use Rattle.rules_bands.specs.declared.Cut.{Cut}
+use Rattle.rules_bands.specs.Bands.{band_start, step_band, step_block, do_step}
 
 -- m pairs of columns from a column on, in n pairs of rows from a row on.
 unfoldable pub exchange_part : ℕ → ℕ → ℕ → ℕ → ℕ → List ℕ → List ℕ

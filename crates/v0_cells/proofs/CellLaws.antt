@@ -2,7 +2,6 @@
 use Rattle.std.proofs.Common.{◌≡◌, ℕ, ◌+◌, ◌-◌, ◌*◌, ◌%◌, ◌<◌, ◌≤◌, Bool, true, false, List, [], ◌∷◌, ◌++◌, length, get_or, set, sym, refl, ap, ◌∙◌, mul-le-mul, arith, le-ltb, lt-ltb, ne_eqb}
 use lib.Seq.{set_out}
 use Rattle.rules.specs.V0.{Kind, Block, put, apply, write_all, predictor, bounded, limit, rows_up}
-use Rattle.rules.specs.Map.{v0_marks}
 use Rattle.rules.specs.declared.answer.Size.{Size}
 use Rattle.rules.specs.declared.v0.Predictor.{Predictor}
 use Rattle.rules.specs.declared.v0.Predictor.TheVariants.{Skipped, Constant, Sample}
@@ -53,32 +52,25 @@ module _ (z : Size) (row col : ℕ) (up : Bool) (c : ℕ) where
 
 -- ── An operation ──
 
-module _ (k : Kind ℕ) where
-  pub put_skipped : (place : ℕ) (p : Predictor) (d : ℕ) (f : List ℕ) → p ≡ Skipped → f ≡ put k place p d f
+module _ {A : Type 0} (k : Kind A) where
+  pub put_skipped : (place : ℕ) (p : Predictor) (d : ℕ) (f : List A) → p ≡ Skipped → f ≡ put k place p d f
   unfolding put
   put_skipped place p d f e = rw e
 
-  pub put_past : (place : ℕ) (p : Predictor) (d : ℕ) (f : List ℕ) → length f ≤ place → f ≡ put k place p d f
+  pub put_past : (place : ℕ) (p : Predictor) (d : ℕ) (f : List A) → length f ≤ place → f ≡ put k place p d f
   unfolding put
   put_past place Skipped d f l = refl
   put_past place Constant d f l = sym (set_out f place (k.plus (k.constant 128) d) l)
   put_past place (Sample p) d f l = sym (set_out f place (k.plus (get_or f p (k.constant 0)) d) l)
 
-  pub put_constant : (place : ℕ) (p : Predictor) (d v : ℕ) (f : List ℕ) → p ≡ Constant → v ≡ k.plus (k.constant 128) d → set f place v ≡ put k place p d f
+  pub put_constant : (place : ℕ) (p : Predictor) (d : ℕ) (v : A) (f : List A) → p ≡ Constant → v ≡ k.plus (k.constant 128) d → set f place v ≡ put k place p d f
   unfolding put
   put_constant place p d v f e q = rw (e, q)
 
-  pub put_sample : (place q : ℕ) (p : Predictor) (d b v : ℕ) (f : List ℕ) → p ≡ Sample q → b ≡ get_or f q (k.constant 0) → v ≡ k.plus b d
+  pub put_sample : (place q : ℕ) (p : Predictor) (d : ℕ) (b v : A) (f : List A) → p ≡ Sample q → b ≡ get_or f q (k.constant 0) → v ≡ k.plus b d
       → set f place v ≡ put k place p d f
   unfolding put
   put_sample place q p d b v f e eb ev = rw (e, ev, eb)
-
--- No residual changes a mark.
-pub put_mark_alike : (place : ℕ) (p : Predictor) (d e : ℕ) (f : List ℕ) → put v0_marks place p d f ≡ put v0_marks place p e f
-unfolding put
-put_mark_alike place Skipped d e f = refl
-put_mark_alike place Constant d e f = refl
-put_mark_alike place (Sample p) d e f = refl
 
 -- A frame of no cells stays one.
 module _ (k : Kind ℕ) where

@@ -16,7 +16,7 @@ inner_ops w base up (c ∷ cs) (v ∷ vs) =
     record { place = base + c; predictor = Sample (source_of w base up c); residual = v } ∷ inner_ops w base up cs vs
 
 -- A frame whose n cells from a place on are new, and whose others are as they were.
-pub record Replaced (k : Kind ℕ) (base n : ℕ) (new : ℕ → ℕ) (f₀ f : List ℕ) : Type 0 where
+pub record Replaced {A : Type 0} (k : Kind A) (base n : ℕ) (new : ℕ → A) (f₀ f : List A) : Type 0 where
   pub same_length : length f ≡ length f₀
   pub inside : (c : ℕ) → c < n → slice_index_or f (base + c) (k.constant 0) ≡ new c
   pub outside : (i : ℕ) → ((c : ℕ) → c < n → i ≢ base + c) → slice_index_or f i (k.constant 0) ≡ slice_index_or f₀ i (k.constant 0)

@@ -6,7 +6,7 @@ use Rattle.rules.specs.Frame.{cells}
 use Rattle.rules.specs.declared.answer.Size.{Size}
 
 -- A map is lent whole, or not at all: then it is a frame of no cells, to which every rule does nothing.
-abbrev pub Whole : Size → List ℕ → Type 0
+abbrev pub Whole : {A : Type 0} → Size → List A → Type 0
 Whole z map = (length map ≡ cells z) ⊎ (length map ≡ 0)
 
 -- The block at a column of a row that the frame has.
@@ -25,7 +25,7 @@ pub record Inner (z : Size) (row col : ℕ) : Type 0 where
   pub inside : col + 16 ≤ z.width
 
 -- A block at `base` in cells of a row length w: it is no wider than a row and lies inside them, with two rows before it.
-pub record Inside (w base : ℕ) (f : List ℕ) : Type 0 where
+pub record Inside {A : Type 0} (w base : ℕ) (f : List A) : Type 0 where
   pub wide : 16 ≤ w
   pub rows : 2 * w ≤ base
   pub room : base + 16 ≤ length f
@@ -35,7 +35,7 @@ abbrev pub Low : ℕ → Type 0
 Low base = base < 1_000_000_000
 
 -- A pair of rows, with columns from one up to another.
-pub record InColumns (w row from to : ℕ) (f : List ℕ) : Type 0 where
+pub record InColumns {A : Type 0} (w row from to : ℕ) (f : List A) : Type 0 where
   pub width : w ≤ most_side
   pub row_in : row < most_side
   pub columns : from ≤ to
@@ -43,17 +43,17 @@ pub record InColumns (w row from to : ℕ) (f : List ℕ) : Type 0 where
   pub inside : (row + 2) * w ≤ length f
 
 -- Two rows that lie in a frame of row length w.
-pub record InPair (w row : ℕ) (f : List ℕ) : Type 0 where
+pub record InPair {A : Type 0} (w row : ℕ) (f : List A) : Type 0 where
   pub width : w ≤ most_side
   pub row_in : row < most_side
   pub inside : (row + 2) * w ≤ length f
 
 -- The same of a map, which may not be lent.
-abbrev pub MapInPair : ℕ → ℕ → List ℕ → Type 0
+abbrev pub MapInPair : {A : Type 0} → ℕ → ℕ → List A → Type 0
 MapInPair w row map = InPair w row map ⊎ (length map ≡ 0)
 
 -- The pairs of rows from one number up to another, of a frame that is lent with its map or without.
-pub record PairsLent (z : Size) (from to : ℕ) (out map : List ℕ) : Type 0 where
+pub record PairsLent {A B : Type 0} (z : Size) (from to : ℕ) (out : List A) (map : List B) : Type 0 where
   pub width : z.width ≤ most_side
   pub height : z.height ≤ most_side
   pub pairs : from ≤ to

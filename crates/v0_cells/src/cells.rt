@@ -1,10 +1,10 @@
-// One sample: where its prediction comes from, and what that does to the samples and to the map.
-ghost use Rattle.std.specs.Prelude.{◌≡◌, ◌<◌, ◌≤◌, slice_index};
+// One cell: where its prediction comes from, and what that does to a frame of samples or of marks.
+ghost use Rattle.std.specs.Prelude.{◌≡◌, ◌<◌, ◌≤◌, slice_index_or};
 ghost use Rattle.rules.specs.Limits.{most_side};
 ghost use Rattle.rules.specs.V0 as V0;
-ghost use Rattle.rules.specs.Map.{v0_marks};
 ghost use Rattle.v0_cells.specs.Places.{InFrame};
 
+use super::cell::Cell;
 use rules::{Predictor, Size, V0Row};
 
 // A sample that predicts from the place p is skipped if it or p lies at or beyond the bound.
@@ -41,50 +41,29 @@ pub fn predict(size: Size, row: usize, col: usize, up: bool, c: usize) -> Predic
     bounded(size, place, row * w + col - (2 - c % 2))
 }
 
-// The sample at a place, or 0 past the end.
-fn sample_at(out: &[u16], p: usize) -> u16
-    ensures { result ≡ slice_index out.now p }
+// The cell at a place, or that of 0 past the end.
+fn cell_at<C: Cell>(cells: &[C], p: usize) -> C
+    ensures { result ≡ slice_index_or cells.now p (C.kind.constant 0) }
 {
-    if p < out.len() { out[p] } else { 0 }
-}
-
-// The mark at a place, or 0 past the end.
-fn mark_at(map: &[u8], p: usize) -> u8
-    ensures { result ≡ slice_index map.now p }
-{
-    if p < map.len() { map[p] } else { 0 }
-}
-
-// One sample, written if its place is in the frame.
-pub fn put(out: &mut [u16], place: usize, from: Predictor, residual: u16)
-    ensures { out.new ≡ V0.put V0.sample_kind place from residual out.old }
-{
-    if place < out.len() {
-        match from {
-            Predictor::Skipped => {}
-            Predictor::Constant => {
-                out[place] = std::num::wrapping_add_u16(V0Row::CONSTANT, residual);
-            }
-            Predictor::Sample(p) => {
-                let b = sample_at(out, p);
-                out[place] = std::num::wrapping_add_u16(b, residual);
-            }
-        }
+    if p < cells.len() {
+        cells[p]
+    } else {
+        C::constant(0)
     }
 }
 
-// One mark: no residual changes it.
-pub fn put_mark(map: &mut [u8], place: usize, from: Predictor)
-    ensures { map.new ≡ V0.put v0_marks place from 0 map.old }
+// One cell, written if its place is in the frame.
+pub fn put<C: Cell>(cells: &mut [C], place: usize, from: Predictor, residual: u16)
+    ensures { cells.new ≡ V0.put C.kind place from residual cells.old }
 {
-    if place < map.len() {
+    if place < cells.len() {
         match from {
             Predictor::Skipped => {}
             Predictor::Constant => {
-                map[place] = 0;
+                cells[place] = C::constant(V0Row::CONSTANT).plus(residual);
             }
             Predictor::Sample(p) => {
-                map[place] = mark_at(map, p);
+                cells[place] = cell_at(cells, p).plus(residual);
             }
         }
     }

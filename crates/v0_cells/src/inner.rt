@@ -1,11 +1,12 @@
 // An inner block: from row 2 on, after column 0 and inside its row nothing is skipped. Its residuals, all by value, are added to the
 // predictors in the order of the stream.
-ghost use Rattle.std.specs.Prelude.{◌≡◌, ◌+◌, ◌*◌, ◌%◌, ◌<◌, ◌≤◌, true, false, [], ◌∷◌, length, replicate, if◌then◌else◌, nat_eq, slice_index, slice_set};
+ghost use Rattle.std.specs.Prelude.{◌≡◌, ◌+◌, ◌*◌, ◌%◌, ◌<◌, ◌≤◌, true, false, [], ◌∷◌, map, length, replicate, if◌then◌else◌, nat_eq, slice_index, slice_index_or, slice_set};
 ghost use Rattle.rules.specs.V0 as V0;
 ghost use Rattle.rules.specs.Map.{v0_marks};
 ghost use Rattle.v0_cells.specs.Places.{Whole, Inner, Inside, Low};
 ghost use Rattle.v0_cells.specs.Inner.{source_of, inner_ops, Replaced};
 
+use super::cell::Cell;
 use rules::{Size, V0Row};
 use v0_parse::order::stream_column;
 
@@ -25,12 +26,10 @@ pub fn put_inner(out: &mut [u16], w: usize, base: usize, up: bool, residuals: [u
     requires { Inside w base out.old × Low base }
     ensures { out.new ≡ V0.apply V0.sample_kind (inner_ops w base up V0.order residuals) out.old }
 {
-    let mut k: usize = 0;
-    while k < V0Row::BLOCK {
+    for k in 0..V0Row::BLOCK {
         let c = stream_column(k);
         let p = source(w, base, up, c);
-        out[base + c] = std::num::wrapping_add_u16(out[p], residuals[k]);
-        k += 1;
+        out[base + c] = out[p].wrapping_add(residuals[k]);
     }
 }
 
@@ -46,7 +45,7 @@ fn put_sum(out: &mut [u16], to: usize, from: usize, residual: u16)
     requires { (to < length out.old) × (from < length out.old) }
     ensures { out.new ≡ slice_set out.old to ((slice_index out.old from + residual) % 65_536) }
 {
-    out[to] = std::num::wrapping_add_u16(out[from], residual);
+    out[to] = out[from].wrapping_add(residual);
 }
 
 // Four samples of a block at `base`, in column `first` and every other one after it.
@@ -63,87 +62,74 @@ pub fn put_four(out: &mut [u16], w: usize, base: usize, up: bool, first: usize, 
     put_sum(out, to + 6, from + 3 * step, four[3]);
 }
 
-// Of two samples the one for a column: even columns take the first, odd ones the second.
-pub fn sample_of(c: usize, even: u16, odd: u16) -> u16
+// Of two cells the one for a column: even columns take the first, odd ones the second.
+fn of_parity<T: Copy>(c: usize, even: T, odd: T) -> T
     ensures { result ≡ (if nat_eq (c % 2) 0 then even else odd) }
 {
     if c % 2 == 0 { even } else { odd }
 }
 
-// The samples of a block, once all are known.
-pub fn store_samples(out: &mut [u16], base: usize, values: [u16; V0Row::BLOCK])
-    requires { (base + 16 ≤ length out.old) × Low base }
-    ensures { Replaced V0.sample_kind base 16 (λ c. slice_index values c) out.old out.new }
+// The cells of a block, once all are known.
+pub fn store<C: Cell>(cells: &mut [C], base: usize, values: &[C])
+    requires { (base + 16 ≤ length cells.old) × ((16 ≤ length values.now) × Low base) }
+    ensures { Replaced C.kind base 16 (λ c. slice_index_or values.now c (C.kind.constant 0)) cells.old cells.new }
 {
-    let mut c: usize = 0;
-    while c < V0Row::BLOCK {
-        out[base + c] = values[c];
-        c += 1;
+    for c in 0..V0Row::BLOCK {
+        cells[base + c] = values[c];
     }
 }
 
-// Of two marks the one for a column: even columns take the first, odd ones the second.
-fn mark_of(c: usize, even: u8, odd: u8) -> u8
-    ensures { result ≡ (if nat_eq (c % 2) 0 then even else odd) }
+// The cells of a block of direction 1, by the residuals of its columns. Every source lies before the block, so that all are made first
+// and then stored: a store between the reads would keep the compiler from joining them. Inlined as those that call it, so that the
+// residuals stay in registers.
+#[inline(always)]
+fn put_up<C: Cell>(cells: &mut [C], w: usize, base: usize, residuals: [u16; V0Row::BLOCK])
+    requires { Inside w base cells.old × Low base }
+    ensures { cells.new ≡ V0.apply C.kind (inner_ops w base true V0.order (map (λ c. slice_index residuals c) V0.order)) cells.old }
 {
-    if c % 2 == 0 { even } else { odd }
-}
-
-// The marks of a block, once all are known.
-fn store_marks(map: &mut [u8], base: usize, values: [u8; V0Row::BLOCK])
-    requires { (base + 16 ≤ length map.old) × Low base }
-    ensures { Replaced v0_marks base 16 (λ c. slice_index values c) map.old map.new }
-{
-    let mut c: usize = 0;
-    while c < V0Row::BLOCK {
-        map[base + c] = values[c];
-        c += 1;
+    let mut values = [C::constant(0); V0Row::BLOCK];
+    for c in 0..V0Row::BLOCK {
+        let one = cells[base + c - w];
+        let two = cells[base + c - 2 * w];
+        let p = of_parity(c, one, two);
+        values[c] = p.plus(residuals[c]);
     }
+    store(cells, base, &values[..]);
 }
 
-// The marks of a block of direction 1. Every source lies before the block, so that all marks are made first and then stored: a
-// store to the map between the reads would keep the compiler from joining them.
-fn mark_up(map: &mut [u8], w: usize, base: usize)
-    requires { Inside w base map.old × Low base }
-    ensures { map.new ≡ V0.apply v0_marks (inner_ops w base true V0.order (replicate 16 0)) map.old }
+// Those of a block of direction 0: the two columns before it serve all sixteen. The row length is for the contract alone.
+#[inline(always)]
+fn put_left<C: Cell>(cells: &mut [C], w: usize, base: usize, residuals: [u16; V0Row::BLOCK])
+    requires { Inside w base cells.old × Low base }
+    ensures { cells.new ≡ V0.apply C.kind (inner_ops w base false V0.order (map (λ c. slice_index residuals c) V0.order)) cells.old }
 {
-    let mut values = [0; V0Row::BLOCK];
-    let mut c: usize = 0;
-    while c < V0Row::BLOCK {
-        let one = map[base + c - w];
-        let two = map[base + c - 2 * w];
-        values[c] = mark_of(c, one, two);
-        c += 1;
+    let two = cells[base - 2];
+    let one = cells[base - 1];
+    let mut values = [C::constant(0); V0Row::BLOCK];
+    for c in 0..V0Row::BLOCK {
+        let p = of_parity(c, two, one);
+        values[c] = p.plus(residuals[c]);
     }
-    store_marks(map, base, values);
+    store(cells, base, &values[..]);
 }
 
-// The marks of a block of direction 0: the two columns before it serve all sixteen. The row length is for the contract alone.
-fn mark_left(map: &mut [u8], w: usize, base: usize)
-    requires { Inside w base map.old × Low base }
-    ensures { map.new ≡ V0.apply v0_marks (inner_ops w base false V0.order (replicate 16 0)) map.old }
-{
-    let two = map[base - 2];
-    let one = map[base - 1];
-    let mut values = [0; V0Row::BLOCK];
-    let mut c: usize = 0;
-    while c < V0Row::BLOCK {
-        values[c] = mark_of(c, two, one);
-        c += 1;
-    }
-    store_marks(map, base, values);
-}
-
-// The marks of a block at `base`: no residual changes one.
-fn mark_inner(map: &mut [u8], w: usize, base: usize, up: bool)
-    requires { Inside w base map.old × Low base }
-    ensures { map.new ≡ V0.apply v0_marks (inner_ops w base up V0.order (replicate 16 0)) map.old }
+// The cells of a block at `base`, by the residuals of its columns, all at once.
+#[inline(always)]
+pub fn put_columns<C: Cell>(
+    cells: &mut [C],
+    w: usize,
+    base: usize,
+    up: bool,
+    residuals: [u16; V0Row::BLOCK],
+)
+    requires { Inside w base cells.old × Low base }
+    ensures { cells.new ≡ V0.apply C.kind (inner_ops w base up V0.order (map (λ c. slice_index residuals c) V0.order)) cells.old }
 {
     if up {
-        mark_up(map, w, base);
+        put_up(cells, w, base, residuals);
         return;
     }
-    mark_left(map, w, base);
+    put_left(cells, w, base, residuals);
 }
 
 // The marks of a block, where a map is lent.
@@ -151,9 +137,9 @@ pub fn mark_block(map: &mut [u8], size: Size, row: usize, col: usize, up: bool)
     requires { Inner size row col × Whole size map.old }
     ensures { map.new ≡ V0.apply v0_marks (inner_ops size.width (row * size.width + col) up V0.order (replicate 16 0)) map.old }
 {
-    if map.len() == 0 {
+    if map.is_empty() {
         return;
     }
     let w = size.width;
-    mark_inner(map, w, row * w + col, up);
+    put_columns(map, w, row * w + col, up, [0; V0Row::BLOCK]);
 }

@@ -2,6 +2,7 @@
 // "V0" and "The map".
 #![tactic(auto)]
 
+pub mod cell;
 pub mod cells;
 pub mod exchange;
 pub mod inner;

@@ -1,22 +1,26 @@
 -- A frame: what is left of its rows has the frame's verdict, as long as no row had a fault.
 use Prim.Native.Nat.{ℕ, zero, suc, ◌+◌, ◌-◌, ◌*◌, ◌^◌, ◌≤◌, ◌<◌}
-use mathlib.Core.Path.{◌≡◌, refl, sym, ap, ◌∙◌}
-use mathlib.Core.Logic.{◌≢◌}
+use mathlib.Core.Path.{◌≡◌, refl, sym, ap, ◌∙◌, subst}
 use mathlib.Core.List.{List}
 use native.Mathlib.Omega.{arith}
 use mathlib.Core.Bool.{false, cond}
 use lib.Dec.{eqb, ltb}
 use lib.ListN.{length, get_or}
-use borrow.Author.Tests.{ne_eqb, lt-ltb, le-ltb}
+use borrow.Author.Tests.{eqb-false, ne_eqb, lt-ltb, le-ltb}
+use Rattle.rules.specs.declared.answer.Answer.{Answer}
 use Rattle.rules.specs.declared.answer.Size.{Size}
+use Rattle.std.specs.Prelude.{Result, Ok, Err, IfOk}
 use Rattle.rules.specs.Answer.{done}
+use Rattle.rules.specs.Refusals.{refusal_number}
+use Rattle.rules.proofs.RefusalNumbers.{number_not}
 use Rattle.rules.proofs.Tests.{by-test}
 use Rattle.rules_clean.specs.Verdict.{row_fault, fault_at, rows_verdict, verdict}
 use Rattle.v0_direct.specs.declared.run.Run.{Run}
 use Rattle.v0_clean.specs.OffsetsLent.{OffsetsLent, InRow, FourLent}
 use Rattle.v0_clean.specs.Row.{fault_from, Decides, Passed}
-use Rattle.v0_clean.specs.Rows.{RowsIn, RowsPassed, in_order, four_from, Parted}
-use Rattle.v0_clean.specs.declared.Part.{Part}
+use Rattle.v0_clean.specs.Rows.{RowsIn, RowsPassed, or_after, in_order, four_from, part, Parted}
+use Rattle.v0_clean.specs.Faults.{told}
+use Rattle.v0_clean.specs.declared.Fault.{Fault}
 use Rattle.v0_clean.specs.declared.heads.Rows.{Rows}
 
 pub record Going (s offsets : List ℕ) (z : Size) (row : ℕ) : Type 0 where
@@ -66,17 +70,26 @@ module _ (s offsets : List ℕ) (z : Size) where
       let e : z.height - 0 ≡ z.height = omega arith in
       record { below = omega arith; left = ap (λ n. rows_verdict s offsets z n 0) e }
 
+  pub parted : (row n : ℕ) (r : Result ℕ Fault) → part z row ≡ n → 0 < n → row + n ≤ z.height → IfOk r (λ m. m ≡ n) → told r ≡ rows_verdict s offsets z n row → Parted s offsets z row r
+  parted row n r e some inside many verdict_is =
+      record {
+        how_many = subst (λ k. IfOk r (λ m. m ≡ k)) (sym e) many;
+        some = subst (λ k. 0 < k) (sym e) some;
+        rows_in = subst (λ k. row + k ≤ z.height) (sym e) inside;
+        verdict_is = subst (λ k. told r ≡ rows_verdict s offsets z k row) (sym e) verdict_is;
+      }
+
   -- The rest begins with some rows.
-  module _ (row : ℕ) (p : Part) (x : Parted s offsets z row p) where
-    rest_here : rows_verdict s offsets z (z.height - row) row ≡ cond (eqb p.told.number 0) (rows_verdict s offsets z (z.height - (row + p.rows)) (row + p.rows)) p.told
+  module _ (row : ℕ) (r : Result ℕ Fault) (x : Parted s offsets z row r) where
+    rest_here : rows_verdict s offsets z (z.height - row) row ≡ cond (eqb (told r).number 0) (rows_verdict s offsets z (z.height - (row + part z row)) (row + part z row)) (told r)
     rest_here =
-        rows_split p.rows (z.height - (row + p.rows)) (z.height - row) row (row + p.rows) (omega (arith, x.rows_in)) refl ∙ rw (← x.verdict_is)
+        rows_split (part z row) (z.height - (row + part z row)) (z.height - row) row (row + part z row) (omega (arith, x.rows_in)) refl ∙ rw (← x.verdict_is)
 
-    pub going_found : p.told.number ≢ 0 → Going s offsets z row → p.told ≡ verdict s offsets z
-    going_found ne g = sym (rest_here ∙ rw (ne_eqb p.told.number 0 ne)) ∙ g.left
+    pub going_found : (f : Fault) → r ≡ Err f → Going s offsets z row → fault_at f.row (refusal_number f.refusal) ≡ verdict s offsets z
+    going_found f e g = sym (rest_here ∙ rw (e, ne_eqb (refusal_number f.refusal) 0 (number_not f.refusal))) ∙ g.left
 
-    pub going_on : p.told.number ≡ 0 → Going s offsets z row → Going s offsets z (row + p.rows)
-    going_on none g = record { below = x.rows_in; left = sym (rest_here ∙ rw none) ∙ g.left }
+    pub going_on : (n : ℕ) → r ≡ Ok n → n ≡ part z row → Going s offsets z row → Going s offsets z (row + n)
+    going_on n e m g = rw m (record { below = x.rows_in; left = sym (rest_here ∙ rw e) ∙ g.left })
 
   pub gone : (row : ℕ) → z.height ≤ row → Going s offsets z row → done ≡ verdict s offsets z
   unfolding rows_verdict
@@ -86,14 +99,9 @@ module _ (s offsets : List ℕ) (z : Size) where
 
   -- ── One row, and four ──
 
-  module _ (row k : ℕ) (e : k ≡ row_fault s z row (get_or offsets row 0)) where
-    pub row_found : k ≢ 0 → fault_at row k ≡ rows_verdict s offsets z 1 row
-    unfolding rows_verdict
-    row_found ne = rw (← e, ne_eqb k 0 ne)
-
-    pub row_clean : k ≡ 0 → done ≡ rows_verdict s offsets z 1 row
-    unfolding rows_verdict
-    row_clean none = rw (← e, none)
+  pub row_alone : (row : ℕ) → or_after row (row_fault s z row (get_or offsets row 0)) done ≡ rows_verdict s offsets z 1 row
+  unfolding rows_verdict
+  row_alone row = refl
 
   pub four_rows : (row : ℕ) (r : Rows) → fault_from s z row r.a ≡ row_fault s z row (get_or offsets row 0)
       → fault_from s z (row + 1) r.b ≡ row_fault s z (row + 1) (get_or offsets (row + 1) 0)
@@ -118,29 +126,21 @@ module _ (s offsets : List ℕ) (z : Size) where
 
 -- ── The order of four ──
 
-module _ (s : List ℕ) (z : Size) (row : ℕ) (r : Rows) {a : ℕ} (ea : a ≡ fault_from s z row r.a) where
-  pub first_found : a ≢ 0 → fault_at row a ≡ in_order s z row r
-  unfolding in_order
-  first_found ne = rw (← ea, ne_eqb a 0 ne)
+module _ {A : Type 0} {r : Result A Fault} (row k : ℕ) (e : told r ≡ or_after row k done) (next : Answer) where
+  -- The row's fault comes before what follows.
+  pub told_first : {f : Fault} → r ≡ Err f → fault_at f.row (refusal_number f.refusal) ≡ or_after row k next
+  told_first {f} q =
+      let e' = rw q at e in
+      by-test (eqb k 0) (λ t. absurd (number_not f.refusal (ap (λ a. a.number) (rw t at e')))) (λ t. rw t (rw t at e'))
 
-  module _ (na : a ≡ 0) {b : ℕ} (eb : b ≡ fault_from s z (row + 1) r.b) where
-    pub second_found : b ≢ 0 → fault_at (row + 1) b ≡ in_order s z row r
-    unfolding in_order
-    second_found ne = rw (← ea, na, ← eb, ne_eqb b 0 ne)
-
-    module _ (nb : b ≡ 0) {c : ℕ} (ec : c ≡ fault_from s z (row + 2) r.c) where
-      pub third_found : c ≢ 0 → fault_at (row + 2) c ≡ in_order s z row r
-      unfolding in_order
-      third_found ne = rw (← ea, na, ← eb, nb, ← ec, ne_eqb c 0 ne)
-
-      module _ (nc : c ≡ 0) {d : ℕ} (ed : d ≡ fault_from s z (row + 3) r.d) where
-        pub fourth_found : d ≢ 0 → fault_at (row + 3) d ≡ in_order s z row r
-        unfolding in_order
-        fourth_found ne = rw (← ea, na, ← eb, nb, ← ec, nc, ← ed, ne_eqb d 0 ne)
-
-        pub none_found : d ≡ 0 → done ≡ in_order s z row r
-        unfolding in_order
-        none_found nd = rw (← ea, na, ← eb, nb, ← ec, nc, ← ed, nd)
+  -- The row has no fault.
+  pub told_none : {y : A} → r ≡ Ok y → next ≡ or_after row k next
+  told_none q =
+      let e' = rw q at e in
+      by-test (eqb k 0) (λ t. rw t) (λ t. absurd (zero_not k t (ap (λ a. a.number) (rw t at e'))))
+    where
+      zero_not : (k : ℕ) → eqb k 0 ≡ false → 0 ≡ k → ⊥
+      zero_not k t z = let n = eqb-false k 0 t in n (sym z)
 
 -- When four rows are checked side by side, test by test.
 pub four_early : (z : Size) (row : ℕ) → row < 2 → false ≡ four_from z row

@@ -1,12 +1,13 @@
 -- Rows together: four from points on, and the verdict on some of a frame's.
-use Rattle.std.specs.Prelude.{ℕ, ◌+◌, ◌-◌, ◌≤◌, ◌<◌, Bool, false, cond, List, ◌≡◌, eqb, ltb}
+use Rattle.std.specs.Prelude.{ℕ, ◌+◌, ◌-◌, ◌≤◌, ◌<◌, Bool, false, cond, List, ◌≡◌, eqb, ltb, Result, IfOk}
 use Rattle.rules.specs.Limits.{most_side}
 use Rattle.rules.specs.Answer.{done}
 use Rattle.rules.specs.declared.answer.Answer.{Answer}
 use Rattle.rules.specs.declared.answer.Size.{Size}
 use Rattle.rules_clean.specs.Verdict.{fault_at, rows_verdict}
 use Rattle.v0_clean.specs.Row.{Placed, fault_from, Passed}
-use Rattle.v0_clean.specs.declared.Part.{Part}
+use Rattle.v0_clean.specs.Faults.{told}
+use Rattle.v0_clean.specs.declared.Fault.{Fault}
 use Rattle.v0_clean.specs.declared.heads.Rows.{Rows}
 
 -- The same of each of four.
@@ -44,9 +45,13 @@ in_order s z row r =
 unfoldable pub four_from : Size → ℕ → Bool
 four_from z row = cond (ltb row 2) false (cond (ltb (z.height - row) 4) false (ltb 0 z.width))
 
--- Some rows from a row on, of those that the frame has, and the verdict on them.
-pub record Parted (s offsets : List ℕ) (z : Size) (row : ℕ) (p : Part) : Type 0 where
-  pub how_many : p.rows ≡ cond (four_from z row) 4 1
-  pub some : 0 < p.rows
-  pub rows_in : row + p.rows ≤ z.height
-  pub verdict_is : p.told ≡ rows_verdict s offsets z p.rows row
+-- How many rows are checked from a row on.
+abbrev pub part : Size → ℕ → ℕ
+part z row = cond (four_from z row) 4 1
+
+-- The verdict on those rows, which the frame has; and how many they are, where it is done.
+pub record Parted (s offsets : List ℕ) (z : Size) (row : ℕ) (r : Result ℕ Fault) : Type 0 where
+  pub how_many : IfOk r (λ n. n ≡ part z row)
+  pub some : 0 < part z row
+  pub rows_in : row + part z row ≤ z.height
+  pub verdict_is : told r ≡ rows_verdict s offsets z (part z row) row

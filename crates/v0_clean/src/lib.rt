@@ -7,19 +7,22 @@ ghost use Rattle.std.specs.Prelude.{◌≡◌, true, ◌&&◌, ltb, ◌+◌, ◌
 ghost use Rattle.v0_cells.specs.Places.{InFrame};
 ghost use Rattle.v0_parse.specs.Block.{whole_block};
 ghost use Rattle.v0_parse.specs.Lengths.{Within, furthest};
+ghost use Rattle.rules.specs.Answer.{done};
+ghost use Rattle.rules.specs.Refusals.{refusal_number, answer_number};
 ghost use Rattle.rules_clean.specs.Verdict.{fits, all_fit, block_fault, row_fault, fault_at, rows_verdict, verdict};
 ghost use Rattle.v0_lanes.specs.Lengths.{actions};
 ghost use Rattle.v0_lanes.specs.Tables.{Holds};
 ghost use Rattle.v0_clean.specs.OffsetsLent.{OffsetsLent, RowLent, InRow, FourLent};
 ghost use Rattle.v0_clean.specs.Block.{seen};
 ghost use Rattle.v0_clean.specs.Row.{Placed, fault_from, Decides};
-ghost use Rattle.v0_clean.specs.Rows.{RowsIn, RowsPlaced, in_order, four_from, Parted};
+ghost use Rattle.v0_clean.specs.Faults.{told};
+ghost use Rattle.v0_clean.specs.Rows.{RowsIn, RowsPlaced, or_after, in_order, four_from, Parted};
 
 pub mod heads;
 
 use heads::{Rows, pass_rows};
 use read_window::{BACK_BITS, BACK_BYTES, stands_within, state_at};
-use rules::{Answer, Size, V0Head, V0Row};
+use rules::{Answer, Refusal, Size, V0Head, V0Row};
 use v0_direct::run::Run;
 use v0_direct::sample::decode_samples;
 use v0_direct::{V0Place, is_inner};
@@ -34,25 +37,21 @@ fn pass_block(src: &[u8], state: V0Row) -> V0Head
     ensures { result ≡ record { up = (whole_block src.now state).up; row = (whole_block src.now state).row } }
 {
     let bits = state.bits;
-    let lengths = state.lengths;
     if stands_within(src, bits, BLOCK_BYTES) {
         let base = bits.pos as usize - BACK_BYTES;
-        let head = window_head(src, base, BACK_BITS - bits.count as usize, lengths);
+        let head = window_head(src, base, BACK_BITS - bits.count as usize, state.lengths);
         let plan = plan_of(head);
-        let after = head.lengths;
+        let lengths = head.lengths;
+        let bits = state_at(src, base, plan.end, bits.filler);
         return V0Head {
             up: head.up,
-            row: V0Row {
-                lengths: after,
-                bits: state_at(src, base, plan.end, bits.filler),
-            },
+            row: V0Row { lengths, bits },
         };
     }
     let block = read_block(src, state, true);
-    let next = block.row;
     V0Head {
         up: block.up,
-        row: next,
+        row: block.row,
     }
 }
 
@@ -69,12 +68,49 @@ fn see_block(src: &[u8], size: Size, row: usize, col: usize, state: V0Row) -> V0
     let mut no_map = [0u8; 0];
     let at = V0Place { size, row, col };
     let bits = decode_samples(src, at, head, &mut no_samples, &mut no_map);
-    let opened = head.row;
-    let lengths = opened.lengths;
-    let after = V0Row { lengths, bits };
+    let lengths = head.row.lengths;
     V0Head {
         up: head.up,
-        row: after,
+        row: V0Row { lengths, bits },
+    }
+}
+
+// What is wrong with a frame: its first fault, and the row that has it.
+#[derive(Clone, Copy)]
+pub struct Fault {
+    pub refusal: Refusal,
+    pub row: u32,
+}
+
+// A fault's number and its row; no word counts as missing.
+impl From<Fault> for Answer {
+    ghost from_gives = { λ fault answer. answer ≡ fault_at fault.row (refusal_number fault.refusal) };
+
+    fn from(fault: Fault) -> Answer {
+        Answer {
+            number: fault.refusal.number(),
+            row: fault.row,
+            filler: 0,
+        }
+    }
+}
+
+// A refusal of the whole frame: its row is 0.
+impl From<Refusal> for Fault {
+    ghost from_gives = { λ refusal fault. fault ≡ record { refusal = refusal; row = 0 } };
+
+    fn from(refusal: Refusal) -> Fault {
+        Fault { refusal, row: 0 }
+    }
+}
+
+// The answer of a check: done, or its fault's.
+pub fn answer_of(checked: Result<(), Fault>) -> Answer
+    ensures { result ≡ told checked }
+{
+    match checked {
+        Ok(()) => Answer::done(),
+        Err(fault) => Answer::from(fault),
     }
 }
 
@@ -111,43 +147,36 @@ fn is_early(row: usize, up: bool) -> bool
     row < 2 && up
 }
 
-// What is wrong with a block of a row, or 0.
-fn fault_of(row: usize, block: V0Head) -> u32
-    ensures { result ≡ block_fault row block block.row.bits }
+// What is wrong with a block of a row.
+fn check_block(row: usize, block: V0Head) -> Result<(), Refusal>
+    ensures { answer_number result ≡ block_fault row block block.row.bits }
 {
     if is_early(row, block.up) {
-        return Answer::EARLY_UPWARD;
+        return Err(Refusal::EarlyUpward);
     }
-    let after = block.row;
-    let lengths = after.lengths;
-    if !lengths_fit(lengths) {
-        return Answer::BAD_LENGTH;
+    if !lengths_fit(block.row.lengths) {
+        return Err(Refusal::BadLength);
     }
-    let bits = after.bits;
-    if bits.filler != 0 {
-        return Answer::MISSING_WORD;
+    if block.row.bits.filler != 0 {
+        return Err(Refusal::MissingWord);
     }
-    0
+    Ok(())
 }
 
-// The first fault of a row from a point on, or 0.
-fn check_from(src: &[u8], size: Size, row: usize, at: Run) -> u32
+// The first that is wrong with a row from a point on. A `while` steps by blocks, since the point is any column.
+fn check_from(src: &[u8], size: Size, row: usize, at: Run) -> Result<(), Refusal>
     requires { InRow size row × Placed size at }
-    ensures { result ≡ fault_from src.now size row at }
+    ensures { answer_number result ≡ fault_from src.now size row at }
 {
-    let w = size.width;
     let mut state = at.state;
     let mut col = at.col;
-    while col < w {
+    while col < size.width {
         let block = see_block(src, size, row, col, state);
-        let fault = fault_of(row, block);
-        if fault != 0 {
-            return fault;
-        }
+        check_block(row, block)?;
         state = block.row;
         col += V0Row::BLOCK;
     }
-    0
+    Ok(())
 }
 
 // A row whose data begins at an offset of the stream, after its first block if that is clean, else before it.
@@ -157,89 +186,59 @@ fn begin_row(src: &[u8], size: Size, row: usize, offset: u32) -> Run
 {
     let state = V0Row::fresh(row, offset);
     let block = see_block(src, size, row, 0, state);
-    if fault_of(row, block) != 0 {
-        return Run { col: 0, state };
-    }
-    let state = block.row;
-    Run {
-        col: V0Row::BLOCK,
-        state,
-    }
-}
-
-// The answer of a row's fault.
-fn told(row: usize, fault: u32) -> Answer
-    requires { row < 2 ^ 32 }
-    ensures { result ≡ fault_at row fault }
-{
-    Answer {
-        number: fault,
-        row: row as u32,
-        filler: 0,
-    }
-}
-
-// The first fault of a row whose data begins at an offset of the stream, or 0.
-fn check_row(src: &[u8], size: Size, row: usize, offset: u32) -> u32
-    requires { InRow size row }
-    ensures { result ≡ row_fault src.now size row offset }
-{
-    let start = V0Row::fresh(row, offset);
-    check_from(
-        src,
-        size,
-        row,
-        Run {
-            col: 0,
-            state: start,
+    match check_block(row, block) {
+        Ok(()) => Run {
+            col: V0Row::BLOCK,
+            state: block.row,
         },
-    )
+        Err(_) => Run { col: 0, state },
+    }
+}
+
+// The first fault of a row from a point on.
+fn check_rest(src: &[u8], size: Size, row: usize, at: Run) -> Result<(), Fault>
+    requires { InRow size row × Placed size at }
+    ensures { told result ≡ or_after row (fault_from src.now size row at) done }
+{
+    check_from(src, size, row, at).map_err(|refusal| Fault {
+        refusal,
+        row: row as u32,
+    })
 }
 
 // The verdict on one row.
-fn check_one(src: &[u8], offsets: &[u32], size: Size, row: usize) -> Answer
+fn check_one(src: &[u8], offsets: &[u32], size: Size, row: usize) -> Result<(), Fault>
     requires { OffsetsLent size offsets.now × (row < size.height) }
-    ensures { result ≡ rows_verdict src.now offsets.now size 1 row }
+    ensures { told result ≡ rows_verdict src.now offsets.now size 1 row }
 {
-    let fault = check_row(src, size, row, offsets[row]);
-    if fault != 0 {
-        return told(row, fault);
-    }
-    Answer::done()
+    let start = Run {
+        col: 0,
+        state: V0Row::fresh(row, offsets[row]),
+    };
+    check_rest(src, size, row, start)
 }
 
 // The first fault of four rows from points on, in the order of the rows.
-fn check_in_order(src: &[u8], size: Size, row: usize, rows: Rows) -> Answer
+fn check_in_order(src: &[u8], size: Size, row: usize, rows: Rows) -> Result<(), Fault>
     requires { RowsIn size row × RowsPlaced size rows }
-    ensures { result ≡ in_order src.now size row rows }
+    ensures { told result ≡ in_order src.now size row rows }
 {
-    let a = rows.a;
-    let first = check_from(src, size, row, a);
-    if first != 0 {
-        return told(row, first);
-    }
-    let b = rows.b;
-    let second = check_from(src, size, row + 1, b);
-    if second != 0 {
-        return told(row + 1, second);
-    }
-    let c = rows.c;
-    let third = check_from(src, size, row + 2, c);
-    if third != 0 {
-        return told(row + 2, third);
-    }
-    let d = rows.d;
-    let fourth = check_from(src, size, row + 3, d);
-    if fourth != 0 {
-        return told(row + 3, fourth);
-    }
-    Answer::done()
+    check_rest(src, size, row, rows.a)?;
+    check_rest(src, size, row + 1, rows.b)?;
+    check_rest(src, size, row + 2, rows.c)?;
+    check_rest(src, size, row + 3, rows.d)
 }
 
 // The verdict on four rows from row 2 on, their heads side by side.
-fn check_four(src: &[u8], offsets: &[u32], size: Size, row: usize, heads: &[u32; 1024]) -> Answer
+fn check_four(
+    src: &[u8],
+    offsets: &[u32],
+    size: Size,
+    row: usize,
+    heads: &[u32; 1024],
+) -> Result<(), Fault>
     requires { FourLent size row offsets.now × Holds actions 1_024 heads.now }
-    ensures { result ≡ rows_verdict src.now offsets.now size 4 row }
+    ensures { told result ≡ rows_verdict src.now offsets.now size 4 row }
 {
     let begun = Rows {
         a: begin_row(src, size, row, offsets[row]),
@@ -249,13 +248,6 @@ fn check_four(src: &[u8], offsets: &[u32], size: Size, row: usize, heads: &[u32;
     };
     let passed = pass_rows(src, size, begun, heads);
     check_in_order(src, size, row, passed)
-}
-
-// How many rows were checked, and the verdict on them.
-#[derive(Clone, Copy)]
-struct Part {
-    rows: usize,
-    told: Answer,
 }
 
 // Whether four rows from a row on can be checked side by side: all are there, none is row 0 or 1, and they are not empty.
@@ -273,34 +265,35 @@ fn has_four(size: Size, row: usize) -> bool
     0 < size.width
 }
 
-// Four rows, or one where there are no four from row 2 on.
-fn check_part(src: &[u8], offsets: &[u32], size: Size, row: usize, heads: &[u32; 1024]) -> Part
+// Checks four rows, or one where there are no four from row 2 on: how many.
+fn check_part(
+    src: &[u8],
+    offsets: &[u32],
+    size: Size,
+    row: usize,
+    heads: &[u32; 1024],
+) -> Result<usize, Fault>
     requires { RowLent size row offsets.now × Holds actions 1_024 heads.now }
     ensures { Parted src.now offsets.now size row result }
 {
     if !has_four(size, row) {
-        let told = check_one(src, offsets, size, row);
-        return Part { rows: 1, told };
+        check_one(src, offsets, size, row)?;
+        return Ok(1);
     }
-    let told = check_four(src, offsets, size, row, heads);
-    Part { rows: 4, told }
+    check_four(src, offsets, size, row, heads)?;
+    Ok(4)
 }
 
-// The verdict on a frame: done if it is clean, else its first fault, with the row.
-pub fn check_frame(src: &[u8], offsets: &[u32], size: Size) -> Answer
+// The verdict on a frame: its first fault, or none if it is clean. A `while` steps by parts, of one row or of four.
+pub fn check_frame(src: &[u8], offsets: &[u32], size: Size) -> Result<(), Fault>
     requires { OffsetsLent size offsets.now }
-    ensures { result ≡ verdict src.now offsets.now size }
+    ensures { told result ≡ verdict src.now offsets.now size }
 {
     let mut heads = [0u32; 1024];
     fill_heads(&mut heads);
-    let mut row: usize = 0;
+    let mut row = 0;
     while row < size.height {
-        let part = check_part(src, offsets, size, row, &heads);
-        let told = part.told;
-        if told.number != 0 {
-            return told;
-        }
-        row += part.rows;
+        row += check_part(src, offsets, size, row, &heads)?;
     }
-    Answer::done()
+    Ok(())
 }

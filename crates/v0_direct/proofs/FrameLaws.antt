@@ -159,18 +159,31 @@ module _ (k : Kind ℕ) (s offsets : List ℕ) (z : Size) where
   unfolding rows
   row_then n row f f' e = ap (write_all k (rows s offsets z n (suc row))) e ∙ sym (write_all_append k _ (rows s offsets z n (suc row)) f)
 
-  pub first_none : (f : List ℕ) → z.height ≡ 0 → f ≡ first_rows k s offsets z f
-  unfolding first_rows rows write_all
-  first_none f e = let n : min z.height 2 ≡ 0 = omega arith in rw n
+  -- What is left of them from a row on comes to them all.
+  pub record First (f₀ f : List ℕ) (row : ℕ) : Type 0 where
+    pub same_length : length f ≡ length f₀
+    pub cells_are : write_all k (rows s offsets z (min z.height 2 - row) row) f ≡ first_rows k s offsets z f₀
 
-  pub first_one : (f f' : List ℕ) → z.height ≡ 1 → f' ≡ write_all k (row_blocks s z 0 (get_or offsets 0 0)).blocks f → f' ≡ first_rows k s offsets z f
-  unfolding first_rows rows write_all
-  first_one f f' e e₀ = let n : min z.height 2 ≡ suc 0 = omega arith in rw n (row_then 0 0 f f' e₀)
+  pub first_begun : (f : List ℕ) → First f f 0
+  unfolding first_rows
+  first_begun f = let all : min z.height 2 - 0 ≡ min z.height 2 = omega arith in record { same_length = refl; cells_are = rw all }
 
-  pub first_two : (f f' f'' : List ℕ) → 2 ≤ z.height → f' ≡ write_all k (row_blocks s z 0 (get_or offsets 0 0)).blocks f
-      → f'' ≡ write_all k (row_blocks s z 1 (get_or offsets 1 0)).blocks f' → f'' ≡ first_rows k s offsets z f
-  unfolding first_rows rows write_all
-  first_two f f' f'' l e₀ e₁ = let n : min z.height 2 ≡ suc (suc 0) = omega arith in rw n (row_then 0 1 f' f'' e₁ ∙ row_then 1 0 f f' e₀)
+  pub first_on : (f₀ f f' : List ℕ) (row : ℕ) → row < min z.height 2 → f' ≡ write_all k (row_blocks s z row (get_or offsets row 0)).blocks f
+      → First f₀ f row → First f₀ f' (row + 1)
+  first_on f₀ f f' row l e r =
+      let more : min z.height 2 - row ≡ suc (min z.height 2 - (row + 1)) = omega arith in
+      record {
+        same_length = ap length e ∙ write_all_length k _ f ∙ r.same_length;
+        cells_are =
+            ap (λ n. write_all k (rows s offsets z (min z.height 2 - (row + 1)) n) f') (add-one row)
+            ∙ row_then (min z.height 2 - (row + 1)) row f f' e
+            ∙ ap (λ n. write_all k (rows s offsets z n row) f) (sym more)
+            ∙ r.cells_are;
+      }
+
+  pub first_all : (f₀ f : List ℕ) (row : ℕ) → row ≡ min z.height 2 → First f₀ f row → f ≡ first_rows k s offsets z f₀
+  unfolding rows write_all
+  first_all f₀ f row e r = let none : min z.height 2 - row ≡ 0 = omega arith in rw none at r.cells_are
 
 -- All rows' missing words are the frame's.
 pub filler_is : (s offsets : List ℕ) (z : Size) (n : ℕ) → n ≡ rows_filler s offsets z z.height 0 0 → n ≡ frame_filler s offsets z

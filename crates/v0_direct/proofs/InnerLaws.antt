@@ -1,13 +1,13 @@
 -- An inner block: its operations are those of all sixteen residuals, read in one go.
 use mathlib.Core.Path.{◌≡◌, refl, sym, ap, ◌∙◌}
-use mathlib.Core.Bool.{Bool, true, false, not, ◌&&◌}
+use mathlib.Core.Bool.{Bool, true, not, ◌&&◌}
 use mathlib.Core.List.{List, [], ◌∷◌}
-use Prim.Native.Nat.{ℕ, suc, ◌+◌, ◌*◌, ◌≤◌, ◌<◌}
+use Prim.Native.Nat.{ℕ, suc, ◌+◌, ◌*◌, ◌<◌}
 use native.Mathlib.Omega.{arith}
 use lib.Dec.{leb, eqb}
 use lib.IntN.{ℤ}
 use lib.ListN.{length, get_or, replicate}
-use borrow.Author.Tests.{le-leb, lt-leb, ne_eqb, leb-true, eqb-false, not-true}
+use borrow.Author.Tests.{leb-true, eqb-false, not-true}
 use Rattle.rules.proofs.Tests.{both}
 use Rattle.rules.specs.Reader.{read_residual}
 use Rattle.rules.specs.Phases.{residuals}
@@ -29,20 +29,7 @@ use Rattle.v0_cells.proofs.InnerLaws.{marks_alike, inner_predictor}
 
 -- ── Which blocks ──
 
--- What the three tests of an inner block decide, those before each having held.
 module _ (z : Size) (row col : ℕ) where
-  pub inner_early : row < 2 → false ≡ inner z row col
-  unfolding inner
-  inner_early early = rw (lt-leb 2 row early)
-
-  pub inner_first : 2 ≤ row → col ≡ 0 → false ≡ inner z row col
-  unfolding inner
-  inner_first late e = rw (le-leb 2 row late, e)
-
-  pub inner_within : 2 ≤ row → (col ≡ 0 → ⊥) → leb (col + 16) z.width ≡ inner z row col
-  unfolding inner
-  inner_within late some = rw (le-leb 2 row late, ne_eqb col 0 some)
-
   -- What follows if it is one.
   pub inner_is : InFrame z row col → inner z row col ≡ true → Inner z row col
   unfolding inner

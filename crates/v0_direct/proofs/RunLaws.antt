@@ -289,23 +289,6 @@ module _ (s : List ℕ) (z : Size) (row col : ℕ) (st : V0Row) where
   unfolding run_end
   run_none e = rw e (omega arith)
 
-  -- What its tests decide, those before each having held.
-  pub begins_edge : inner z row col ≡ false → false ≡ run_begins s z row col st
-  unfolding run_begins
-  begins_edge a = rw a
-
-  pub begins_missing : inner z row col ≡ true → eqb st.bits.filler 0 ≡ false → false ≡ run_begins s z row col st
-  unfolding run_begins
-  begins_missing a b = rw (a, b)
-
-  pub begins_long : inner z row col ≡ true → eqb st.bits.filler 0 ≡ true → short st.lengths ≡ false → false ≡ run_begins s z row col st
-  unfolding run_begins
-  begins_long a b c = rw (a, b, c)
-
-  pub begins_if : inner z row col ≡ true → eqb st.bits.filler 0 ≡ true → short st.lengths ≡ true → standing_in s st.bits 80 ≡ run_begins s z row col st
-  unfolding run_begins
-  begins_if a b c = rw (a, b, c)
-
   -- What follows if one begins.
   pub begins_is : InFrame z row col → run_begins s z row col st ≡ true → Inner z row col × (st.bits.filler ≡ 0)
   unfolding run_begins

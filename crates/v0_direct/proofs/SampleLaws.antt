@@ -15,7 +15,7 @@ use Rattle.rules.specs.declared.reader.Taken.{Taken}
 use Rattle.rules.specs.declared.v0.Predictor.{Predictor}
 use Rattle.rules.specs.declared.v0.V0Head.{V0Head}
 use Rattle.v0_direct.specs.Block.{samples_of, Applied}
-use Rattle.v0_cells.proofs.CellLaws.{put_mark_alike, ops_walk, Left, left_begun, left_on, left_none}
+use Rattle.v0_cells.proofs.CellLaws.{ops_walk, Left, left_begun, left_on, left_none}
 
 -- ── One sample ──
 
@@ -26,10 +26,10 @@ module _ (s : List ℕ) (z : Size) (row col : ℕ) (h : V0Head) (c : ℕ) (b : B
   sample_is = rw (← ep, ← en, ← eg)
 
   pub sample_applied : (out out' map map' : List ℕ) → out' ≡ put sample_kind (row * z.width + col + c) p g.value out
-      → map' ≡ put v0_marks (row * z.width + col + c) p 0 map → Applied (samples_of s z row col h (c ∷ []) b) out map g.bits out' map'
+      → map' ≡ put v0_marks (row * z.width + col + c) p g.value map → Applied (samples_of s z row col h (c ∷ []) b) out map g.bits out' map'
   unfolding apply
   sample_applied out out' map map' eo em =
-      rw sample_is (record { reader = refl; samples = eo; marks = em ∙ put_mark_alike (row * z.width + col + c) p 0 g.value map })
+      rw sample_is (record { reader = refl; samples = eo; marks = em })
 
 -- ── The sixteen ──
 

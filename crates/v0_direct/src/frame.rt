@@ -1,6 +1,6 @@
 // A whole frame: its rows, and the exchange of each pair of rows once no later row reads it, while the caches still hold it.
 // Samples and marks go through the same code; a map that is not lent is a frame of no cells.
-ghost use Rattle.std.specs.Prelude.{min, ◌≡◌, [], ◌≤◌};
+ghost use Rattle.std.specs.Prelude.{◌≡◌, [], ◌≤◌};
 ghost use Rattle.rules.specs.V0 as V0;
 ghost use Rattle.rules.specs.Map.{v0_marks};
 ghost use Rattle.rules.specs.Phases.{first_rows};
@@ -11,13 +11,13 @@ use super::row::{decode_early_row, decode_row};
 use read_bits::held_sum;
 use rules::Size;
 use v0_cells::exchange::exchange_pairs;
-use v0_lanes::tables::{fill_heads, fill_lanes};
+use v0_lanes::tables::{Tables, fill_heads, fill_lanes};
 
 // How many pairs of rows no row from this one on reads.
 pub fn freed_pairs(row: usize) -> usize
     ensures { result ≡ freed_pairs row }
 {
-    if row < 2 { 0 } else { (row - 2) / 2 }
+    row.saturating_sub(2) / 2
 }
 
 // The first `count` rows, with the pairs exchanged that no later row reads: how many words were missing in them.
@@ -34,26 +34,19 @@ fn decode_freeing(
     ensures samples { out.new ≡ rows_freed V0.sample_kind src.now offsets.now size count out.old }
     ensures marks { map.new ≡ rows_freed v0_marks src.now offsets.now size count map.old }
 {
-    let mut lanes = [0u64; 96];
-    fill_lanes(&mut lanes);
-    let mut heads = [0u32; 1024];
-    fill_heads(&mut heads);
+    let mut tables = Tables {
+        lanes: [0; 96],
+        heads: [0; 1024],
+    };
+    fill_lanes(&mut tables.lanes);
+    fill_heads(&mut tables.heads);
     let mut filler: u64 = 0;
-    let mut row: usize = 0;
-    while row < count {
-        let missing = decode_row(src, size, row, offsets[row], out, map, &lanes, &heads);
+    for row in 0..count {
+        let missing = decode_row(src, size, row, offsets[row], out, map, &tables);
         filler = held_sum(filler, missing);
         exchange_pairs(out, map, size, freed_pairs(row), freed_pairs(row + 1));
-        row += 1;
     }
     filler
-}
-
-// How many rows the two-phase decoder leaves to the direct rules.
-fn head_rows(height: usize) -> usize
-    ensures { result ≡ min height 2 }
-{
-    if height < 2 { height } else { 2 }
 }
 
 // Rows 0 and 1, or as many as there are: what the two_phase decoder begins with, without a map.
@@ -61,16 +54,9 @@ pub fn decode_v0_head(src: &[u8], offsets: &[u32], size: Size, out: &mut [u16])
     requires { FrameLent size offsets.now out.old [] }
     ensures { out.new ≡ first_rows V0.sample_kind src.now offsets.now size out.old }
 {
-    let first = head_rows(size.height);
-    if first == 0 {
-        return;
+    for row in 0..size.height.min(2) {
+        decode_early_row(src, size, row, offsets[row], out, &mut []);
     }
-    let mut no_map = [0u8; 0];
-    decode_early_row(src, size, 0, offsets[0], out, &mut no_map);
-    if first == 1 {
-        return;
-    }
-    decode_early_row(src, size, 1, offsets[1], out, &mut no_map);
 }
 
 // All rows, and the last pair after them: how many words were missing.

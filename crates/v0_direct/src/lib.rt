@@ -21,15 +21,10 @@ pub struct V0Place {
 }
 
 // Whether a block is an inner one: from row 2 on, after column 0 and inside its row.
+#[tactic(auto, unfolding(crate::specs::Run::inner))]
 pub fn is_inner(size: Size, row: usize, col: usize) -> bool
     requires { InFrame size row col }
     ensures { result ≡ inner size row col }
 {
-    if row < 2 {
-        return false;
-    }
-    if col == 0 {
-        return false;
-    }
-    col + V0Row::BLOCK <= size.width
+    2 <= row && col != 0 && col + V0Row::BLOCK <= size.width
 }

@@ -7,7 +7,6 @@ ghost use Rattle.rules.specs.Map.{with_filler, v0_marks};
 ghost use Rattle.v0_parse_window.specs.ByWindow.{Ahead, Ends, residuals_of, residuals_ahead};
 ghost use Rattle.v0_cells.specs.Inner.{inner_ops};
 ghost use Rattle.v0_cells.specs.Places.{InFrame, Inner};
-ghost use Rattle.v0_lanes.specs.Blocks.{Tables};
 ghost use Rattle.v0_direct.specs.FrameLent.{InRow, BlockLent, RunLent};
 ghost use Rattle.v0_direct.specs.Block.{Decoded, BlockRun};
 
@@ -15,46 +14,30 @@ use super::run::{Run, decode_run};
 use super::sample::decode_samples;
 use super::{V0Place, is_inner};
 use frame_map::fill_block;
-use read_window::{BACK_BITS, BACK_BYTES, SHORT_BITS, stands_within, state_at};
+use read_window::{BACK_BITS, BACK_BYTES, stands_within, state_at};
 use rules::{Bits, Size, V0Row};
 use v0_cells::inner::{mark_block, put_four, put_inner};
+use v0_lanes::tables::Tables;
 use v0_parse::block::{read_block, read_block_head};
-use v0_parse_window::{BLOCK_BYTES, WindowHead, four_at, four_long_at, plan_of, window_head};
+use v0_parse_window::{BLOCK_BYTES, WindowHead, group_at, plan_of, window_head};
 
 // The residuals after a head that was read by position: the bit after them. Each group is put as it is read, so that few registers hold
-// a block; the four ways stand written out, since the compiler calls a function that would join them.
+// a block.
 fn put_groups(src: &[u8], base: usize, head: WindowHead, at: V0Place, out: &mut [u16]) -> usize
     requires { Ahead src.now base head.q residuals_ahead × (Inner at.size at.row at.col × (length out.old ≡ cells at.size)) }
     ensures ends { Ends src.now base head result }
     ensures samples { out.new ≡ V0.apply V0.sample_kind (inner_ops at.size.width (at.row * at.size.width + at.col) head.up V0.order (residuals_of src.now base head)) out.old }
 {
-    let size = at.size;
     let plan = plan_of(head);
-    let w = size.width;
+    let w = at.size.width;
     let first = at.row * w + at.col;
-    let a = if plan.n0 <= SHORT_BITS {
-        four_at(src, base, head.q, plan.n0)
-    } else {
-        four_long_at(src, base, head.q, plan.n0)
-    };
+    let a = group_at(src, base, head.q, plan.n0);
     put_four(out, w, first, head.up, 0, a);
-    let b = if plan.n1 <= SHORT_BITS {
-        four_at(src, base, plan.q1, plan.n1)
-    } else {
-        four_long_at(src, base, plan.q1, plan.n1)
-    };
+    let b = group_at(src, base, plan.q1, plan.n1);
     put_four(out, w, first, head.up, 8, b);
-    let c = if plan.n2 <= SHORT_BITS {
-        four_at(src, base, plan.q2, plan.n2)
-    } else {
-        four_long_at(src, base, plan.q2, plan.n2)
-    };
+    let c = group_at(src, base, plan.q2, plan.n2);
     put_four(out, w, first, head.up, 1, c);
-    let d = if plan.n3 <= SHORT_BITS {
-        four_at(src, base, plan.q3, plan.n3)
-    } else {
-        four_long_at(src, base, plan.q3, plan.n3)
-    };
+    let d = group_at(src, base, plan.q3, plan.n3);
     put_four(out, w, first, head.up, 9, d);
     plan.end
 }
@@ -64,12 +47,10 @@ fn decode_by_record(src: &[u8], at: V0Place, state: V0Row, out: &mut [u16], map:
     requires { Inner at.size at.row at.col × BlockLent at.size state.lengths out.old map.old }
     ensures { Decoded src.now at.size at.row at.col state out.old map.old result out.new map.new }
 {
-    let size = at.size;
     let x = read_block(src, state, true);
-    let residuals = x.residuals;
-    let w = size.width;
-    put_inner(out, w, at.row * w + at.col, x.up, residuals);
-    mark_block(map, size, at.row, at.col, x.up);
+    let w = at.size.width;
+    put_inner(out, w, at.row * w + at.col, x.up, x.residuals);
+    mark_block(map, at.size, at.row, at.col, x.up);
     x.row
 }
 
@@ -80,15 +61,14 @@ fn decode_inner(src: &[u8], at: V0Place, state: V0Row, out: &mut [u16], map: &mu
     ensures { Decoded src.now at.size at.row at.col state out.old map.old result out.new map.new }
 {
     let bits = state.bits;
-    let lengths = state.lengths;
     if stands_within(src, bits, BLOCK_BYTES) {
         let base = bits.pos as usize - BACK_BYTES;
-        let head = window_head(src, base, BACK_BITS - bits.count as usize, lengths);
+        let head = window_head(src, base, BACK_BITS - bits.count as usize, state.lengths);
         let end = put_groups(src, base, head, at, out);
         mark_block(map, at.size, at.row, at.col, head.up);
-        let after = head.lengths;
+        let lengths = head.lengths;
         return V0Row {
-            lengths: after,
+            lengths,
             bits: state_at(src, base, end, bits.filler),
         };
     }
@@ -102,8 +82,7 @@ fn decode_edge(src: &[u8], at: V0Place, state: V0Row, out: &mut [u16], map: &mut
 {
     let head = read_block_head(src, state);
     let bits = decode_samples(src, at, head, out, map);
-    let after = head.row;
-    let lengths = after.lengths;
+    let lengths = head.row.lengths;
     V0Row { lengths, bits }
 }
 
@@ -136,27 +115,21 @@ fn decode_blocks(
     state: V0Row,
     out: &mut [u16],
     map: &mut [u8],
-    lanes: &[u64; 96],
-    heads: &[u32; 1024],
+    tables: &Tables,
 ) -> Run
-    requires in_frame { InFrame at.size at.row at.col × RunLent at.size at.col state.lengths out.old map.old }
-    requires tables { Tables lanes.now heads.now }
+    requires { InFrame at.size at.row at.col × RunLent at.size at.col state.lengths out.old map.old }
     ensures { (at.col < result.col) × BlockRun src.now at.size at.row at.col state out.old map.old result.col result.state out.new map.new }
 {
-    let size = at.size;
-    let row = at.row;
-    let run = decode_run(src, at, state, out, map, lanes, heads);
-    let col = run.col;
-    let before = run.state;
-    let w = size.width;
-    if w <= col {
+    let run = decode_run(src, at, state, out, map, tables);
+    let w = at.size.width;
+    if w <= run.col {
         return run;
     }
-    let state = decode_block(src, V0Place { size, row, col }, before, out, map);
-    let bits = state.bits;
-    end_block(map, row * w + col, bits);
+    let next = V0Place { col: run.col, ..at };
+    let state = decode_block(src, next, run.state, out, map);
+    end_block(map, at.row * w + run.col, state.bits);
     Run {
-        col: col + V0Row::BLOCK,
+        col: run.col + V0Row::BLOCK,
         state,
     }
 }
@@ -169,11 +142,9 @@ pub fn decode_row(
     offset: u32,
     out: &mut [u16],
     map: &mut [u8],
-    lanes: &[u64; 96],
-    heads: &[u32; 1024],
+    tables: &Tables,
 ) -> u64
-    requires in_row { InRow size row out.old map.old }
-    requires tables { Tables lanes.now heads.now }
+    requires { InRow size row out.old map.old }
     ensures missing { result ≡ (V0.row_blocks src.now size row offset).bits.filler }
     ensures samples { out.new ≡ V0.write_all V0.sample_kind (V0.row_blocks src.now size row offset).blocks out.old }
     ensures marks { map.new ≡ V0.write_all v0_marks (V0.row_blocks src.now size row offset).blocks map.old }
@@ -182,20 +153,11 @@ pub fn decode_row(
     let mut state = V0Row::fresh(row, offset);
     let mut col: usize = 0;
     while col < w {
-        let blocks = decode_blocks(
-            src,
-            V0Place { size, row, col },
-            state,
-            out,
-            map,
-            lanes,
-            heads,
-        );
+        let blocks = decode_blocks(src, V0Place { size, row, col }, state, out, map, tables);
         state = blocks.state;
         col = blocks.col;
     }
-    let bits = state.bits;
-    bits.filler
+    state.bits.filler
 }
 
 // A row whose data begins at `start`, by the literal rule alone: rows 0 and 1 have no inner block, so that they need no tables.
@@ -212,11 +174,9 @@ pub fn decode_early_row(
 {
     let w = size.width;
     let mut state = V0Row::fresh(row, start);
-    let mut col: usize = 0;
-    while col < size.width {
+    for block in 0..V0Row::blocks_in(w) {
+        let col = block * V0Row::BLOCK;
         state = decode_edge(src, V0Place { size, row, col }, state, out, map);
-        let bits = state.bits;
-        end_block(map, row * w + col, bits);
-        col += V0Row::BLOCK;
+        end_block(map, row * w + col, state.bits);
     }
 }

@@ -14,7 +14,6 @@ ghost use Rattle.read_window.specs.Window.{Standing};
 ghost use Rattle.v0_parse_window.specs.ByWindow.{Ahead, last_start, short, block_ahead};
 ghost use Rattle.v0_parse_window.specs.Run.{run_length};
 ghost use Rattle.v0_cells.specs.Places.{InFrame, Inner, Whole};
-ghost use Rattle.v0_lanes.specs.Blocks.{Tables};
 ghost use Rattle.v0_direct.specs.FrameLent.{RunLent};
 ghost use Rattle.v0_direct.specs.Block.{Ran};
 ghost use Rattle.v0_direct.specs.Run.{run_begins, run_end, row_at, RanAt, finished, finished_marks};
@@ -26,6 +25,7 @@ use v0_cells::inner::mark_block;
 use v0_lanes::blocks::{head_at, store_block};
 use v0_lanes::lengths::{all_fit, ends_of, lengths_after, packed, unpacked};
 use v0_lanes::predictions::predict;
+use v0_lanes::tables::Tables;
 use v0_parse_window::{BLOCK_BYTES, are_short, last_start};
 
 // Where a run ends: the column after its last block, and the row's state there.
@@ -52,11 +52,10 @@ fn finish(out: &mut [u16], map: &mut [u8], at: V0Place, from: usize, up: bool)
     if at.col <= from {
         return;
     }
-    let size = at.size;
-    let w = size.width;
+    let w = at.size.width;
     let col = at.col - V0Row::BLOCK;
     predict(out, w, at.row * w + col, up);
-    mark_block(map, size, at.row, col, up);
+    mark_block(map, at.size, at.row, col, up);
 }
 
 // Blocks from an inner one on, where no word was missing, and the point after them: the next is not short, does not lie within the row
@@ -69,25 +68,20 @@ fn short_blocks(
     start: Point,
     out: &mut [u16],
     map: &mut [u8],
-    lanes: &[u64; 96],
-    heads: &[u32; 1024],
+    tables: &Tables,
 ) -> Point
     requires inner { Inner at.size at.row start.col × (Ahead src.now base start.q block_ahead × RunLent at.size start.col start.lengths out.old map.old) }
-    requires lengths_value { (short start.lengths ≡ true) × Tables lanes.now heads.now }
+    requires short { short start.lengths ≡ true }
     ensures ran { RanAt src.now base at.size at.row start out.old map.old result out.new map.new }
     ensures reaches { result.col ≡ start.col + 16 * run_length src.now (base * 8 + last_start (length src.now - base)) ((at.size.width - start.col) / 16) (row_at src.now base start) }
 {
-    let size = at.size;
-    let row = at.row;
-    let first = start.col;
     let last = last_start(src.len() - base);
-    let w = size.width;
-    let before = start.lengths;
+    let w = at.size.width;
     let mut q = start.q;
-    let mut lengths = packed(before);
-    let mut col = first;
+    let mut lengths = packed(start.lengths);
+    let mut col = start.col;
     let mut up = false;
-    let mut head = head_at(src, base, q, lengths, heads);
+    let mut head = head_at(src, base, q, lengths, &tables.heads);
     while col + V0Row::BLOCK <= w && q <= last {
         if !all_fit(head.sums) {
             break;
@@ -97,13 +91,21 @@ fn short_blocks(
         lengths = lengths_after(head.sums);
         let ends = ends_of(from, lengths);
         q = ends.fourth;
-        head = head_at(src, base, q, lengths, heads);
-        store_block(src, base, from, lengths, out, row * w + col, lanes);
-        finish(out, map, V0Place { size, row, col }, first, up);
+        head = head_at(src, base, q, lengths, &tables.heads);
+        store_block(
+            src,
+            base,
+            from,
+            lengths,
+            out,
+            at.row * w + col,
+            &tables.lanes,
+        );
+        finish(out, map, V0Place { col, ..at }, start.col, up);
         up = next;
         col += V0Row::BLOCK;
     }
-    finish(out, map, V0Place { size, row, col }, first, up);
+    finish(out, map, V0Place { col, ..at }, start.col, up);
     Point {
         col,
         q,
@@ -112,23 +114,16 @@ fn short_blocks(
 }
 
 // Whether a run begins at a block: at an inner one, after short lengths, where the record stands in the stream and no word was missing.
+#[tactic(auto, unfolding(crate::specs::Run::run_begins))]
 fn begins(src: &[u8], at: V0Place, state: V0Row) -> bool
     requires { InFrame at.size at.row at.col }
     ensures answered { result ≡ run_begins src.now at.size at.row at.col state }
     ensures stands { result ≡ true → Standing src.now state.bits 80 }
 {
-    let bits = state.bits;
-    let lengths = state.lengths;
-    if !is_inner(at.size, at.row, at.col) {
-        return false;
-    }
-    if bits.filler != 0 {
-        return false;
-    }
-    if !are_short(lengths) {
-        return false;
-    }
-    stands_within(src, bits, BLOCK_BYTES)
+    is_inner(at.size, at.row, at.col)
+        && state.bits.filler == 0
+        && are_short(state.lengths)
+        && stands_within(src, state.bits, BLOCK_BYTES)
 }
 
 // The run from a block on, of which there may be none. The record is made again after its last block.
@@ -138,11 +133,9 @@ pub fn decode_run(
     state: V0Row,
     out: &mut [u16],
     map: &mut [u8],
-    lanes: &[u64; 96],
-    heads: &[u32; 1024],
+    tables: &Tables,
 ) -> Run
-    requires in_frame { InFrame at.size at.row at.col × RunLent at.size at.col state.lengths out.old map.old }
-    requires tables { Tables lanes.now heads.now }
+    requires { InFrame at.size at.row at.col × RunLent at.size at.col state.lengths out.old map.old }
     ensures ran { Ran src.now at.size at.row at.col state out.old map.old result.col result.state out.new map.new }
     ensures reaches { result.col ≡ run_end src.now at.size at.row at.col state }
 {
@@ -157,14 +150,13 @@ pub fn decode_run(
         q: BACK_BITS - bits.count as usize,
         lengths,
     };
-    let end = short_blocks(src, base, at, start, out, map, lanes, heads);
-    let after = end.lengths;
-    let next = V0Row {
-        lengths: after,
-        bits: state_at(src, base, end.q, 0),
-    };
+    let end = short_blocks(src, base, at, start, out, map, tables);
+    let lengths = end.lengths;
     Run {
         col: end.col,
-        state: next,
+        state: V0Row {
+            lengths,
+            bits: state_at(src, base, end.q, 0),
+        },
     }
 }

@@ -9,7 +9,7 @@ ghost use Rattle.v0_direct.specs.Block.{samples_of, Applied};
 use super::V0Place;
 use read_bits::read_residual;
 use rules::{Bits, V0Head, V0Row};
-use v0_cells::cells::{predict, put, put_mark};
+use v0_cells::cells::{predict, put};
 use v0_parse::block::residual_bits;
 use v0_parse::order::stream_column;
 
@@ -26,16 +26,13 @@ fn decode_sample(
     requires { InFrame at.size at.row at.col × (c < 16) }
     ensures { Applied (samples_of src.now at.size at.row at.col head (c ∷ []) bits) out.old map.old result out.new map.new }
 {
-    let size = at.size;
-    let after = head.row;
-    let lengths = after.lengths;
-    let from = predict(size, at.row, at.col, head.up, c);
+    let from = predict(at.size, at.row, at.col, head.up, c);
+    let lengths = head.row.lengths;
     let n = residual_bits(from, lengths[2 * (c % 2) + c / 8]);
     let g = read_residual(src, bits, n);
-    let w = size.width;
-    let place = at.row * w + at.col + c;
+    let place = at.row * at.size.width + at.col + c;
     put(out, place, from, g.value);
-    put_mark(map, place, from);
+    put(map, place, from, g.value);
     g.bits
 }
 
@@ -52,13 +49,10 @@ pub fn decode_samples(
     ensures samples { out.new ≡ V0.apply V0.sample_kind (samples_of src.now at.size at.row at.col head V0.order head.row.bits).ops out.old }
     ensures marks { map.new ≡ V0.apply v0_marks (samples_of src.now at.size at.row at.col head V0.order head.row.bits).ops map.old }
 {
-    let after = head.row;
-    let mut bits = after.bits;
-    let mut k: usize = 0;
-    while k < V0Row::BLOCK {
+    let mut bits = head.row.bits;
+    for k in 0..V0Row::BLOCK {
         let c = stream_column(k);
         bits = decode_sample(src, at, head, c, bits, out, map);
-        k += 1;
     }
     bits
 }

@@ -4,8 +4,7 @@ use Rattle.rules.specs.V0.{apply, order, sample_kind}
 use Rattle.rules.specs.Phases.{store_samples}
 use Rattle.v0_cells.specs.Inner.{inner_ops}
 use Rattle.v0_parse_window.specs.declared.WindowHead.{WindowHead}
-use Rattle.v0_lanes.specs.Lengths.{lengths_of, lengths_after, actions}
-use Rattle.v0_lanes.specs.Tables.{Holds, shapes}
+use Rattle.v0_lanes.specs.Lengths.{lengths_of, lengths_after}
 use Rattle.v0_lanes.specs.declared.lengths.PackedHead.{PackedHead}
 
 -- Four cells from a place on, the last of four numbers first.
@@ -38,11 +37,6 @@ head_after q h = record { up = h.up; lengths = lengths_after h.sums; q = q + h.s
 -- A head that ends before bit q, after which the lengths are 0 to 15.
 abbrev pub head_before : Bool → ℕ → ℕ → WindowHead
 head_before up q l = record { up = up; lengths = lengths_of l; q = q }
-
--- The tables that lanes and heads go by.
-pub record Tables (lanes heads : List ℕ) : Type 0 where
-  pub of_lanes : Holds shapes 96 lanes
-  pub of_heads : Holds actions 1_024 heads
 
 -- The first n residuals of a block in the order of its columns.
 pub record Columns (f : List ℕ) (base n : ℕ) (d : List ℕ) : Type 0 where

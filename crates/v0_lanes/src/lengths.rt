@@ -94,7 +94,7 @@ pub fn ends_of(q: usize, l: u32) -> Ends
     ensures third_value { result.third ≡ q + 4 * byte0 l + 4 * byte1 l + 4 * byte2 l }
     ensures fourth_value { result.fourth ≡ block_end q l }
 {
-    let sums = l as u64 * 16_843_009;
+    let sums = u64::from(l) * 16_843_009;
     Ends {
         first: q + (l % 256 * 4) as usize,
         second: q + (sums / 256 % 256) as usize * 4,

@@ -4,7 +4,7 @@ ghost use Rattle.v0_cells.specs.Places.{Inside, Low};
 ghost use Rattle.v0_lanes.specs.Blocks.{lane_of, Columns, predict_lanes, order_lanes};
 
 use rules::V0Row;
-use v0_cells::inner::{sample_of, store_samples};
+use v0_cells::inner::{put_columns, store};
 
 // Where the residual of sample c lies among those stored.
 fn lane_of(c: usize) -> usize
@@ -20,48 +20,10 @@ fn columns_at(out: &[u16], base: usize) -> [u16; V0Row::BLOCK]
     ensures { Columns out.now base 16 result }
 {
     let mut d = [0; V0Row::BLOCK];
-    let mut c: usize = 0;
-    while c < V0Row::BLOCK {
+    for c in 0..V0Row::BLOCK {
         d[c] = out[base + lane_of(c)];
-        c += 1;
     }
     d
-}
-
-// An inner block of direction 1.
-fn add_up(out: &mut [u16], w: usize, base: usize)
-    requires { Inside w base out.old × Low base }
-    ensures { out.new ≡ predict_lanes w base true out.old }
-{
-    let d = columns_at(out, base);
-    let mut values = [0; V0Row::BLOCK];
-    let mut c: usize = 0;
-    while c < V0Row::BLOCK {
-        let one = out[base + c - w];
-        let two = out[base + c - 2 * w];
-        let p = sample_of(c, one, two);
-        values[c] = std::num::wrapping_add_u16(p, d[c]);
-        c += 1;
-    }
-    store_samples(out, base, values);
-}
-
-// An inner block of direction 0. The row length is for the contract alone.
-fn add_left(out: &mut [u16], w: usize, base: usize)
-    requires { Inside w base out.old × Low base }
-    ensures { out.new ≡ predict_lanes w base false out.old }
-{
-    let d = columns_at(out, base);
-    let two = out[base - 2];
-    let one = out[base - 1];
-    let mut values = [0; V0Row::BLOCK];
-    let mut c: usize = 0;
-    while c < V0Row::BLOCK {
-        let p = sample_of(c, two, one);
-        values[c] = std::num::wrapping_add_u16(p, d[c]);
-        c += 1;
-    }
-    store_samples(out, base, values);
 }
 
 // An inner block, by its direction.
@@ -69,11 +31,8 @@ pub fn predict(out: &mut [u16], w: usize, base: usize, up: bool)
     requires { Inside w base out.old × Low base }
     ensures { out.new ≡ predict_lanes w base up out.old }
 {
-    if up {
-        add_up(out, w, base);
-        return;
-    }
-    add_left(out, w, base);
+    let d = columns_at(out, base);
+    put_columns(out, w, base, up, d);
 }
 
 // The residuals of a block to their own columns.
@@ -82,5 +41,5 @@ pub fn order_block(out: &mut [u16], base: usize)
     ensures { out.new ≡ order_lanes base out.old }
 {
     let d = columns_at(out, base);
-    store_samples(out, base, d);
+    store(out, base, &d[..]);
 }

@@ -7,6 +7,15 @@ ghost use Rattle.v0_lanes.specs.Tables.{Holds, shape, shapes};
 
 use read_fields::power;
 
+// The table of the lanes and that of the heads, each filled by its rule.
+#[derive(Drop)]
+pub struct Tables {
+    pub lanes: [u64; 96],
+    pub heads: [u32; 1024],
+    pub ghost of_lanes: { Holds shapes 96 lanes },
+    pub ghost of_heads: { Holds actions 1_024 heads },
+}
+
 // What four residuals of n bits are made with, by its number k.
 fn shape_of(n: u32, k: usize) -> u64
     requires { n < 16 }
@@ -36,10 +45,8 @@ pub fn fill_lanes(t: &mut [u64; 96])
     requires { length t.old ≡ 96 }
     ensures { Holds shapes 96 t.new }
 {
-    let mut i: usize = 0;
-    while i < 96 {
+    for i in 0..96 {
         t[i] = shape_of((i % 16) as u32, i / 16);
-        i += 1;
     }
 }
 
@@ -125,9 +132,7 @@ pub fn fill_heads(t: &mut [u32; 1024])
     requires { length t.old ≡ 1_024 }
     ensures { Holds actions 1_024 t.new }
 {
-    let mut i: usize = 0;
-    while i < 1024 {
+    for i in 0..1024 {
         t[i] = action_of((i / 4) as u32, i % 4);
-        i += 1;
     }
 }

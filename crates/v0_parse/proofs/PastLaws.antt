@@ -9,6 +9,7 @@ use lib.IntN.{ℤ, pos}
 use lib.ListN.{length, replicate}
 use lib.Pow.{pow_pos, pow_mono, high, low, high_ones}
 use borrow.Author.Tests.{leb-true, leb-false}
+use Rattle.std.specs.Prelude.{None}
 use Rattle.rules.specs.Reader.{fetched, held, most_filler, read, four, signed, modulo}
 use Rattle.rules.specs.V0.{operated, operate, head, length_bits}
 use Rattle.rules.specs.declared.reader.Bits.{Bits}
@@ -109,7 +110,7 @@ module _ (s : List ℕ) (b : Bits) (x : PastEnd s b) where
       cap : min n 32 ≡ n
       cap = omega arith
 
-      missing : fetched s (b.pos + 4 * words) ≡ record { value = 0xffff_ffff; missing = true }
+      missing : fetched s (b.pos + 4 * words) ≡ None
       missing = let h = x.past in fetched_missing s (b.pos + 4 * words) (omega arith)
 
       by_held : n ≤ count → read s state n ≡ record { value = 2 ^ n - 1; bits = ones_after b (k + n) }

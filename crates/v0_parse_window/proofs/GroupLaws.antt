@@ -126,10 +126,10 @@ short_is ls e =
 
 -- ── Room ──
 
--- What the readers of four ask, of n bits from bit q on: of short ones, and of long ones.
+-- What the readers of four ask, of n bits from bit q on: of short ones, and of any.
 pub record FourIn (s : List ℕ) (base q n : ℕ) : Type 0 where
   pub short : n ≤ 16 → (n ≤ 16) × ((64 ≤ q) × ((q < 2 ^ 32) × (base + (q + 4 * n - 64) / 32 * 4 + 12 ≤ length s)))
-  pub long : 16 < n → (16 < n) × ((n ≤ 32) × ((q < 2 ^ 31) × (base + (q + 2 * n) / 32 * 4 + 12 ≤ length s)))
+  pub any : (n ≤ 32) × ((64 ≤ q) × ((q < 2 ^ 31) × (base + (q + 64) / 32 * 4 + 12 ≤ length s)))
 
 -- No residual has more than 32.
 pub few : {h : WindowHead} {p : Plan} → Plans h p → (p.n0 ≤ 32) × ((p.n1 ≤ 32) × ((p.n2 ≤ 32) × (p.n3 ≤ 32)))
@@ -148,7 +148,7 @@ module _ {s : List ℕ} {base : ℕ} {h : WindowHead} {p : Plan} (ahead : Ahead 
   in_room q n late soon few =
       let there : base * 8 + h.q + residuals_ahead ≤ length s * 8 = ahead.there in
       let near : h.q + residuals_ahead < 2 ^ 31 = ahead.soon in
-      record { short = λ l. (l, (omega arith, (omega arith, omega arith))); long = λ l. (l, (few, (omega arith, omega arith))) }
+      record { short = λ l. (l, (omega arith, (omega arith, omega arith))); any = (few, (omega arith, (omega arith, omega arith))) }
 
   -- Each of the four.
   pub first_in : FourIn s base h.q p.n0

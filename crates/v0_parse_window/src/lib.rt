@@ -8,7 +8,7 @@ ghost use Rattle.v0_parse_window.specs.ByWindow.{residual, Room, length_in, Head
 ghost use Rattle.v0_parse.specs.Lengths.{Within, furthest};
 
 use read_fields::{field, power};
-use read_window::window;
+use read_window::{SHORT_BITS, window};
 use v0_parse::block::residual_length;
 use v0_parse::head::step;
 
@@ -183,4 +183,16 @@ pub fn four_long_at(src: &[u8], base: usize, q: usize, n: u32) -> [u16; 4]
         low(d / power(n), n),
         low(d, n),
     ]
+}
+
+// Four residuals of n bits from bit q on, however many bits these are. Inlined: a call would hand them over in memory.
+#[inline(always)]
+pub fn group_at(src: &[u8], base: usize, q: usize, n: u32) -> [u16; 4]
+    requires { (n ≤ 32) × ((64 ≤ q) × ((q < 2 ^ 31) × (base + (q + 64) / 32 * 4 + 12 ≤ length src.now))) }
+    ensures { Group src.now base q n result }
+{
+    if n <= SHORT_BITS {
+        return four_at(src, base, q, n);
+    }
+    four_long_at(src, base, q, n)
 }

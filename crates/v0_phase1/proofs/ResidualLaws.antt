@@ -1,6 +1,6 @@
 -- Phase one of a row: block by block, and in a block sample by sample, what is left from here comes to the whole from the start.
 use mathlib.Core.Path.{◌≡◌, refl, sym, ap, ◌∙◌}
-use mathlib.Core.Bool.{cond}
+use mathlib.Core.Bool.{Bool, true, false, cond}
 use mathlib.Core.List.{List, [], ◌∷◌, ◌++◌, map, append-nil}
 use Prim.Native.Nat.{ℕ, suc, ◌+◌, ◌-◌, ◌*◌, ◌≤◌, ◌<◌}
 use native.Mathlib.Omega.{arith}
@@ -10,6 +10,7 @@ use lib.IntN.{ℤ}
 use lib.ListN.{length, get_or, set, take, drop, length-set, take-append-drop}
 use lib.Seq.{drop-cons, take-suc-set, append_snoc, drop-set-lt}
 use borrow.Author.Tests.{lt-ltb, le-ltb}
+use Rattle.std.specs.Int.{from_bool}
 use Rattle.rules.specs.V0.{order, fresh_row, blocks_in}
 use Rattle.rules.specs.Phases.{BlockRecord, block_records, row_records, store_samples, store_blocks, direction}
 use Rattle.rules.specs.declared.reader.Bits.{Bits}
@@ -104,19 +105,24 @@ module _ (w col : ℕ) where
 
 -- ── A block of a row ──
 
+-- A direction as a byte.
+byte_of : (up : Bool) → from_bool up ≡ cond up 1 0
+byte_of true = refl
+byte_of false = refl
+
 -- A block is parsed once its residuals and its direction are stored.
 pub block_parsed : (s : List ℕ) (st : V0Row) (b : ReadBlock) (w k d : ℕ) (out out' dirs : List ℕ) → b ≡ whole_block s st
-    → out' ≡ store_samples 0 w (k * 16) order b.residuals out → d ≡ cond b.up 1 0 → Parsed s st w k out dirs b.row out' (set dirs k d)
+    → out' ≡ store_samples 0 w (k * 16) order b.residuals out → d ≡ from_bool b.up → Parsed s st w k out dirs b.row out' (set dirs k d)
 block_parsed s st b w k d out out' dirs e eo ed = record {
   state = ap (λ r. r.row) e;
   residuals = eo ∙ ap (λ r. store_samples 0 w (k * 16) order r.residuals out) e;
-  directions = ap (set dirs k) (ed ∙ ap (λ r. cond r.up 1 0) e);
+  directions = ap (set dirs k) (ed ∙ byte_of b.up ∙ ap (λ r. cond r.up 1 0) e);
 }
 
 -- So is one by position, from a head and the residuals after it, once its state is made again.
 pub position_parsed : {s : List ℕ} {base q p f : ℕ} {st : V0Row} {h : WindowHead} {w k d : ℕ} {out out' dirs : List ℕ} {b : Bits}
     → st.bits ≡ state_at s base q f → HeadAt s base q st.lengths h → Ends s base h p
-    → out' ≡ store_samples 0 w (k * 16) order (residuals_of s base h) out → d ≡ cond h.up 1 0 → b ≡ state_at s base p f
+    → out' ≡ store_samples 0 w (k * 16) order (residuals_of s base h) out → d ≡ from_bool h.up → b ≡ state_at s base p f
     → Parsed s st w k out dirs (record { lengths = h.lengths; bits = b }) out' (set dirs k d)
 position_parsed {s} {st = st} {w = w} {k = k} {d = d} {out = out} {out' = out'} {dirs = dirs} es head ends eo ed eb =
     rw eb (block_parsed s st _ w k d out out' dirs (block_read es head ends) eo ed)

@@ -1,10 +1,11 @@
 -- Blocks one after another: what each keeps all keep, and by position they are those that the record reads.
 use mathlib.Core.Path.{◌≡◌, refl, ap, ◌∙◌}
-use mathlib.Core.Bool.{true, false, cond, ◌&&◌}
+use mathlib.Core.Bool.{true, false, ◌&&◌}
 use mathlib.Core.List.{List}
 use Prim.Native.Nat.{ℕ, suc, ◌+◌, ◌-◌, ◌*◌, ◌/◌, ◌≤◌, ◌<◌}
 use native.Mathlib.Omega.{arith}
 use lib.ListN.{length, set, length-set}
+use Rattle.std.specs.Int.{from_bool}
 use Rattle.rules.specs.V0.{order, blocks_in}
 use Rattle.rules.specs.Phases.{store_samples}
 use Rattle.rules.specs.declared.reader.Bits.{Bits}
@@ -66,7 +67,7 @@ module _ {s : List ℕ} {base w : ℕ} {p : Point} {out dirs : List ℕ} where
   -- One more, from its head and the residuals after it.
   pub run_on : {p₁ : Point} {h : WindowHead} {q d : ℕ} {out₁ out₂ dirs₁ : List ℕ} → RanAt s base w p out dirs p₁ out₁ dirs₁
       → p₁.k < blocks_in w → length out₂ ≡ length out₁ → Ahead s base h.q residuals_ahead → HeadAt s base p₁.q p₁.lengths h → Ends s base h q
-      → out₂ ≡ store_samples 0 w (p₁.k * 16) order (residuals_of s base h) out₁ → d ≡ cond h.up 1 0
+      → out₂ ≡ store_samples 0 w (p₁.k * 16) order (residuals_of s base h) out₁ → d ≡ from_bool h.up
       → RanAt s base w p out dirs (record { k = p₁.k + 1; q = q; lengths = h.lengths }) out₂ (set dirs₁ p₁.k d)
   run_on r l same x head ends eo ed =
       record {

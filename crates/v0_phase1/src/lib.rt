@@ -14,19 +14,12 @@ ghost use Rattle.v0_phase1.specs.RowLent.{RowLent, BlockLent, RunLent};
 ghost use Rattle.v0_phase1.specs.Parsed.{Parsed};
 ghost use Rattle.v0_phase1.specs.Ran.{Ran};
 
-use read_window::{BACK_BITS, BACK_BYTES, SHORT_BITS, stands_within, state_at};
+use read_window::{BACK_BITS, BACK_BYTES, stands_within, state_at};
 use rules::{Size, V0Row};
 use run::{Run, parse_run};
 use v0_parse::block::read_block;
 use v0_parse::order::stream_column;
-use v0_parse_window::{BLOCK_BYTES, WindowHead, four_at, four_long_at, plan_of, window_head};
-
-// A block's direction as a byte.
-fn direction_byte(up: bool) -> u8
-    ensures { result ≡ cond up 1 0 }
-{
-    if up { 1 } else { 0 }
-}
+use v0_parse_window::{BLOCK_BYTES, WindowHead, group_at, plan_of, window_head};
 
 // A residual to column i of a row; past the row's end it is dropped.
 fn store_residual(out: &mut [u16], width: usize, i: usize, residual: u16)
@@ -43,11 +36,9 @@ fn store_edge(out: &mut [u16], width: usize, col: usize, residuals: [u16; 16])
     requires { (width ≤ length out.old) × (col < most_side) }
     ensures { out.new ≡ store_samples 0 width col order residuals out.old }
 {
-    let mut k: usize = 0;
-    while k < V0Row::BLOCK {
+    for k in 0..V0Row::BLOCK {
         let c = stream_column(k);
         store_residual(out, width, col + c, residuals[k]);
-        k += 1;
     }
 }
 
@@ -56,11 +47,9 @@ fn store_inner(out: &mut [u16], width: usize, col: usize, residuals: [u16; 16])
     requires { (width ≤ length out.old) × ((col + 16 ≤ width) × (width ≤ most_side)) }
     ensures { out.new ≡ store_samples 0 width col order residuals out.old }
 {
-    let mut k: usize = 0;
-    while k < V0Row::BLOCK {
+    for k in 0..V0Row::BLOCK {
         let c = stream_column(k);
         out[col + c] = residuals[k];
-        k += 1;
     }
 }
 
@@ -71,9 +60,9 @@ fn store_residuals(out: &mut [u16], width: usize, col: usize, residuals: [u16; 1
 {
     if col + V0Row::BLOCK <= width {
         store_inner(out, width, col, residuals);
-        return;
+    } else {
+        store_edge(out, width, col, residuals);
     }
-    store_edge(out, width, col, residuals);
 }
 
 // Four residuals to column i of a row and every other one after it.
@@ -88,8 +77,7 @@ fn store_four(out: &mut [u16], i: usize, four: [u16; 4])
 }
 
 // The residuals after a head that was read by position, to the block at a column within its row; and the bit after them. Each group
-// is stored as it is read, so that few registers hold a block; the four ways stand written out, since the compiler calls a function
-// that would join them.
+// is stored as it is read, so that few registers hold a block.
 fn store_groups(
     src: &[u8],
     base: usize,
@@ -103,29 +91,13 @@ fn store_groups(
     ensures samples { out.new ≡ store_samples 0 width col order (residuals_of src.now base head) out.old }
 {
     let plan = plan_of(head);
-    let a = if plan.n0 <= SHORT_BITS {
-        four_at(src, base, head.q, plan.n0)
-    } else {
-        four_long_at(src, base, head.q, plan.n0)
-    };
+    let a = group_at(src, base, head.q, plan.n0);
     store_four(out, col, a);
-    let b = if plan.n1 <= SHORT_BITS {
-        four_at(src, base, plan.q1, plan.n1)
-    } else {
-        four_long_at(src, base, plan.q1, plan.n1)
-    };
+    let b = group_at(src, base, plan.q1, plan.n1);
     store_four(out, col + 8, b);
-    let c = if plan.n2 <= SHORT_BITS {
-        four_at(src, base, plan.q2, plan.n2)
-    } else {
-        four_long_at(src, base, plan.q2, plan.n2)
-    };
+    let c = group_at(src, base, plan.q2, plan.n2);
     store_four(out, col + 1, c);
-    let d = if plan.n3 <= SHORT_BITS {
-        four_at(src, base, plan.q3, plan.n3)
-    } else {
-        four_long_at(src, base, plan.q3, plan.n3)
-    };
+    let d = group_at(src, base, plan.q3, plan.n3);
     store_four(out, col + 9, d);
     plan.end
 }
@@ -143,9 +115,8 @@ fn parse_by_record(
     ensures { Parsed src.now row width k out.old dirs.old result out.new dirs.new }
 {
     let block = read_block(src, row, true);
-    dirs[k] = direction_byte(block.up);
-    let residuals = block.residuals;
-    store_residuals(out, width, k * V0Row::BLOCK, residuals);
+    dirs[k] = u8::from(block.up);
+    store_residuals(out, width, k * V0Row::BLOCK, block.residuals);
     block.row
 }
 
@@ -162,13 +133,12 @@ fn parse_block(
     ensures { Parsed src.now row width k out.old dirs.old result out.new dirs.new }
 {
     let bits = row.bits;
-    let before = row.lengths;
     let col = k * V0Row::BLOCK;
     if col + V0Row::BLOCK <= width && stands_within(src, bits, BLOCK_BYTES) {
         let base = bits.pos as usize - BACK_BYTES;
-        let head = window_head(src, base, BACK_BITS - bits.count as usize, before);
+        let head = window_head(src, base, BACK_BITS - bits.count as usize, row.lengths);
         let end = store_groups(src, base, head, out, width, col);
-        dirs[k] = direction_byte(head.up);
+        dirs[k] = u8::from(head.up);
         let lengths = head.lengths;
         return V0Row {
             lengths,
@@ -190,14 +160,10 @@ fn parse_some(
     requires { RunLent width k row.lengths out.old dirs.old }
     ensures { Ran src.now width k row out.old dirs.old result.k result.row out.new dirs.new × (k < result.k) }
 {
-    let run = parse_run(src, row, width, k, &mut out[..], &mut dirs[..]);
-    let at = run.k;
-    if at < V0Row::blocks_in(width) {
-        let after = parse_block(src, run.row, width, at, &mut out[..], &mut dirs[..]);
-        return Run {
-            k: at + 1,
-            row: after,
-        };
+    let run = parse_run(src, row, width, k, out, dirs);
+    if run.k < V0Row::blocks_in(width) {
+        let row = parse_block(src, run.row, width, run.k, out, dirs);
+        return Run { k: run.k + 1, row };
     }
     run
 }
@@ -212,7 +178,7 @@ pub fn parse_v0_residuals(src: &[u8], offset: u32, width: usize, out: &mut [u16]
     let mut row = V0Row::fresh(2, offset);
     let mut k: usize = 0;
     while k < blocks {
-        let run = parse_some(src, row, width, k, &mut out[..], &mut dirs[..]);
+        let run = parse_some(src, row, width, k, out, dirs);
         row = run.row;
         k = run.k;
     }
@@ -228,12 +194,10 @@ pub fn parse_rows(src: &[u8], offsets: &[u32], size: Size, out: &mut [u16], dirs
     let w = size.width;
     let h = size.height;
     let blocks = V0Row::blocks_in(w);
-    let mut r: usize = 0;
-    while r + 2 < h {
+    for r in 0..h.saturating_sub(2) {
         let row = r + 2;
         let first = row * w;
         let start = r * blocks;
         parse_v0_residuals(src, offsets[row], w, &mut out[first..], &mut dirs[start..]);
-        r += 1;
     }
 }

@@ -16,7 +16,7 @@ ghost use Rattle.v0_parse_window.specs.Run.{run_length, blocks_of_run};
 ghost use Rattle.v0_phase1.specs.RowLent.{RunLent};
 ghost use Rattle.v0_phase1.specs.Ran.{RanAt, Ran, row_at};
 
-use super::{direction_byte, store_four};
+use super::store_four;
 use read_window::{BACK_BITS, BACK_BYTES, stands_within, state_at};
 use rules::V0Row;
 use v0_parse_window::{
@@ -88,7 +88,7 @@ fn short_blocks(
             break;
         }
         q = store_short(src, base, head, out, width, k * V0Row::BLOCK);
-        dirs[k] = direction_byte(head.up);
+        dirs[k] = u8::from(head.up);
         lengths = after;
         k += 1;
     }
@@ -101,12 +101,7 @@ fn begins(src: &[u8], row: V0Row) -> bool
     ensures answered { result ≡ short row.lengths && standing_in src.now row.bits 80 }
     ensures stands { result ≡ true → Standing src.now row.bits 80 }
 {
-    let bits = row.bits;
-    let before = row.lengths;
-    if !are_short(before) {
-        return false;
-    }
-    stands_within(src, bits, BLOCK_BYTES)
+    are_short(row.lengths) && stands_within(src, row.bits, BLOCK_BYTES)
 }
 
 // The run from block k on, of which there may be none. The record is made again after its last block.
@@ -126,21 +121,20 @@ pub fn parse_run(
         return Run { k, row };
     }
     let bits = row.bits;
-    let before = row.lengths;
+    let lengths = row.lengths;
     let base = bits.pos as usize - BACK_BYTES;
     let start = Point {
         k,
         q: BACK_BITS - bits.count as usize,
-        lengths: before,
+        lengths,
     };
     let end = short_blocks(src, base, start, width, out, dirs);
     let lengths = end.lengths;
-    let after = V0Row {
-        lengths,
-        bits: state_at(src, base, end.q, bits.filler),
-    };
     Run {
         k: end.k,
-        row: after,
+        row: V0Row {
+            lengths,
+            bits: state_at(src, base, end.q, bits.filler),
+        },
     }
 }

@@ -1,7 +1,7 @@
 -- Phase two of any kind of cell: block by block and sample by sample, what is left from here comes to the whole from the start.
 use Rattle.std.proofs.Common.{◌≡◌, ℕ, zero, suc, ◌+◌, ◌-◌, ◌*◌, ◌<◌, ◌≤◌, Bool, true, false, ◌≢◌, List, [], ◌∷◌, ◌++◌, map, length, get_or, take, drop, sym, refl, ◌∙◌, mul-le-mul_right, add-one, arith, length-drop, drop-cons, le-ltb, lt-ltb, ne_eqb}
 use lib.Seq.{take-append-le, drop-append-le}
-use Rattle.rules.specs.V0.{put, apply, order, blocks_in, rows_up, columns_back}
+use Rattle.rules.specs.V0.{put, apply, sample_kind, order, blocks_in, rows_up, columns_back}
 use Rattle.rules.specs.Phases.{Stage, sample_stage, upward, late_predictor, predict_samples, predict_blocks, phase_two}
 use Rattle.rules.specs.declared.v0.Predictor.{Predictor}
 use Rattle.rules.specs.declared.v0.Predictor.TheVariants.{Constant, Sample}
@@ -12,7 +12,7 @@ use Rattle.v0_cells.specs.Places.{Inside, Low}
 use Rattle.v0_cells.specs.Inner.{inner_ops}
 use Rattle.v0_cells.proofs.CellLaws.{product}
 use Rattle.v0_cells.proofs.InnerLaws.{late_source}
-use Rattle.v0_phase2.specs.Inner.{predict_inner}
+use Rattle.v0_cells.proofs.StagedLaws.{columns_same}
 use Rattle.v0_phase2.specs.LateRow.{LateRow}
 
 -- ── The predictor ──
@@ -104,10 +104,11 @@ module _ (g : Stage ℕ) (w row col : ℕ) (up : Bool) (two : 2 ≤ row) (after 
       ≡ apply g.kind (inner_ops w (row * w + col) up order (map (λ c. g.residual (at f₀ c)) order)) f₀
   inner_block = inner_steps order_apart (all_order (λ c. c < 16) (λ c l. l)) f₀ (all_order (λ c. at f₀ c ≡ at f₀ c) (λ c l. refl))
 
--- So it does in the samples, of a direction t.
-pub inner_done : {w row col : ℕ} {up t : Bool} {f f' : List ℕ} → LateRow w row f → (0 < col) × (col + 16 ≤ w) → up ≡ t
-    → f' ≡ predict_inner w (row * w + col) t f → f' ≡ predict_samples sample_stage w row col up order f
-inner_done l inner e q = rw e (q ∙ sym (inner_block sample_stage _ _ _ _ l.rows_above inner.0 inner.1 _))
+-- So it does in the samples, by the residuals of the block's columns.
+pub inner_done : {w row col : ℕ} (up : Bool) (d : List ℕ) {f f' : List ℕ} → LateRow w row f → (0 < col) × (col + 16 ≤ w)
+    → ((c : ℕ) → c < 16 → get_or d c 0 ≡ get_or f (row * w + col + c) 0)
+    → f' ≡ apply sample_kind (inner_ops w (row * w + col) up order (map (λ c. get_or d c 0) order)) f → f' ≡ predict_samples sample_stage w row col up order f
+inner_done up d l inner same q = (rw (columns_same same) at q) ∙ sym (inner_block sample_stage _ _ _ _ l.rows_above inner.0 inner.1 _)
 
 -- ── A row's blocks ──
 

@@ -1,16 +1,15 @@
 // Phase two: the prediction of each sample from row 2 on, added to the residual that phase one left in its place.
 #![tactic(auto)]
 
-ghost use Rattle.std.specs.Prelude.{◌≡◌, ◌+◌, ◌-◌, ◌*◌, ◌%◌, ◌<◌, ◌≤◌, true, false, [], ◌∷◌, length, take, drop};
+ghost use Rattle.std.specs.Prelude.{◌≡◌, ℕ, ◌+◌, ◌-◌, ◌*◌, ◌%◌, ◌<◌, ◌≤◌, true, false, [], ◌∷◌, length, slice_index, take, drop};
 ghost use Rattle.rules.specs.V0.{order, blocks_in};
 ghost use Rattle.rules.specs.Phases.{late_predictor, predict_samples, predict_blocks, sample_stage};
-ghost use Rattle.v0_cells.specs.Places.{Inside, Low};
-ghost use Rattle.v0_phase2.specs.Inner.{predict_inner};
+ghost use Rattle.v0_cells.specs.Places.{Low};
 ghost use Rattle.v0_phase2.specs.LateRow.{LateSample, LateRow};
 
 use rules::{Predictor, V0Row};
 use v0_cells::cells::put;
-use v0_cells::inner::{sample_of, store_samples};
+use v0_cells::inner::put_columns;
 use v0_parse::order::stream_column;
 
 // How many rows up sample c looks.
@@ -26,14 +25,12 @@ fn predictor(w: usize, row: usize, col: usize, up: bool, c: usize) -> Predictor
     ensures { result ≡ late_predictor w row col up c }
 {
     if up {
-        let p = (row - rows_up(c)) * w + col + c;
-        return Predictor::Sample(p);
+        Predictor::Sample((row - rows_up(c)) * w + col + c)
+    } else if 0 < col {
+        Predictor::Sample(row * w + col - (2 - c % 2))
+    } else {
+        Predictor::Constant
     }
-    if 0 < col {
-        let p = row * w + col - (2 - c % 2);
-        return Predictor::Sample(p);
-    }
-    Predictor::Constant
 }
 
 // Sample c of a block, if it lies within the row.
@@ -54,59 +51,32 @@ fn add_edge(out: &mut [u16], w: usize, row: usize, col: usize, up: bool)
     requires { LateRow w row out.old × (col < w) }
     ensures { out.new ≡ predict_samples sample_stage w row col up order out.old }
 {
-    let mut k: usize = 0;
-    while k < V0Row::BLOCK {
+    for k in 0..V0Row::BLOCK {
         let c = stream_column(k);
         add_sample(out, w, row, col, up, c);
-        k += 1;
     }
 }
 
-// An inner block of direction 1. As for its marks, all sums are made first and then stored.
-fn add_up(out: &mut [u16], w: usize, base: usize)
-    requires { Inside w base out.old × Low base }
-    ensures { out.new ≡ predict_inner w base true out.old }
+// The residuals that phase one left in the places of a block, one by one: the library's copy of all sixteen would go through memory.
+fn residuals_at(out: &[u16], base: usize) -> [u16; V0Row::BLOCK]
+    requires { (base + 16 ≤ length out.now) × Low base }
+    ensures { (c : ℕ) → c < 16 → slice_index result c ≡ slice_index out.now (base + c) }
 {
-    let mut values = [0; V0Row::BLOCK];
-    let mut c: usize = 0;
-    while c < V0Row::BLOCK {
-        let one = out[base + c - w];
-        let two = out[base + c - 2 * w];
-        let p = sample_of(c, one, two);
-        values[c] = std::num::wrapping_add_u16(p, out[base + c]);
-        c += 1;
+    let mut residuals = [0; V0Row::BLOCK];
+    for c in 0..V0Row::BLOCK {
+        residuals[c] = out[base + c];
     }
-    store_samples(out, base, values);
+    residuals
 }
 
-// An inner block of direction 0. The row length is for the contract alone.
-fn add_left(out: &mut [u16], w: usize, base: usize)
-    requires { Inside w base out.old × Low base }
-    ensures { out.new ≡ predict_inner w base false out.old }
-{
-    let two = out[base - 2];
-    let one = out[base - 1];
-    let mut values = [0; V0Row::BLOCK];
-    let mut c: usize = 0;
-    while c < V0Row::BLOCK {
-        let p = sample_of(c, two, one);
-        values[c] = std::num::wrapping_add_u16(p, out[base + c]);
-        c += 1;
-    }
-    store_samples(out, base, values);
-}
-
-// A block after column 0 that lies within its row: every sample has a predictor before the block.
+// A block after column 0 that lies within its row: every sample has a predictor before the block, so that all are made at once.
 fn add_inner(out: &mut [u16], w: usize, row: usize, col: usize, up: bool)
     requires { LateRow w row out.old × ((0 < col) × (col + 16 ≤ w)) }
     ensures { out.new ≡ predict_samples sample_stage w row col up order out.old }
 {
     let base = row * w + col;
-    if up {
-        add_up(out, w, base);
-        return;
-    }
-    add_left(out, w, base);
+    let residuals = residuals_at(out, base);
+    put_columns(out, w, base, up, residuals);
 }
 
 // The samples of a block.
@@ -114,15 +84,11 @@ fn add_block(out: &mut [u16], w: usize, row: usize, col: usize, up: bool)
     requires { LateRow w row out.old × (col < w) }
     ensures { out.new ≡ predict_samples sample_stage w row col up order out.old }
 {
-    if col == 0 {
+    if 0 < col && col + V0Row::BLOCK <= w {
+        add_inner(out, w, row, col, up);
+    } else {
         add_edge(out, w, row, col, up);
-        return;
     }
-    if w < col + V0Row::BLOCK {
-        add_edge(out, w, row, col, up);
-        return;
-    }
-    add_inner(out, w, row, col, up);
 }
 
 // The blocks of a row from number `from` up to but not `to`. The row's directions begin at `start`.
@@ -138,9 +104,7 @@ pub fn add_part(
     requires { LateRow w row out.old × ((start + to ≤ length dirs.now) × (to ≤ blocks_in w)) }
     ensures { out.new ≡ predict_blocks sample_stage w row (from * 16) (take (to - from) (drop (start + from) dirs.now)) out.old }
 {
-    let mut k = from;
-    while k < to {
+    for k in from..to {
         add_block(out, w, row, k * V0Row::BLOCK, dirs[start + k] != 0);
-        k += 1;
     }
 }

@@ -41,11 +41,9 @@ fn decode_late_rows(src: &[u8], offsets: &[u32], size: Size, out: &mut [u16], sc
 {
     let w = size.width;
     let h = size.height;
-    let mut r: usize = 0;
-    while r + 2 < h {
+    for r in 0..h.saturating_sub(2) {
         decode_late_row(src, offsets[r + 2], w, r, out, scratch);
         exchange_samples(out, size, r / 2, (r + 1) / 2);
-        r += 1;
     }
 }
 

@@ -4,13 +4,14 @@ use mathlib.Core.Bool.{Bool}
 use mathlib.Core.Path.{◌≡◌, refl, sym, ap, ap₂, ◌∙◌}
 use mathlib.Core.List.{List, [], ◌∷◌, ◌++◌, append-nil, append_assoc}
 use native.Mathlib.Omega.{arith}
-use native.Mathlib.Nat.{mod-eq_of_lt, mod-lt, one-mul, mul-le-mul_left}
-use lib.ListN.{length, get_or, set, take, length-append}
-use lib.Seq.{sets, take_at}
+use native.Mathlib.Nat.{mod-lt, mul-le-mul_left}
+use lib.ListN.{length, get_or, take, drop, length-append}
+use lib.Seq.{sets, sets-eq, drop-drop, take_at}
+use borrow.Rule.Slice.PartMut.{put_mid}
 use lib.Arith.{digits_lt}
 use lib.Count.{count_leading_zeros, leading_length}
 use lib.Dec.{lit<}
-use lib.Pow.{pow_pos, pow-lt, pow_mono}
+use lib.Pow.{pow_pos, pow_mono}
 use borrow.Author.Tests.{lt-ltb, le-ltb}
 use Rattle.rules.specs.Frame.{tabulate}
 use Rattle.rules.proofs.Cells.{all_get}
@@ -27,9 +28,6 @@ use Rattle.write_rules.proofs.PendingLaws.{same_state, Wrote, wrote_none, wrote_
 use Rattle.write_rules.proofs.Smallest.{smallest_most}
 use Rattle.write_rules.proofs.WeightLaws.{heaviest, weight_short, smallest_by_weight}
 use Rattle.write_bits.specs.Block.{numbers, number_bits, numbers_bits, opening_number, Lengths}
-
-pub one_shl : (k : ℕ) → k ≤ 32 → (1 * 2 ^ k) % 2 ^ 64 ≡ 2 ^ k
-one_shl k h = let l : k < 64 = omega arith in rw one-mul (mod-eq_of_lt (pow-lt l))
 
 -- A word and n more bits fit 64 bits.
 pub join_fits : (a x n : ℕ) → a < 2 ^ 32 → n ≤ 32 → a * 2 ^ n + x % 2 ^ n < 2 ^ 64
@@ -55,14 +53,13 @@ pair_bits a b n =
 pub pair_law : (n a b x : ℕ) → x ≡ a * 2 ^ n + b % 2 ^ n → bits_of (2 * n) x ≡ bits_of n a ++ bits_of n b
 pair_law n a b x e = rw e (pair_bits a b n)
 
--- Four stores are a word's bytes.
-pub stored : (f : List ℕ) (at x a b c d : ℕ) → a ≡ x % 256 → b ≡ x / 256 % 256 → c ≡ x / 65_536 % 256 → d ≡ x / 16_777_216 % 256
-    → set (set (set (set f at a) (at + 1) b) (at + 2) c) (at + 3) d ≡ sets f at (word_bytes x)
-stored f at x a b c d p q r t =
-    let one : at + 1 ≡ suc at = omega arith in
-    let two : at + 2 ≡ suc (suc at) = omega arith in
-    let three : at + 3 ≡ suc (suc (suc at)) = omega arith in
-    rw (p, q, r, t, one, two, three)
+-- A part that becomes another list of its length.
+part_set : (f ys : List ℕ) (at n : ℕ) → n ≡ length ys → at + length ys ≤ length f → put_mid at n f ys ≡ sets f at ys
+part_set f ys at n long room = rw (long, drop-drop (length ys) at f) (sym (append_assoc (take at f) ys (drop (at + length ys) f)) ∙ sym (sets-eq ys f at room))
+
+-- Four bytes that become a word's.
+pub stored : (f : List ℕ) (at n x : ℕ) (ys : List ℕ) → n ≡ 4 → at + 4 ≤ length f → ys ≡ word_bytes x → put_mid at n f ys ≡ sets f at (word_bytes x)
+stored f at n x ys four room is = ap (put_mid at n f) is ∙ part_set f (word_bytes x) at n four room
 
 -- The two ways of a step: the bits wait, ..
 module _ (p : Pending) (n x : ℕ) where
@@ -221,12 +218,12 @@ module _ (ls d f f' : List ℕ) (p q : Pending) (k : ℕ) (g : Going ls d f p f'
       omega (arith, g.wrote.grown, g.wrote.length_is, bits_length n (get_or d k 0), bits_length n (get_or d (k + 1) 0))
 
   -- With room for them, the next numbers are written.
-  pub going_on : (f'' : List ℕ) (r : Pending) → k < 16 → Wrote f' q (next_bits ls d k) f'' r → Going ls d f p f'' r (k + 2)
-  going_on f'' r l w =
+  pub going_on : (f'' : List ℕ) (r : Pending) (next : ℕ) → next ≡ k + 2 → k < 16 → Wrote f' q (next_bits ls d k) f'' r → Going ls d f p f'' r next
+  going_on f'' r next e l w =
       record {
         most = omega (arith, g.even);
         even = omega (arith, g.even);
-        wrote = rw (next_run ls d k g.even) (wrote_both g.wrote w);
+        wrote = rw (e, next_run ls d k g.even) (wrote_both g.wrote w);
       }
 
   pub gone : 16 ≤ k → Wrote f p (run (number_bits ls d) (tabulate 16 0 (λ k. k))) f' q

@@ -1,42 +1,26 @@
 // Bits written into a lent buffer, word by word, and a block of V0 or V2. What waits for its word is passed by value.
 #![tactic(auto)]
 
-ghost use Rattle.std.specs.Prelude.{◌≡◌, [], ◌∷◌, ◌++◌, ◌+◌, ◌*◌, ◌-◌, ◌/◌, ◌%◌, ◌^◌, ◌≤◌, ◌<◌, max, false, length, replicate};
+ghost use Rattle.std.specs.Prelude.{◌≡◌, [], ◌∷◌, ◌++◌, ◌+◌, ◌*◌, ◌-◌, ◌/◌, ◌%◌, ◌^◌, ◌≤◌, ◌<◌, false, length, replicate};
 ghost use Rattle.std.proofs.lemmas.List.Edits.{sets};
 ghost use Rattle.write_rules.specs.Writer.{bits_of, gap, Unit, word_bytes, smallest, lengths_for, block_bits};
 ghost use Rattle.write_rules.specs.Weight.{weight, Short};
 ghost use Rattle.write_rules.specs.Pending.{put_state, put_out};
 ghost use Rattle.write_bits.specs.Block.{numbers, numbers_bits, opening_number, Shorts, Lengths};
 
+use read_fields::power;
 use rules::V0Row;
 pub use write_rules::Pending;
 
 // ── Words ──
-
-// Returns 2 to the power k.
-fn power(k: u32) -> u64
-    requires { k ≤ 32 }
-    ensures { result ≡ 2 ^ k }
-{
-    1u64 << k
-}
-
-// The lowest byte of x.
-fn byte(x: u32) -> u8
-    ensures { result ≡ x % 256 }
-{
-    (x % 256) as u8
-}
 
 // Stores a word's four bytes, lowest first.
 pub fn store(out: &mut [u8], at: usize, x: u32)
     requires { at + 4 ≤ length out.old }
     ensures { out.new ≡ sets out.old at (word_bytes x) }
 {
-    out[at] = byte(x);
-    out[at + 1] = byte(x / 256);
-    out[at + 2] = byte(x / 65_536);
-    out[at + 3] = byte(x / 16_777_216);
+    let end = at + 4;
+    out[at..end].copy_from_slice(&x.to_le_bytes());
 }
 
 // The bits that wait, and the low n bits of x after them.
@@ -44,7 +28,7 @@ fn join(p: Pending, n: u32, x: u32) -> u64
     requires { n ≤ 32 }
     ensures { result ≡ p.word * 2 ^ n + x % 2 ^ n }
 {
-    p.word as u64 * power(n) + x as u64 % power(n)
+    u64::from(p.word) * power(n) + u64::from(x) % power(n)
 }
 
 // The low 32 bits of x.
@@ -110,17 +94,11 @@ pub fn finish(out: &mut [u8], p: Pending, unit: usize) -> Pending
 fn weight_of(d: u16) -> u32
     ensures { result ≡ weight d }
 {
-    let x = d as u32;
+    let x = u32::from(d);
     if x < 32_768 {
         return 2 * x;
     }
     2 * (65_535 - x) + 1
-}
-
-fn larger(a: u32, b: u32) -> u32
-    ensures { result ≡ max a b }
-{
-    if a < b { b } else { a }
 }
 
 // The smallest length of 0 to 15 that holds four numbers: as many bits as the greatest weight has.
@@ -128,9 +106,9 @@ pub fn length_of(a: u16, b: u16, c: u16, d: u16) -> u32
     requires { Short a × Short b × Short c × Short d }
     ensures { result ≡ smallest (a ∷ b ∷ c ∷ d ∷ []) }
 {
-    let ab = larger(weight_of(a), weight_of(b));
-    let cd = larger(weight_of(c), weight_of(d));
-    32 - u32::leading_zeros(larger(ab, cd))
+    let ab = weight_of(a).max(weight_of(b));
+    let cd = weight_of(c).max(weight_of(d));
+    32 - ab.max(cd).leading_zeros()
 }
 
 // A block's four lengths.
@@ -170,7 +148,7 @@ fn pair(n: u32, a: u16, b: u16) -> u32
     requires { n < 16 }
     ensures { result ≡ a * 2 ^ n + b % 2 ^ n }
 {
-    (a as u64 * power(n) + b as u64 % power(n)) as u32
+    (u64::from(a) * power(n) + u64::from(b) % power(n)) as u32
 }
 
 // Writes the low n bits of two numbers at once.
@@ -187,10 +165,8 @@ fn put_numbers(out: &mut [u8], p: Pending, lengths: [u32; 4], d: [u16; 16]) -> P
     ensures { (result ≡ put_state p (numbers_bits lengths d)) × (out.new ≡ put_out out.old p (numbers_bits lengths d)) }
 {
     let mut q = p;
-    let mut k: usize = 0;
-    while k < V0Row::BLOCK {
-        q = put_pair(out, q, lengths[k / 4], d[k], d[k + 1]);
-        k += 2;
+    for k in 0..V0Row::BLOCK / 2 {
+        q = put_pair(out, q, lengths[k / 2], d[2 * k], d[2 * k + 1]);
     }
     q
 }

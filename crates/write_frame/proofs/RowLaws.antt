@@ -95,14 +95,14 @@ module _ {x : Coding} (u : Unit x.unit) {row at : ℕ} {f f' : List ℕ} {p : Pe
       rw (block_of_list x row col d e) (omega (arith, r.wrote.grown, r.wrote.length_is, row_is x u row, gap_whole (length (row_bits x row)) u))
 
   -- With room for it, the next block is written.
-  pub row_on : (d f'' : List ℕ) (q : Pending) → d ≡ block_of x row col → col < x.width → Wrote f' p (block_bits (numbers d)) f'' q → Rowing x row at f f'' q (col + 16)
-  row_on d f'' q e l wrote =
-      let next : (col + 16) / 16 ≡ suc (col / 16) = omega arith in
+  pub row_on : (d f'' : List ℕ) (q : Pending) (next : ℕ) → next ≡ col + 16 → d ≡ block_of x row col → col < x.width → Wrote f' p (block_bits (numbers d)) f'' q → Rowing x row at f f'' q next
+  row_on d f'' q next on e l wrote =
+      let one_more : next / 16 ≡ suc (col / 16) = omega arith in
       let col_is : 0 + 16 * (col / 16) ≡ col = omega (arith, here) in
       record {
         whole = let k = r.whole in omega arith;
         most = omega arith;
-        wrote = rw (next, blocks_snoc x row (col / 16) 0, col_is) (wrote_both r.wrote (rw (block_of_list x row col d e) at wrote));
+        wrote = rw (one_more, blocks_snoc x row (col / 16) 0, col_is) (wrote_both r.wrote (rw (block_of_list x row col d e) at wrote));
       }
 
   -- At the row's end the padding is known.
@@ -159,16 +159,16 @@ module _ {x : Coding} {row bits col : ℕ} (r : Counting x row bits col) where
   count_most l = omega (arith, r.counted, r.most, blocks_length x row (col / 16) 0)
 
   -- A block's bits are added to the sum.
-  pub count_on : (d : List ℕ) (n : ℕ) → d ≡ block_of x row col → col < x.width → n ≡ length (block_bits (numbers d)) → Counting x row (bits + n) (col + 16)
-  count_on d n e l is =
-      let next : (col + 16) / 16 ≡ suc (col / 16) = omega arith in
+  pub count_on : (d : List ℕ) (n next : ℕ) → next ≡ col + 16 → d ≡ block_of x row col → col < x.width → n ≡ length (block_bits (numbers d)) → Counting x row (bits + n) next
+  count_on d n next on e l is =
+      let one_more : next / 16 ≡ suc (col / 16) = omega arith in
       let here : 0 + 16 * (col / 16) ≡ col = let k = r.whole in omega arith in
       record {
         whole = let k = r.whole in omega arith;
         most = omega arith;
         counted =
             ap₂ ◌+◌ r.counted (is ∙ ap length (block_of_list x row col d e))
-            ∙ rw (next, blocks_snoc x row (col / 16) 0, here) (sym (length-append (blocks_bits x row (col / 16) 0) (block_bits (x.number row col))));
+            ∙ rw (one_more, blocks_snoc x row (col / 16) 0, here) (sym (length-append (blocks_bits x row (col / 16) 0) (block_bits (x.number row col))));
       }
 
   -- At the row's end the whole units are the row's bytes.

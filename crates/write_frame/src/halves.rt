@@ -44,11 +44,9 @@ pub fn halves(samples: &[u16], first: usize, second: usize, p: u16, q: u16) -> [
     ensures { result ≡ tabulate 16 0 (by_halves samples.now first second p q) }
 {
     let mut d = [0u16; V0Row::BLOCK];
-    let mut k: usize = 0;
-    while k < V0Row::BLOCK {
+    for k in 0..V0Row::BLOCK {
         let a = samples[half_start(k, first, second) + 2 * (k % 8)];
         d[k] = less(a, half_prediction(k, p, q));
-        k += 1;
     }
     d
 }

@@ -27,11 +27,9 @@ fn row_length(samples: &[u16], format: Format, width: usize, height: usize, row:
     ensures { result ≡ length (row_of format width height samples.now row) }
 {
     let mut bits: usize = 0;
-    let mut col: usize = 0;
-    while col < width {
-        let d = numbers_of(samples, format, width, height, row, col);
+    for block in 0..V0Row::blocks_in(width) {
+        let d = numbers_of(samples, format, width, height, row, block * V0Row::BLOCK);
         bits += block_length(d);
-        col += V0Row::BLOCK;
     }
     in_units(format, bits)
 }
@@ -42,10 +40,8 @@ fn rows_length(samples: &[u16], format: Format, width: usize, height: usize) -> 
     ensures { result ≡ length (rows_of format width height samples.now) }
 {
     let mut bytes: usize = 0;
-    let mut row: usize = 0;
-    while row < height {
+    for row in 0..height {
         bytes += row_length(samples, format, width, height, row);
-        row += 1;
     }
     bytes
 }

@@ -87,11 +87,9 @@ fn edge_residuals(samples: &[u16], width: usize, height: usize, row: usize, col:
     requires { BlockLent width height row col samples.now }
     ensures { result ≡ block_residuals width height samples.now row col }
 {
-    let mut d = [0u16; 16];
-    let mut k: usize = 0;
-    while k < V0Row::BLOCK {
+    let mut d = [0u16; V0Row::BLOCK];
+    for k in 0..V0Row::BLOCK {
         d[k] = residual_at(samples, width, height, row, col, 2 * (k % 8) + k / 8);
-        k += 1;
     }
     d
 }

@@ -27,11 +27,9 @@ fn write_row(
     ensures { (result ≡ at + length (row_of format width height samples.now row)) × (out.new ≡ sets out.old at (row_of format width height samples.now row)) }
 {
     let mut p = Pending::none(at);
-    let mut col: usize = 0;
-    while col < width {
-        let d = numbers_of(samples, format, width, height, row, col);
+    for block in 0..V0Row::blocks_in(width) {
+        let d = numbers_of(samples, format, width, height, row, block * V0Row::BLOCK);
         p = put_block(out, p, d);
-        col += V0Row::BLOCK;
     }
     let q = finish(out, p, unit_of(format));
     q.pos
@@ -62,11 +60,9 @@ fn write_rows(
     ensures offsets { offsets.new ≡ sets offsets.old 0 (offsets_from (coding format width height samples.now) height 0 start) }
 {
     let mut at = start;
-    let mut row: usize = 0;
-    while row < height {
+    for row in 0..height {
         put_offset(offsets, row, at);
         at = write_row(out, at, samples, format, width, height, row);
-        row += 1;
     }
 }
 

@@ -1,7 +1,7 @@
 -- The bits ahead of a reader, and what reading does to them: where the bits ahead begin with those of a number, reading so many
 -- gives the number, leaves the rest ahead, and fetches no filler.
 use Prim.Native.Nat.{ℕ, zero, suc, ◌+◌, ◌-◌, ◌*◌, ◌/◌, ◌%◌, ◌^◌, ◌<◌, ◌≤◌, min}
-use mathlib.Core.Bool.{Bool, false}
+use mathlib.Core.Bool.{Bool}
 use mathlib.Core.Path.{◌≡◌, refl, sym, ap, ap₂, ◌∙◌}
 use mathlib.Core.List.{List, [], ◌∷◌, ◌++◌, append_assoc}
 use native.Mathlib.Omega.{arith}
@@ -9,6 +9,7 @@ use native.Mathlib.Decide.{dec_le}
 use native.Mathlib.Nat.{mod-eq_of_lt, mul_assoc, le-add_right}
 use lib.ListN.{length, get_or, length-append}
 use lib.Pow.{pow-add, split}
+use Rattle.std.specs.Prelude.{Some}
 use Rattle.rules.specs.declared.reader.Bits.{Bits}
 use Rattle.rules.specs.Reader.{word_at, held, from_held, from_next, first_bits, read, fields}
 use Rattle.rules.proofs.ReaderLaws.{fetched_there, counted_there, read_held, read_next, read_below, held_small, held_is, fields_none, fields_more}
@@ -116,7 +117,7 @@ read_enough s st b n h enough = go (dec_le n (held b))
         there : b.pos + 4 ≤ length s
         there = let e = ahead_length s b in omega arith
 
-        is : read s b n ≡ from_next b (record { value = word_at s b.pos; missing = false }) n
+        is : read s b n ≡ from_next b (Some (word_at s b.pos)) n
         is = let q' : held b < min n 32 = omega arith in rw (read_next s b n q', least, fetched_there s b.pos there)
 
         w : ℕ
@@ -128,8 +129,8 @@ read_enough s st b n h enough = go (dec_le n (held b))
         low : bits_of (held b + 32 - n) (b.word * 2 ^ 32 + w) ≡ bits_of (held b + 32 - n) w
         low = bits_far (held b + 32 - n) 32 b.word w (omega arith)
 
-        same : held (from_next b (record { value = word_at s b.pos; missing = false }) n).bits ≡ held b + 32 - n
-        same = held_is (from_next b (record { value = word_at s b.pos; missing = false }) n).bits (omega (arith, held_small b))
+        same : held (from_next b (Some (word_at s b.pos)) n).bits ≡ held b + 32 - n
+        same = held_is (from_next b (Some (word_at s b.pos)) n).bits (omega (arith, held_small b))
 
         moved : (b.pos + 4) % 2 ^ 64 ≡ b.pos + 4
         moved = let l : b.pos + 4 < 2 ^ 64 = omega (arith, st.fewer, there) in mod-eq_of_lt l

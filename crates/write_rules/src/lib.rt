@@ -1,11 +1,13 @@
 // What the writers are written with, and what they answer. `specs/` says which bytes a frame becomes.
 #![tactic(auto)]
 
-ghost use Rattle.std.specs.Prelude.{◌≡◌, max};
+ghost use Rattle.std.specs.Prelude.{◌≡◌};
+ghost use Rattle.rules.specs.Refusals.{refusal_number};
 ghost use Rattle.write_rules.specs.Pending.{nothing};
 ghost use Rattle.write_rules.specs.Calls.{refused, written, too_bright};
 
-use rules::Answer;
+use frame_map::greatest;
+use rules::{Answer, Refusal};
 
 // Bits that wait for their word: the low `count` bits of `word`, fewer than 32. `pos` is the byte position where the word will
 // stand.
@@ -57,25 +59,24 @@ impl Written {
     }
 }
 
+// A refusal's answer, with no length.
+impl From<Refusal> for Written {
+    ghost from_gives = { λ refusal written. written ≡ refused (refusal_number refusal) };
+
+    fn from(refusal: Refusal) -> Written {
+        Written {
+            answer: Answer::from(refusal),
+            length: 0,
+        }
+    }
+}
+
 // The greatest sample that is written.
 const MOST_SAMPLE: u16 = 16_383;
 
-// The brighter of two samples.
-fn brighter(a: u16, b: u16) -> u16
-    ensures { result ≡ max a b }
-{
-    if a < b { b } else { a }
-}
-
-// Whether a sample is above the greatest that is written: refusal 9. A loop that never leaves early can take many samples at once.
+// Whether a sample is above the greatest that is written: refusal 9.
 pub fn is_too_bright(samples: &[u16]) -> bool
     ensures { result ≡ too_bright samples.now }
 {
-    let mut most: u16 = 0;
-    let mut i: usize = 0;
-    while i < samples.len() {
-        most = brighter(most, samples[i]);
-        i += 1;
-    }
-    MOST_SAMPLE < most
+    MOST_SAMPLE < greatest(samples, 0)
 }

@@ -7,6 +7,3 @@ use Rattle.frame_blank.proofs.stretch_at.Given as goal
 
 abbrev pub invariant-loop-end : goal.invariant-loop-end
 invariant-loop-end l = (l.first ≤ l.end) × ((l.end ≤ length l.map) × (stretch (drop l.first l.map) ≡ l.end - l.first + stretch (drop l.end l.map)))
-
-abbrev pub decreases-loop-end : goal.decreases-loop-end
-decreases-loop-end l = length l.map - l.end

@@ -8,25 +8,25 @@ use Rattle.frame_blank.proofs.tally_row.Goals as goal
 pub returns-then-greatest_of-eq0 : goal.returns-then-greatest_of-eq0
 returns-then-greatest_of-eq0 c = tally_none _ (sym c.greatest_of.ensures ∙ c.if-greatest_of-eq0.true)
 
-pub loop-i-init : goal.loop-i-init
-loop-i-init c = tallied_none _
+pub loop-x-init : goal.loop-x-init
+loop-x-init c = tallied_none _
 
 pub overflow_add-marked : goal.overflow_add-marked
 overflow_add-marked c =
-    let l = c.loop-i in
+    let l = c.loop-x in
     let b : c.mark-now.result ≤ 1 = rw c.mark-now.ensures (bit_most _) in
     omega (arith, l.invariant.few_marks)
 
 pub overflow_add-runs : goal.overflow_add-runs
 overflow_add-runs c =
-    let l = c.loop-i in
+    let l = c.loop-x in
     let b : c.starts-runs.result ≤ 1 = rw c.starts-runs.ensures (bit_most _) in
     omega (arith, l.invariant.few_runs)
 
-pub loop-i-preserved : goal.loop-i-preserved
-loop-i-preserved c =
-    let l = c.loop-i in
+pub loop-x-preserved : goal.loop-x-preserved
+loop-x-preserved c =
+    let l = c.loop-x in
     tallied_more _ _ (omega arith) c.mark-now.ensures c.starts-runs.ensures l.invariant
 
 pub returns : goal.returns
-returns c = tallied_all (omega arith) c.loop-i.invariant
+returns c = rw (c.from.ensures, c.from-2.ensures) (tallied_all (omega arith) c.loop-x.invariant)

@@ -1,16 +1,11 @@
--- Each kind of fill has its two values.
-use mathlib.Core.Path.{◌≡◌}
-use Rattle.frame_blank.specs.declared.Filling.TheVariants.{Unstated}
+-- A stated fill has one value twice, and none has what lies to the left.
 use Rattle.frame_blank.specs.MapLent.{turns}
-use borrow.Author.Rules.{rules}
 use Rattle.frame_blank.proofs.turns_at.Goals as goal
 
-pub returns-in-Stated : goal.returns-in-Stated
+pub returns-in-Some : goal.returns-in-Some
 unfolding turns
-returns-in-Stated c = rw c.in-Stated.is
+returns-in-Some c = rw c.in-Some.is
 
-pub returns-in-Unstated : goal.returns-in-Unstated
+pub returns-in-None : goal.returns-in-None
 unfolding turns
-returns-in-Unstated c =
-    let none : c.args.fill ≡ Unstated = search rules in
-    rw (c.left_of-first.ensures, c.left_of-second.ensures, none)
+returns-in-None c = rw (c.left_of-first.ensures, c.left_of-second.ensures, c.in-None.is)

@@ -1,5 +1,4 @@
 -- What is put so far, with the columns of the rows that are left, is all columns.
-use Prim.Native.Nat.{◌-◌}
 use lib.ListN.{drop}
 use Rattle.frame_planes.specs.Planes.{evens, rows_of}
 use Rattle.frame_planes.proofs.HalfLaws.{Put}
@@ -8,6 +7,3 @@ use Rattle.frame_planes.proofs.put_rows.Given as goal
 abbrev pub invariant-loop-k : goal.invariant-loop-k
 invariant-loop-k l =
     Put (evens (drop l.parity (rows_of l.size l.samples))) l.size.width l.rows l.initial.half l.half l.k
-
-abbrev pub decreases-loop-k : goal.decreases-loop-k
-decreases-loop-k l = l.rows - l.k

@@ -1,4 +1,5 @@
 use mathlib.Core.Path.{sym, ◌∙◌}
+use native.Mathlib.Omega.{arith}
 use Rattle.frame_planes.proofs.Lists.{columns_length, columns_get}
 use Rattle.frame_planes.proofs.Written.{written_none, written_more, written_all}
 use Rattle.frame_planes.proofs.split_row.Goals as goal
@@ -10,7 +11,7 @@ pub loop-k-preserved : goal.loop-k-preserved
 loop-k-preserved c =
     let a = c.args in
     let l = c.loop-k in
-    written_more _ c.loop-k-test.true (sym (columns_get a.row.now a.first l.k 0)) l.invariant
+    written_more _ (omega (arith, l.invariant.kept)) (sym (columns_get a.row.now a.first l.k 0)) l.invariant
 
 pub returns : goal.returns
-returns c = written_all c.loop-k-test.false c.loop-k.invariant
+returns c = written_all (omega (arith, c.loop-k.invariant.kept)) c.loop-k.invariant

@@ -1,5 +1,5 @@
 use Prim.Native.Nat.{◌+◌, ◌*◌, ◌<◌}
-use mathlib.Core.Path.{sym}
+use mathlib.Core.Path.{◌≡◌, sym}
 use native.Mathlib.Omega.{arith}
 use lib.ListN.{length, get_or, length-set}
 use lib.Seq.{lt-length-set}
@@ -23,13 +23,16 @@ loop-k-preserved c =
     let l = c.loop-k in
     pair_written a.evens.now a.odds.now (omega arith) (omega arith) l.k (omega arith) l.invariant
 
-pub returns-then-k-evens : goal.returns-then-k-evens
-returns-then-k-evens c =
+pub returns-then-pairs-evens : goal.returns-then-pairs-evens
+returns-then-pairs-evens c =
     let a = c.args in
     let l = c.loop-k in
-    let v = get_or a.evens.now l.k 0 in
-    written_all (omega (arith, length-set l.row (2 * l.k) v))
-    (written_more v (omega arith) (sym (weave_even a.evens.now a.odds.now (omega arith) (omega arith) l.k 0)) l.invariant)
+    let n = length a.odds.now in
+    let v = get_or a.evens.now n 0 in
+    let e : l.k ≡ n = omega arith in
+    let i = rw e at l.invariant in
+    written_all (omega (arith, length-set l.row (2 * n) v))
+    (written_more v (omega arith) (sym (weave_even a.evens.now a.odds.now (omega arith) (omega arith) n 0)) i)
 
-pub returns-else-k-evens : goal.returns-else-k-evens
-returns-else-k-evens c = written_all (omega arith) c.loop-k.invariant
+pub returns-else-pairs-evens : goal.returns-else-pairs-evens
+returns-else-pairs-evens c = written_all (omega arith) c.loop-k.invariant

@@ -5,8 +5,8 @@ use mathlib.Core.Path.{refl}
 use mathlib.Core.List.{List, [], ◌∷◌, ◌++◌, map}
 use lib.IntN.{pos, negsuc}
 use Rattle.rules.specs.declared.reader.Bits.{Bits}
-use Rattle.rules.specs.declared.reader.Word.{Word}
-use Rattle.rules.specs.Reader.{word_at, fetched, most_filler, counted, has_filler, fresh, reset_at, held, first_bits, from_held, from_next, read, fields, four, signed, read_signed, modulo, read_residual}
+use Rattle.std.specs.Prelude.{Option, Some, None}
+use Rattle.rules.specs.Reader.{word_at, fetched, read_as, is_missing, most_filler, counted, has_filler, fresh, reset_at, held, first_bits, from_held, from_next, read, fields, four, signed, read_signed, modulo, read_residual}
 use Rattle.rules.specs.Frame.{cells, tabulate, change_cells, ended}
 use Rattle.rules.specs.Examples.{Example}
 use Rattle.rules.proofs.Pins.Values.{is, are, Hold, of_bool, minus, of_ℤ, bits, of_bits, of_got, size, words}
@@ -18,14 +18,8 @@ five = 0x01 ∷ 0x02 ∷ 0x03 ∷ 0x04 ∷ 0x05 ∷ []
 abbrev six : Bits
 six = bits 4 0xD6 6 0
 
-abbrev of_word : Word → List ℕ
-of_word w = w.value ∷ of_bool w.missing ∷ []
-
-abbrev word : ℕ → Word
-word v = record { value = v; missing = false }
-
-abbrev missing : Word
-missing = record { value = 0xffff_ffff; missing = true }
+abbrev of_word : Option ℕ → List ℕ
+of_word w = read_as w ∷ of_bool (is_missing w) ∷ []
 
 abbrev pub examples : List Example
 examples =
@@ -52,10 +46,10 @@ examples =
     ∷ are (of_got (from_held (bits 4 0xD6 6 7) 6)) (0b01_0110 ∷ 4 ∷ 0xD6 ∷ 0 ∷ 7 ∷ [])
     ∷ are (of_got (from_held (bits 4 0xD6 40 7) 0)) (0 ∷ 4 ∷ 0xD6 ∷ 0 ∷ 7 ∷ [])
     -- from_next: six bits held, then five of the next word; the position goes round; a missing word is counted
-    ∷ are (of_got (from_next six (word 0x8765_4321) 11)) (0b010110_10000 ∷ 8 ∷ 0x8765_4321 ∷ 27 ∷ 0 ∷ [])
-    ∷ are (of_got (from_next (bits (2 ^ 64 - 4) 0 0 0) missing 1)) (1 ∷ 0 ∷ 0xffff_ffff ∷ 31 ∷ 1 ∷ [])
-    ∷ are (of_got (from_next (bits (2 ^ 64 - 4) 0 0 7) missing 32)) (0xffff_ffff ∷ 0 ∷ 0xffff_ffff ∷ 0 ∷ 8 ∷ [])
-    ∷ are (of_got (from_next (bits (2 ^ 64 - 5) 0 0 7) (word 1) 32)) (1 ∷ (2 ^ 64 - 1) ∷ 1 ∷ 0 ∷ 7 ∷ [])
+    ∷ are (of_got (from_next six (Some 0x8765_4321) 11)) (0b010110_10000 ∷ 8 ∷ 0x8765_4321 ∷ 27 ∷ 0 ∷ [])
+    ∷ are (of_got (from_next (bits (2 ^ 64 - 4) 0 0 0) None 1)) (1 ∷ 0 ∷ 0xffff_ffff ∷ 31 ∷ 1 ∷ [])
+    ∷ are (of_got (from_next (bits (2 ^ 64 - 4) 0 0 7) None 32)) (0xffff_ffff ∷ 0 ∷ 0xffff_ffff ∷ 0 ∷ 8 ∷ [])
+    ∷ are (of_got (from_next (bits (2 ^ 64 - 5) 0 0 7) (Some 1) 32)) (1 ∷ (2 ^ 64 - 1) ∷ 1 ∷ 0 ∷ 7 ∷ [])
     -- read: as many as are held, one more; none; 32, and 33 as 32
     ∷ are (of_got (read words six 6)) (0b01_0110 ∷ 4 ∷ 0xD6 ∷ 0 ∷ 0 ∷ [])
     ∷ are (of_got (read words six 7)) (0b010110_1 ∷ 8 ∷ 0x8765_4321 ∷ 31 ∷ 0 ∷ [])

@@ -6,11 +6,8 @@ use Rattle.v0_bands.proofs.freed_column.Goals as goal
 pub returns-then-block-blocks : goal.returns-then-block-blocks
 returns-then-block-blocks c = column_last c.requires (omega arith)
 
-pub overflow_mul-col : goal.overflow_mul-col
-overflow_mul-col c = omega (arith, column_begins c.requires (λ e. omega arith), c.requires.width)
-
-pub returns-then-col-lt2 : goal.returns-then-col-lt2
-returns-then-col-lt2 c = column_first c.requires (λ e. omega arith) _ (omega arith)
+pub overflow_mul-block : goal.overflow_mul-block
+overflow_mul-block c = omega (arith, column_begins c.requires (λ e. omega arith), c.requires.width)
 
 pub returns : goal.returns
-returns c = column_first c.requires (λ e. omega arith) _ (omega arith)
+returns c = column_first c.requires (λ e. omega arith) _ c.saturating_sub.ensures

@@ -1,77 +1,43 @@
 -- Each row in turn, those before it having had no fault.
-use mathlib.Core.Path.{◌∙◌}
+use mathlib.Core.Path.{◌≡◌, ◌∙◌}
 use native.Mathlib.Omega.{arith}
-use Rattle.v0_clean.proofs.FrameLaws.{row_of_four, row_short, first_found, second_found, third_found, fourth_found, none_found}
+use borrow.Author.Rules.{rules}
+use Rattle.std.specs.Prelude.{Err}
+use Rattle.v0_clean.specs.Rows.{in_order}
+use Rattle.v0_clean.proofs.FrameLaws.{row_of_four, told_first, told_none}
 use Rattle.v0_clean.proofs.check_in_order.Goals as goal
 
-pub check_from-first-requires : goal.check_from-first-requires
-check_from-first-requires c = let p = c.requires in (row_of_four p.0 _ (omega arith), p.1.first)
+pub check_rest-requires : goal.check_rest-requires
+check_rest-requires c = let p = c.requires in (row_of_four p.0 _ (omega arith), p.1.first)
 
-pub told-requires : goal.told-requires
-told-requires c = let p = c.requires in row_short p.0 _ (omega arith)
+pub returns-in_err-check_rest : goal.returns-in_err-check_rest
+unfolding in_order
+returns-in_err-check_rest c =
+    let r : c.from_residual.result ≡ Err c.in_err-check_rest.field-0.0 = search rules in
+    rw r (told_first _ _ c.check_rest.ensures _ c.in_err-check_rest.was)
 
-pub returns-then-first-ne0 : goal.returns-then-first-ne0
-returns-then-first-ne0 c =
-    let a = c.args in
-    c.told.ensures ∙ first_found a.src.now a.size a.row a.rows c.check_from-first.ensures c.if-first-ne0.true
+pub check_rest-requires-2 : goal.check_rest-requires-2
+check_rest-requires-2 c = let p = c.requires in (row_of_four p.0 _ (omega arith), p.1.second)
 
-pub overflow_add-row : goal.overflow_add-row
-overflow_add-row c = let p = c.requires in record { fits = omega (arith, p.0.height, p.0.rows_in) }
+pub returns-in_err-check_rest-2 : goal.returns-in_err-check_rest-2
+unfolding in_order
+returns-in_err-check_rest-2 c =
+    let r : c.from_residual-in_err-check_rest-2.result ≡ Err c.in_err-check_rest-2.field-0.0 = search rules in
+    rw r (told_first _ _ c.check_rest-2.ensures _ c.in_err-check_rest-2.was ∙ told_none _ _ c.check_rest.ensures _ c.in_ok-check_rest.was)
 
-pub check_from-second-requires : goal.check_from-second-requires
-check_from-second-requires c = let p = c.requires in (row_of_four p.0 _ (omega arith), p.1.second)
+pub check_rest-requires-3 : goal.check_rest-requires-3
+check_rest-requires-3 c = let p = c.requires in (row_of_four p.0 _ (omega arith), p.1.third)
 
-pub overflow_add-row-then-second-ne0 : goal.overflow_add-row-then-second-ne0
-overflow_add-row-then-second-ne0 c = let p = c.requires in record { fits = omega (arith, p.0.height, p.0.rows_in) }
+pub returns-in_err-check_rest-3 : goal.returns-in_err-check_rest-3
+unfolding in_order
+returns-in_err-check_rest-3 c =
+    let r : c.from_residual-in_err-check_rest-3.result ≡ Err c.in_err-check_rest-3.field-0.0 = search rules in
+    rw r (told_first _ _ c.check_rest-3.ensures _ c.in_err-check_rest-3.was ∙ told_none _ _ c.check_rest-2.ensures _ c.in_ok-check_rest-2.was ∙ told_none _ _ c.check_rest.ensures _ c.in_ok-check_rest.was)
 
-pub told-requires-then-second-ne0 : goal.told-requires-then-second-ne0
-told-requires-then-second-ne0 c = let p = c.requires in row_short p.0 _ (omega arith)
-
-pub returns-then-second-ne0 : goal.returns-then-second-ne0
-returns-then-second-ne0 c =
-    let a = c.args in
-    c.told-then-second-ne0.ensures ∙ second_found a.src.now a.size a.row a.rows c.check_from-first.ensures c.if-first-ne0.false c.check_from-second.ensures c.if-second-ne0.true
-
-pub overflow_add-row-2 : goal.overflow_add-row-2
-overflow_add-row-2 c = let p = c.requires in record { fits = omega (arith, p.0.height, p.0.rows_in) }
-
-pub check_from-third-requires : goal.check_from-third-requires
-check_from-third-requires c = let p = c.requires in (row_of_four p.0 _ (omega arith), p.1.third)
-
-pub overflow_add-row-then-third-ne0 : goal.overflow_add-row-then-third-ne0
-overflow_add-row-then-third-ne0 c = let p = c.requires in record { fits = omega (arith, p.0.height, p.0.rows_in) }
-
-pub told-requires-then-third-ne0 : goal.told-requires-then-third-ne0
-told-requires-then-third-ne0 c = let p = c.requires in row_short p.0 _ (omega arith)
-
-pub returns-then-third-ne0 : goal.returns-then-third-ne0
-returns-then-third-ne0 c =
-    let a = c.args in
-    c.told-then-third-ne0.ensures
-    ∙ third_found a.src.now a.size a.row a.rows c.check_from-first.ensures c.if-first-ne0.false c.check_from-second.ensures c.if-second-ne0.false c.check_from-third.ensures c.if-third-ne0.true
-
-pub overflow_add-row-3 : goal.overflow_add-row-3
-overflow_add-row-3 c = let p = c.requires in record { fits = omega (arith, p.0.height, p.0.rows_in) }
-
-pub check_from-fourth-requires : goal.check_from-fourth-requires
-check_from-fourth-requires c = let p = c.requires in (row_of_four p.0 _ (omega arith), p.1.fourth)
-
-pub overflow_add-row-then-fourth-ne0 : goal.overflow_add-row-then-fourth-ne0
-overflow_add-row-then-fourth-ne0 c = let p = c.requires in record { fits = omega (arith, p.0.height, p.0.rows_in) }
-
-pub told-requires-then-fourth-ne0 : goal.told-requires-then-fourth-ne0
-told-requires-then-fourth-ne0 c = let p = c.requires in row_short p.0 _ (omega arith)
-
-pub returns-then-fourth-ne0 : goal.returns-then-fourth-ne0
-returns-then-fourth-ne0 c =
-    let a = c.args in
-    c.told-then-fourth-ne0.ensures
-    ∙ fourth_found a.src.now a.size a.row a.rows c.check_from-first.ensures c.if-first-ne0.false c.check_from-second.ensures c.if-second-ne0.false c.check_from-third.ensures
-    c.if-third-ne0.false c.check_from-fourth.ensures c.if-fourth-ne0.true
+pub check_rest-requires-4 : goal.check_rest-requires-4
+check_rest-requires-4 c = let p = c.requires in (row_of_four p.0 _ (omega arith), p.1.fourth)
 
 pub returns : goal.returns
+unfolding in_order
 returns c =
-    let a = c.args in
-    c.done.ensures
-    ∙ none_found a.src.now a.size a.row a.rows c.check_from-first.ensures c.if-first-ne0.false c.check_from-second.ensures c.if-second-ne0.false c.check_from-third.ensures
-    c.if-third-ne0.false c.check_from-fourth.ensures c.if-fourth-ne0.false
+    c.check_rest-4.ensures ∙ told_none _ _ c.check_rest-3.ensures _ c.in_ok-check_rest-3.was ∙ told_none _ _ c.check_rest-2.ensures _ c.in_ok-check_rest-2.was ∙ told_none _ _ c.check_rest.ensures _ c.in_ok-check_rest.was

@@ -1,27 +1,19 @@
--- Its first fault, told with its number.
-use mathlib.Core.Path.{◌∙◌}
-use native.Mathlib.Omega.{arith}
-use Rattle.v0_clean.proofs.FrameLaws.{row_lent, row_found, row_clean}
+-- A row from its beginning on, told with its number.
+use mathlib.Core.Path.{ap, ◌∙◌}
+use Rattle.rules.specs.Answer.{done}
+use Rattle.v0_clean.specs.Rows.{or_after}
+use Rattle.v0_clean.proofs.FrameLaws.{row_lent, row_alone}
+use Rattle.v0_clean.proofs.RowLaws.{row_begun}
 use Rattle.v0_clean.proofs.check_one.Goals as goal
 
-pub offset_bounds-offsets-row : goal.offset_bounds-offsets-row
-offset_bounds-offsets-row c = omega arith
-
-pub bounds-offsets-row : goal.bounds-offsets-row
-bounds-offsets-row c = omega arith
-
-pub check_row-fault-requires : goal.check_row-fault-requires
-check_row-fault-requires c = let p = c.requires in row_lent p.1 p.0
-
-pub told-requires : goal.told-requires
-told-requires c = let p = c.requires in omega (arith, p.0.height, p.1)
-
-pub returns-then-fault-ne0 : goal.returns-then-fault-ne0
-returns-then-fault-ne0 c =
-    let a = c.args in
-    c.told.ensures ∙ row_found a.src.now a.offsets.now a.size a.row c.check_row-fault.result c.check_row-fault.ensures c.if-fault-ne0.true
+pub check_rest-requires : goal.check_rest-requires
+check_rest-requires c =
+    let a = c.args in let p = c.requires in
+    (row_lent p.1 p.0, (row_begun a.src.now a.size a.row _ c.fresh.result c.fresh.ensures).placed)
 
 pub returns : goal.returns
 returns c =
     let a = c.args in
-    c.done.ensures ∙ row_clean a.src.now a.offsets.now a.size a.row c.check_row-fault.result c.check_row-fault.ensures c.if-fault-ne0.false
+    c.check_rest.ensures
+    ∙ ap (λ k. or_after a.row k done) (row_begun a.src.now a.size a.row _ c.fresh.result c.fresh.ensures).left
+    ∙ row_alone a.src.now a.offsets.now a.size a.row

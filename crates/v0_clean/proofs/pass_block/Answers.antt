@@ -18,12 +18,12 @@ window_head-head-requires c = (ahead_room (standing_ahead (c.stands_within.ensur
 pub plan_of-plan-requires : goal.plan_of-plan-requires
 plan_of-plan-requires c = let near = (after_head (standing_ahead (c.stands_within.ensures.stands c.if-stands_within.true)) c.window_head-head.ensures).soon in omega arith
 
-pub state_at-requires : goal.state_at-requires
-state_at-requires c = end_room (plan_ahead (after_head (standing_ahead (c.stands_within.ensures.stands c.if-stands_within.true)) c.window_head-head.ensures) c.plan_of-plan.ensures)
+pub state_at-bits-requires : goal.state_at-bits-requires
+state_at-bits-requires c = end_room (plan_ahead (after_head (standing_ahead (c.stands_within.ensures.stands c.if-stands_within.true)) c.window_head-head.ensures) c.plan_of-plan.ensures)
 
 pub returns-then-stands_within : goal.returns-then-stands_within
 returns-then-stands_within c =
-    passed {st = c.args.state} (c.stands_within.ensures.stands c.if-stands_within.true).is c.window_head-head.ensures (after_head (standing_ahead (c.stands_within.ensures.stands c.if-stands_within.true)) c.window_head-head.ensures) c.plan_of-plan.ensures c.state_at.ensures
+    passed {st = c.args.state} (c.stands_within.ensures.stands c.if-stands_within.true).is c.window_head-head.ensures (after_head (standing_ahead (c.stands_within.ensures.stands c.if-stands_within.true)) c.window_head-head.ensures) c.plan_of-plan.ensures c.state_at-bits.ensures
 
 pub returns : goal.returns
 returns c = ap (λ x. record { up = x.up; row = x.row }) c.read_block-block.ensures

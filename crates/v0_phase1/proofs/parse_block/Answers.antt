@@ -33,4 +33,4 @@ state_at-requires c =
 pub returns-then-stands_within : goal.returns-then-stands_within
 returns-then-stands_within c =
     position_parsed ((let stood_here : (Standing c.args.src.now c.args.row.bits 80) = c.stands_within.ensures.stands c.if-stands_within.true in stood_here)).is c.window_head-head.ensures c.store_groups-end.ensures.ends c.store_groups-end.ensures.samples
-    c.direction_byte.ensures c.state_at.ensures
+    c.from.ensures c.state_at.ensures

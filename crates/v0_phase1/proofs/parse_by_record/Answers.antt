@@ -5,4 +5,4 @@ use Rattle.v0_phase1.proofs.parse_by_record.Goals as goal
 pub returns : goal.returns
 returns c =
     let a = c.args in
-    block_parsed a.src.now a.row _ _ a.k _ _ _ a.dirs.now c.read_block-block.ensures c.store_residuals.ensures c.direction_byte.ensures
+    block_parsed a.src.now a.row _ _ a.k _ _ _ a.dirs.now c.read_block-block.ensures c.store_residuals.ensures c.from.ensures

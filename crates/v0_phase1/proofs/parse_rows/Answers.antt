@@ -3,7 +3,6 @@ use Prim.Native.Nat.{ℕ, ◌+◌, ◌-◌, ◌*◌, ◌≤◌}
 use native.Mathlib.Omega.{arith}
 use lib.ListN.{length, length-drop}
 use borrow.Rule.Slice.PartMut.{same_len_mid}
-use borrow.Author.Rules.{rules}
 use Rattle.rules.specs.Phases.{phase_one, scratch}
 use Rattle.rules.specs.V0.{blocks_in}
 use Rattle.v0_cells.proofs.CellLaws.{product}

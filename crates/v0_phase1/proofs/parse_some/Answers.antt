@@ -5,8 +5,8 @@ use Rattle.v0_phase1.proofs.ResidualLaws.{near_enough}
 use Rattle.v0_phase1.proofs.RunLaws.{ran_further, ran_samples, ran_directions, ran_within}
 use Rattle.v0_phase1.proofs.parse_some.Goals as goal
 
-pub parse_block-after-requires : goal.parse_block-after-requires
-parse_block-after-requires c =
+pub parse_block-row-requires : goal.parse_block-row-requires
+parse_block-row-requires c =
     let l = c.requires in let r = c.parse_run-run.ensures.ran in
     record {
       near = near_enough _ c.parse_run-run.result.k (omega (arith, l.row.width)) (ran_within l.near r);
@@ -18,9 +18,9 @@ parse_block-after-requires c =
       block_in = omega arith;
     }
 
-pub returns-then-at-blocks_in : goal.returns-then-at-blocks_in
-returns-then-at-blocks_in c =
-    (also c.parse_run-run.ensures.ran (omega arith) c.parse_block-after.auto.out c.parse_block-after.ensures, omega (arith, ran_further c.parse_run-run.ensures.ran))
+pub returns-then-run-blocks_in : goal.returns-then-run-blocks_in
+returns-then-run-blocks_in c =
+    (also c.parse_run-run.ensures.ran (omega arith) c.parse_block-row.auto.out c.parse_block-row.ensures, omega (arith, ran_further c.parse_run-run.ensures.ran))
 
 pub returns : goal.returns
 returns c = (c.parse_run-run.ensures.ran, omega (arith, c.requires.block_in))

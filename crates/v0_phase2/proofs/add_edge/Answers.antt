@@ -1,4 +1,4 @@
-use Rattle.std.proofs.Common.{◌-◌, arith, rules}
+use Rattle.std.proofs.Common.{arith, rules}
 use Rattle.v0_phase2.proofs.PredictionLaws.{predicting_begun, predicting_on, predicting_done, row_kept}
 use Rattle.v0_phase2.proofs.add_edge.Goals as goal
 

@@ -1,4 +1,4 @@
-use Rattle.std.proofs.Common.{◌-◌, refl, arith}
+use Rattle.std.proofs.Common.{refl, arith}
 use Rattle.v0_phase2.proofs.PredictionLaws.{part_begun, part_on, part_done, row_kept}
 use Rattle.v0_phase2.proofs.add_part.Goals as goal
 
@@ -8,20 +8,8 @@ loop-k-init c = part_begun _ _ _ _ _ _ _ _
 pub overflow_mul-k : goal.overflow_mul-k
 overflow_mul-k c = omega (arith, c.requires.1.1, c.requires.0.width)
 
-pub overflow_add-start : goal.overflow_add-start
-overflow_add-start c = omega (arith, c.requires.1.0)
-
-pub bounds-dirs-start : goal.bounds-dirs-start
-bounds-dirs-start c = omega (arith, c.requires.1.0)
-
 pub add_block-requires : goal.add_block-requires
 add_block-requires c = (row_kept _ c.requires.0 c.loop-k.invariant.same_length, omega (arith, c.requires.1.1))
-
-pub overflow_add-k : goal.overflow_add-k
-overflow_add-k c = omega arith
-
-pub loop-k-smaller : goal.loop-k-smaller
-loop-k-smaller c = omega arith
 
 pub loop-k-preserved : goal.loop-k-preserved
 loop-k-preserved c =

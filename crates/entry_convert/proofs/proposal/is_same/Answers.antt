@@ -1,4 +1,3 @@
-use Prim.Native.Nat.{◌-◌}
 use mathlib.Core.Path.{refl, sym, ◌∙◌}
 use native.Mathlib.Omega.{arith}
 use Rattle.entry_convert.proofs.ProposalLaws.{same_on, same_gone}
@@ -7,13 +6,10 @@ use Rattle.entry_convert.proofs.proposal.is_same.Goals as goal
 pub loop-i-init : goal.loop-i-init
 loop-i-init c = (omega arith, refl)
 
-pub loop-i-smaller : goal.loop-i-smaller
-loop-i-smaller c = omega arith
-
 pub loop-i-preserved : goal.loop-i-preserved
 loop-i-preserved c =
     let l = c.loop-i in
-    (omega arith, l.invariant.1 ∙ same_on c.args.frame.now c.args.meant.now l.i l.alike c.still_same-alike.result c.requires (omega arith) c.still_same-alike.ensures)
+    (omega arith, l.invariant.1 ∙ same_on c.args.frame.now c.args.meant.now l.i l.alike _ c.requires (omega arith) refl)
 
 pub returns : goal.returns
 returns c =

@@ -1,5 +1,5 @@
 -- What was the same before, and what is left, are the same as the whole is.
-use Prim.Native.Nat.{◌≤◌, ◌-◌}
+use Prim.Native.Nat.{◌≤◌}
 use mathlib.Core.Bool.{◌&&◌}
 use mathlib.Core.Path.{◌≡◌}
 use lib.ListN.{length, drop}
@@ -8,6 +8,3 @@ use Rattle.entry_convert.proofs.proposal.is_same.Given as goal
 
 abbrev pub invariant-loop-i : goal.invariant-loop-i
 invariant-loop-i l = (l.i ≤ length l.frame) × (same l.frame l.meant ≡ (l.alike && same (drop l.i l.frame) (drop l.i l.meant)))
-
-abbrev pub decreases-loop-i : goal.decreases-loop-i
-decreases-loop-i l = length l.frame - l.i

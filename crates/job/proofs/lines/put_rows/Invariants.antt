@@ -8,6 +8,3 @@ use Rattle.job.proofs.lines.put_rows.Given as goal
 abbrev pub invariant-loop-row : goal.invariant-loop-row
 invariant-loop-row l =
     (l.row ≤ l.height) × Left l.text l.at (rows_text l.width (l.height - l.row) l.row (drop (l.row * l.width) l.samples) (drop (l.row * l.width) l.map)) l.initial.text l.initial.at (rows_text l.width l.height 0 l.samples l.map)
-
-abbrev pub decreases-loop-row : goal.decreases-loop-row
-decreases-loop-row l = l.height - l.row

@@ -1,19 +1,18 @@
 -- A fault leaves the samples as they were; else they are the direct decoder's.
-use native.Mathlib.Omega.{arith}
-use borrow.Author.Tests.{ne_eqb, eq-eqb}
+use mathlib.Core.Path.{◌≡◌, refl}
+use borrow.Author.Rules.{rules}
+use borrow.Author.Tests.{ne_eqb}
+use Rattle.std.specs.Prelude.{Err}
+use Rattle.rules.proofs.RefusalNumbers.{number_not}
 use Rattle.samsung.proofs.clean.decode_checked.Goals as goal
 
-pub returns-then-told-ne0 : goal.returns-then-told-ne0
-returns-then-told-ne0 c = let v = c.check_frame-told in record {
-  answered = v.ensures;
-  samples = rw (ne_eqb v.result.number 0 c.if-told-ne0.true);
-}
+pub returns-in_err-check_frame : goal.returns-in_err-check_frame
+returns-in_err-check_frame c =
+    let e : c.from_residual.result ≡ Err c.in_err-check_frame.field-0.0 = search rules in
+    record {
+      answered = rw e c.in_err-check_frame.ensures;
+      samples = rw (e, ne_eqb _ 0 (number_not c.in_err-check_frame.field-0.0.refusal)) refl;
+    }
 
 pub returns : goal.returns
-returns c =
-    let v = c.check_frame-told in
-    let taken = eq-eqb v.result.number 0 (omega arith) in
-    record {
-      answered = v.ensures;
-      samples = rw taken c.decode_frame.ensures.samples;
-    }
+returns c = record { answered = c.in_ok-check_frame.ensures; samples = c.decode_frame.ensures.samples }

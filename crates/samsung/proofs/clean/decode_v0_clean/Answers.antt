@@ -1,36 +1,36 @@
 -- A refusal is the rules', a fault the verdict's; else the frame's samples are what the direct decoder leaves.
-use mathlib.Core.Path.{refl, sym}
+use mathlib.Core.Path.{refl, sym, ◌∙◌}
 use mathlib.Core.Logic.{inr}
 use mathlib.Core.Option.{none}
 use native.Mathlib.Omega.{arith}
 use lib.Seq.{length-take-le}
-use Rattle.rules.specs.Answer.{direct, ask, buffers}
-use Rattle.samsung.proofs.Opening.{Opened, opened, direct_tested, direct_v0, v0_lends}
+use Rattle.rules.proofs.RefusalNumbers.{number_not}
+use Rattle.samsung.proofs.Opening.{direct_tested, direct_opened, direct_v0, v0_lends}
 use Rattle.rules_clean.proofs.Calls.{checked_answer, checked_samples}
 use Rattle.samsung.proofs.EntryLaws.{clean_refused}
 use Rattle.samsung.proofs.clean.decode_v0_clean.Goals as goal
 
-pub returns-then-refusal-ne0 : goal.returns-then-refusal-ne0
-returns-then-refusal-ne0 c = clean_refused (direct_tested c.refuse_direct-refusal.ensures) c.if-refusal-ne0.true c.refused.ensures
+pub returns-in-Err : goal.returns-in-Err
+returns-in-Err c = clean_refused (direct_tested c.in-Err.ensures) (number_not _) c.from.ensures
 
 pub overflow_mul-n : goal.overflow_mul-n
-overflow_mul-n c = omega (arith, ((let passed_here : (let a = c.args in Opened (ask direct a.src.now a.offsets.now a.width a.height) (buffers a.out.now none none)) = opened (direct_tested c.refuse_direct-refusal.ensures) c.if-refusal-ne0.false in passed_here)).few)
+overflow_mul-n c = omega (arith, ((let a = c.args in direct_opened a.src.now a.offsets.now a.width a.height a.out.now none c.in_default.ensures)).few)
 
 pub slice_bounds-decode_checked-end : goal.slice_bounds-decode_checked-end
-slice_bounds-decode_checked-end c = ((let passed_here : (let a = c.args in Opened (ask direct a.src.now a.offsets.now a.width a.height) (buffers a.out.now none none)) = opened (direct_tested c.refuse_direct-refusal.ensures) c.if-refusal-ne0.false in passed_here)).samples_enough
+slice_bounds-decode_checked-end c = ((let a = c.args in direct_opened a.src.now a.offsets.now a.width a.height a.out.now none c.in_default.ensures)).samples_enough
 
 pub slice_bounds-decode_checked-end-2 : goal.slice_bounds-decode_checked-end-2
-slice_bounds-decode_checked-end-2 c = sym (length-take-le _ _ ((((let passed_here : (let a = c.args in Opened (ask direct a.src.now a.offsets.now a.width a.height) (buffers a.out.now none none)) = opened (direct_tested c.refuse_direct-refusal.ensures) c.if-refusal-ne0.false in passed_here)).samples_enough)))
+slice_bounds-decode_checked-end-2 c = sym (length-take-le _ _ ((((let a = c.args in direct_opened a.src.now a.offsets.now a.width a.height a.out.now none c.in_default.ensures)).samples_enough)))
 
 pub decode_checked-requires : goal.decode_checked-requires
-decode_checked-requires c = v0_lends ((let passed_here : (let a = c.args in Opened (ask direct a.src.now a.offsets.now a.width a.height) (buffers a.out.now none none)) = opened (direct_tested c.refuse_direct-refusal.ensures) c.if-refusal-ne0.false in passed_here)) direct_v0 _ (inr refl)
+decode_checked-requires c = v0_lends ((let a = c.args in direct_opened a.src.now a.offsets.now a.width a.height a.out.now none c.in_default.ensures)) direct_v0 _ (inr refl)
 
 pub returns : goal.returns
 returns c =
-    let ok = ((let passed_here : (let a = c.args in Opened (ask direct a.src.now a.offsets.now a.width a.height) (buffers a.out.now none none)) = opened (direct_tested c.refuse_direct-refusal.ensures) c.if-refusal-ne0.false in passed_here)).passed in
+    let ok = ((let a = c.args in direct_opened a.src.now a.offsets.now a.width a.height a.out.now none c.in_default.ensures)).passed in
     let d = c.decode_checked.ensures in
     record {
-      answered = checked_answer _ refl _ ok _ d.answered;
-      samples = checked_samples _ refl _ ok _ d.answered _ _ d.samples;
+      answered = checked_answer _ refl _ ok _ (c.answer_of.ensures ∙ d.answered);
+      samples = checked_samples _ refl _ ok _ (c.answer_of.ensures ∙ d.answered) _ _ (rw c.answer_of.ensures d.samples);
       map = refl;
     }

@@ -19,12 +19,6 @@ overflow_mul-pair-in-loop-pair c = let i = c.requires in omega (arith, i.pairs_i
 pub exchange_marks-requires : goal.exchange_marks-requires
 exchange_marks-requires c = marks_in_pair _ _ _ _ _ c.requires c.loop-pair.pair (omega arith) _ c.loop-pair.invariant.1.same_length
 
-pub overflow_add-pair : goal.overflow_add-pair
-overflow_add-pair c = omega arith
-
-pub loop-pair-smaller : goal.loop-pair-smaller
-loop-pair-smaller c = omega arith
-
 pub loop-pair-preserved : goal.loop-pair-preserved
 loop-pair-preserved c = let i = c.loop-pair.invariant in (
   pairs_on sample_kind _ _ _ _ _ _ _ (omega arith) (paired_all _ _ _ _ _ c.exchange_columns.ensures) i.0,

@@ -16,10 +16,7 @@ bounds-offsets-row c = omega arith
 
 pub decode_row-missing-requires : goal.decode_row-missing-requires
 decode_row-missing-requires c =
-    record {
-      in_row = row_lent _ _ _ _ _ _ c.requires _ _ _ _ (omega arith) c.loop-row.invariant;
-      tables = record { of_lanes = c.fill_lanes.ensures; of_heads = c.fill_heads.ensures };
-    }
+    row_lent _ _ _ _ _ _ c.requires _ _ _ _ (omega arith) c.loop-row.invariant
 
 pub overflow_add-row : goal.overflow_add-row
 overflow_add-row c = omega arith
@@ -28,13 +25,6 @@ pub exchange_pairs-requires : goal.exchange_pairs-requires
 exchange_pairs-requires c =
     let d = c.decode_row-missing.ensures in
     freed_lent _ _ _ _ _ _ c.requires _ _ _ _ _ _ _ _ _ (omega arith) d.samples d.marks c.freed_pairs.ensures c.freed_pairs-in-loop-row.ensures c.loop-row.invariant
-
-pub overflow_add-row-in-loop-row : goal.overflow_add-row-in-loop-row
-overflow_add-row-in-loop-row c =
-    record { fits = omega (arith, c.requires.1, c.requires.0.height) }
-
-pub loop-row-smaller : goal.loop-row-smaller
-loop-row-smaller c = omega arith
 
 pub loop-row-preserved : goal.loop-row-preserved
 loop-row-preserved c =

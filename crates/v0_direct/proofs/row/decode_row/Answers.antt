@@ -10,10 +10,7 @@ loop-col-init c = rowing_begun _ c.args.size _ _ _ _ _ c.fresh-state.ensures
 pub decode_blocks-blocks-requires : goal.decode_blocks-blocks-requires
 decode_blocks-blocks-requires c =
     let l = c.loop-col in
-    record {
-      in_frame = row_block c.args.src.now c.args.size c.args.row c.args.offset c.args.out.now c.args.map.now l.out l.map l.state l.col (omega arith) c.requires.in_row l.invariant;
-      tables = c.requires.tables;
-    }
+    row_block c.args.src.now c.args.size c.args.row c.args.offset c.args.out.now c.args.map.now l.out l.map l.state l.col (omega arith) c.requires l.invariant
 
 pub loop-col-smaller : goal.loop-col-smaller
 loop-col-smaller c = let on = c.decode_blocks-blocks.ensures.0 in omega arith

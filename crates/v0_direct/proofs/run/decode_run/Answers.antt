@@ -9,7 +9,7 @@ use Rattle.v0_direct.proofs.run.decode_run.Goals as goal
 pub returns-then-not-begins : goal.returns-then-not-begins
 returns-then-not-begins c =
     record {
-      ran = none_ran c.args.src.now c.requires.in_frame.0 c.requires.in_frame.1;
+      ran = none_ran c.args.src.now c.requires.0 c.requires.1;
       reaches = run_none _ _ _ _ _ (sym c.begins.ensures.answered ∙ c.if-not-begins.true);
     }
 
@@ -22,13 +22,13 @@ overflow_sub-start c = let few = (c.begins.ensures.stands c.if-not-begins.false)
 pub short_blocks-end-requires : goal.short_blocks-end-requires
 short_blocks-end-requires c =
     record {
-      inner = ((begins_is _ _ _ _ _ c.requires.in_frame.0 (sym c.begins.ensures.answered ∙ c.if-not-begins.false)).0, (standing_ahead (c.begins.ensures.stands c.if-not-begins.false), c.requires.in_frame.1));
-      lengths_value = (begins_short _ _ _ _ _ (sym c.begins.ensures.answered ∙ c.if-not-begins.false), c.requires.tables);
+      inner = ((begins_is _ _ _ _ _ c.requires.0 (sym c.begins.ensures.answered ∙ c.if-not-begins.false)).0, (standing_ahead (c.begins.ensures.stands c.if-not-begins.false), c.requires.1));
+      short = begins_short _ _ _ _ _ (sym c.begins.ensures.answered ∙ c.if-not-begins.false);
     }
 
 pub returns : goal.returns
 returns c =
-    let at = begun c.args.at.col (c.begins.ensures.stands c.if-not-begins.false) (begins_is _ _ _ _ _ c.requires.in_frame.0 (sym c.begins.ensures.answered ∙ c.if-not-begins.false)).1 in
+    let at = begun c.args.at.col (c.begins.ensures.stands c.if-not-begins.false) (begins_is _ _ _ _ _ c.requires.0 (sym c.begins.ensures.answered ∙ c.if-not-begins.false)).1 in
     record {
       ran = run_done at c.state_at.ensures c.short_blocks-end.ensures.ran;
       reaches = c.short_blocks-end.ensures.reaches ∙ run_ended _ _ _ _ _ (sym c.begins.ensures.answered ∙ c.if-not-begins.false) _ refl at;

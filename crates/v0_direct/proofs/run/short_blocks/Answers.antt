@@ -19,7 +19,7 @@ ahead c =
     room_for c.loop-col.invariant.ran.ahead.late (omega arith) (omega arith) c.last_start-last.ensures c.if-q-last.true
 
 pub head_at-head-requires : goal.head_at-head-requires
-head_at-head-requires c = let p = c.requires in (ahead_room p.inner.1.0, (c.packed-lengths.ensures.0, p.lengths_value.1.of_heads))
+head_at-head-requires c = let p = c.requires in (ahead_room p.inner.1.0, (c.packed-lengths.ensures.0, c.args.tables.now.of_heads))
 
 pub loop-col-init : goal.loop-col-init
 loop-col-init c = let p = c.requires in let k = c.packed-lengths.ensures in
@@ -37,20 +37,20 @@ ends_of-ends-requires c = (omega (arith, c.loop-col.invariant.head.soon, c.loop-
 pub head_at-head-requires-in-loop-col : goal.head_at-head-requires-in-loop-col
 head_at-head-requires-in-loop-col c = let k = c.lengths_after-lengths.ensures in let fit = sym c.all_fit.ensures ∙ c.if-not-all_fit.false in (
   rw c.ends_of-ends.ensures.fourth_value (going_room c.requires.inner.0 c.loop-col.invariant (omega arith) (ahead (goal.at.head_at-head-requires-in-loop-col c).After-all_fit) c.if-q-last.true c.requires.inner.1.1.samples_lent fit _ k.0 (k.1 fit)),
-  (k.0, c.requires.lengths_value.1.of_heads),
+  (k.0, c.args.tables.now.of_heads),
 )
 
-pub overflow_mul-row : goal.overflow_mul-row
-overflow_mul-row c = record { fits = omega (arith, inner_fits (here (goal.at.overflow_mul-row c).After-all_fit)) }
+pub overflow_mul-at : goal.overflow_mul-at
+overflow_mul-at c = record { fits = omega (arith, inner_fits (here (goal.at.overflow_mul-at c).After-all_fit)) }
 
-pub overflow_add-row : goal.overflow_add-row
-overflow_add-row c = record { fits = omega (arith, inner_fits (here (goal.at.overflow_add-row c).After-all_fit)) }
+pub overflow_add-at : goal.overflow_add-at
+overflow_add-at c = record { fits = omega (arith, inner_fits (here (goal.at.overflow_add-at c).After-all_fit)) }
 
 pub store_block-requires : goal.store_block-requires
 store_block-requires c = let k = c.lengths_after-lengths.ensures in let fit = sym c.all_fit.ensures ∙ c.if-not-all_fit.false in let lent = c.requires.inner.1.1.samples_lent in (
   k.0,
   (
-    c.requires.lengths_value.1.of_lanes,
+    c.args.tables.now.of_lanes,
     (
       going_ahead c.requires.inner.0 c.loop-col.invariant (omega arith) (ahead (goal.at.store_block-requires c).After-all_fit) c.if-q-last.true lent fit _ k.0 (k.1 fit),
       (inner_inside (here (goal.at.store_block-requires c).After-all_fit) c.loop-col.out (c.loop-col.invariant.same_samples ∙ lent)).room,

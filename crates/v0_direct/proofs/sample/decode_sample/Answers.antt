@@ -24,4 +24,4 @@ pub returns : goal.returns
 unfolding length_of
 returns c = let l = get_or c.args.head.row.lengths (2 * (c.args.c % 2) + c.args.c / 8) (pos 0) in
     let en = rw (to_z-of_z w32 l (search rules)) at c.residual_bits-n.ensures in
-    sample_applied _ c.args.at.size _ _ c.args.head c.args.c c.args.bits _ _ _ c.predict-from.ensures en c.read_residual-g.ensures _ _ _ _ c.put.ensures c.put_mark.ensures
+    sample_applied _ c.args.at.size _ _ c.args.head c.args.c c.args.bits _ _ _ c.predict-from.ensures en c.read_residual-g.ensures _ _ _ _ c.put.ensures c.put-2.ensures

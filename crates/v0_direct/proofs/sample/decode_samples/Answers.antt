@@ -8,12 +8,6 @@ loop-k-init c = sampling_begun _ _ _ _ _ _ _ _
 pub decode_sample-bits-requires : goal.decode_sample-bits-requires
 decode_sample-bits-requires c = (c.requires, c.stream_column-c.ensures.1)
 
-pub overflow_add-k : goal.overflow_add-k
-overflow_add-k c = omega arith
-
-pub loop-k-smaller : goal.loop-k-smaller
-loop-k-smaller c = omega arith
-
 pub loop-k-preserved : goal.loop-k-preserved
 loop-k-preserved c =
     let a = c.args in

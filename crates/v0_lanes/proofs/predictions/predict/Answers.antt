@@ -1,8 +1,9 @@
--- The two directions.
+-- The residuals of its columns are the block's lanes.
+use Rattle.v0_cells.proofs.StagedLaws.{columns_same}
 use Rattle.v0_lanes.proofs.predictions.predict.Goals as goal
 
-pub returns-then-up : goal.returns-then-up
-returns-then-up c = rw c.if-up.true c.add_up.ensures
+pub put_columns-requires : goal.put_columns-requires
+put_columns-requires c = c.requires
 
 pub returns : goal.returns
-returns c = rw c.if-up.false c.add_left.ensures
+returns c = rw (columns_same c.columns_at-d.ensures.each) at c.put_columns.ensures

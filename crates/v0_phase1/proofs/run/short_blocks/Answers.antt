@@ -53,7 +53,7 @@ pub loop-k-preserved : goal.loop-k-preserved
 loop-k-preserved c =
     let stored-by = c.store_short-q.ensures in (
       run_on c.loop-k.invariant.0 ((let inside_here : c.loop-k.k < blocks_in c.args.width = omega arith in inside_here)) c.store_short-q.auto.out ((let after_here : (Ahead c.args.src.now c.args.base c.window_head-head.result.q residuals_ahead) = after_head ((let ahead_here : (Ahead c.args.src.now c.args.base c.loop-k.q block_ahead) = let first = c.requires.0.there in
-          room_for c.loop-k.invariant.0.ahead.late (omega arith) (omega arith) c.last_start-last.ensures ((let soon_here : c.loop-k.q ≤ c.last_start-last.result = c.if-q-last.true in soon_here)) in ahead_here)) c.window_head-head.ensures in after_here)) c.window_head-head.ensures stored-by.ends stored-by.samples c.direction_byte.ensures,
+          room_for c.loop-k.invariant.0.ahead.late (omega arith) (omega arith) c.last_start-last.ensures ((let soon_here : c.loop-k.q ≤ c.last_start-last.result = c.if-q-last.true in soon_here)) in ahead_here)) c.window_head-head.ensures in after_here)) c.window_head-head.ensures stored-by.ends stored-by.samples c.from.ensures,
       λ f. c.loop-k.invariant.1 f ∙ ends_on _ _ _ _ _ _ ((let soon_here : c.loop-k.q ≤ c.last_start-last.result = c.if-q-last.true in soon_here)) c.window_head-head.ensures _ (omega arith) (sym c.are_short.ensures ∙ c.if-not-are_short.false) stored-by.ends f,
     )
 

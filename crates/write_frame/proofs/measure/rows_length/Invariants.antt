@@ -1,11 +1,7 @@
 -- The loop: the bytes of the rows before a row have been counted.
-use Prim.Native.Nat.{◌-◌}
 use Rattle.write_frame.specs.Frames.{coding}
 use Rattle.write_frame.proofs.FrameLaws.{Measuring}
 use Rattle.write_frame.proofs.measure.rows_length.Given as goal
 
 abbrev pub invariant-loop-row : goal.invariant-loop-row
 invariant-loop-row l = Measuring (coding l.format l.width l.height l.samples) l.height l.bytes l.row
-
-abbrev pub decreases-loop-row : goal.decreases-loop-row
-decreases-loop-row l = l.height - l.row

@@ -26,9 +26,6 @@ offset_bounds-d-k c = record { fits = omega arith }
 pub bounds-d-k : goal.bounds-d-k
 bounds-d-k c = omega arith
 
-pub loop-k-smaller : goal.loop-k-smaller
-loop-k-smaller c = omega arith
-
 pub loop-k-preserved : goal.loop-k-preserved
 loop-k-preserved c =
     let a = c.args in

@@ -1,5 +1,4 @@
 -- The loop: the first k residuals have been found.
-use Prim.Native.Nat.{◌-◌}
 use lib.ListN.{get_or}
 use Rattle.rules.specs.V0.{order}
 use Rattle.write_rules.specs.Writer.{residual}
@@ -9,6 +8,3 @@ use Rattle.write_frame.proofs.residuals.edge_residuals.Given as goal
 
 abbrev pub invariant-loop-k : goal.invariant-loop-k
 invariant-loop-k l = Finding (λ k. residual l.width (exchanged l.width l.height l.samples) l.row l.col (get_or order k 0)) l.d l.k
-
-abbrev pub decreases-loop-k : goal.decreases-loop-k
-decreases-loop-k l = 16 - l.k

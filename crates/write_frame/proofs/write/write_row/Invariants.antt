@@ -1,11 +1,8 @@
 -- The loop: the blocks before a column have been written; then the padding.
-use Prim.Native.Nat.{◌+◌, ◌-◌}
+use Prim.Native.Nat.{◌*◌}
 use Rattle.write_frame.specs.Frames.{coding}
 use Rattle.write_frame.proofs.RowLaws.{Rowing}
 use Rattle.write_frame.proofs.write.write_row.Given as goal
 
-abbrev pub invariant-loop-col : goal.invariant-loop-col
-invariant-loop-col l = Rowing (coding l.format l.width l.height l.samples) l.row l.at l.initial.out l.out l.p l.col
-
-abbrev pub decreases-loop-col : goal.decreases-loop-col
-decreases-loop-col l = l.width + 16 - l.col
+abbrev pub invariant-loop-block : goal.invariant-loop-block
+invariant-loop-block l = Rowing (coding l.format l.width l.height l.samples) l.row l.at l.initial.out l.out l.p (l.block * 16)

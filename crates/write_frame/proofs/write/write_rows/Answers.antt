@@ -15,9 +15,6 @@ write_row-at-requires c =
     let l = c.loop-row in
     (c.requires.0, omega arith, rw (← unit_is a.width a.height a.samples.now a.format) l.invariant.whole, row_room l.invariant (omega arith) c.requires.3)
 
-pub loop-row-smaller : goal.loop-row-smaller
-loop-row-smaller c = omega arith
-
 pub loop-row-preserved : goal.loop-row-preserved
 loop-row-preserved c =
     frame_on c.loop-row.invariant (coding_unit _ _ _ _) _ _ _ (omega arith) c.put_offset.ensures c.write_row-at.ensures.0 c.write_row-at.ensures.1

@@ -1,11 +1,7 @@
 -- The loop: the rows before a row have been written, and their offsets.
-use Prim.Native.Nat.{◌-◌}
 use Rattle.write_frame.specs.Frames.{coding}
 use Rattle.write_frame.proofs.FrameLaws.{Framing}
 use Rattle.write_frame.proofs.write.write_rows.Given as goal
 
 abbrev pub invariant-loop-row : goal.invariant-loop-row
 invariant-loop-row l = Framing (coding l.format l.width l.height l.samples) l.height l.start l.initial.out l.initial.offsets l.out l.offsets l.at l.row
-
-abbrev pub decreases-loop-row : goal.decreases-loop-row
-decreases-loop-row l = l.height - l.row

@@ -1,9 +1,0 @@
--- The measure is how many calls are left.
-use Rattle.std.proofs.Common.{◌-◌}
-use Rattle.replay.proofs.differing.Given as goal
-
-abbrev pub invariant-loop-i : goal.invariant-loop-i
-invariant-loop-i l = Unit {0}
-
-abbrev pub decreases-loop-i : goal.decreases-loop-i
-decreases-loop-i l = l.count - l.i
