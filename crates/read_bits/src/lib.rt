@@ -79,7 +79,7 @@ fn joined(bits: Bits, have: u32, word: u32, filler: u64) -> Refilled
     ensures { result ≡ joined_with bits have word filler }
 {
     Refilled {
-        words: bits.word as u64 * 4_294_967_296 + word as u64,
+        words: u64::from(bits.word) * 4_294_967_296 + u64::from(word),
         bits: Bits {
             pos: bits.pos.wrapping_add(Bits::WORD_BYTES),
             word,
@@ -98,7 +98,7 @@ fn refill(src: &[u8], bits: Bits, k: u32) -> Refilled
     let have = held_bits(bits);
     if k <= have {
         return Refilled {
-            words: bits.word as u64,
+            words: u64::from(bits.word),
             bits: Bits {
                 pos: bits.pos,
                 word: bits.word,
