@@ -155,6 +155,7 @@ pub fn reset_at(bits: Bits, pos: u64) -> Bits
 }
 
 // Reads a number of n bits, at most 32, in two's complement.
+// The next function does the same for samples: each is a definition of the rules, which its contract names.
 pub fn read_signed(src: &[u8], bits: Bits, n: u32) -> Taken<i32>
     ensures { result ≡ read_signed src.now bits n }
 {
