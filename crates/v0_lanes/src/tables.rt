@@ -17,27 +17,20 @@ pub struct Tables {
 }
 
 // What four residuals of n bits are made with, by its number k.
+#[tactic(auto, unfolding(crate::specs::Tables::shape))]
 fn shape_of(n: u32, k: usize) -> u64
     requires { n < 16 }
     ensures { result ≡ shape n k }
 {
     let t = power(n);
-    if k == 0 {
-        return power(4 * n) - 1;
+    match k {
+        0 => power(4 * n) - 1,
+        1 => 4_294_967_296 - power(2 * n),
+        2 => (t - 1) * 4_294_967_296 + (t - 1),
+        3 => 65_536 - t,
+        4 => t / 2 * 281_479_271_743_489,
+        _ => 131_072 / t - 2,
     }
-    if k == 1 {
-        return 4_294_967_296 - power(2 * n);
-    }
-    if k == 2 {
-        return (t - 1) * 4_294_967_296 + (t - 1);
-    }
-    if k == 3 {
-        return 65_536 - t;
-    }
-    if k == 4 {
-        return t / 2 * 281_479_271_743_489;
-    }
-    131_072 / t - 2
 }
 
 // All of it for each n below 16, to a table of 96.
@@ -51,24 +44,20 @@ pub fn fill_lanes(t: &mut [u64; 96])
 }
 
 // The bits of a length that an operation keeps.
+#[tactic(auto, unfolding(crate::specs::Lengths::keep))]
 fn keep_of(op: u32) -> u32
     ensures { (result ≡ keep op) × (result < 256) }
 {
-    if op == 3 {
-        return 0;
-    }
-    255
+    if op == 3 { 0 } else { 255 }
 }
 
 // What it adds, 128 more.
+#[tactic(auto, unfolding(crate::specs::Lengths::step))]
 fn step_of(op: u32) -> u32
     requires { op < 4 }
     ensures { (result ≡ step op) × (result < 256) }
 {
-    if op == 3 {
-        return 128;
-    }
-    128 + op % 2 - op / 2
+    if op == 3 { 128 } else { 128 + op % 2 - op / 2 }
 }
 
 // How many lengths it reads.
@@ -80,14 +69,12 @@ fn reads_of(op: u32) -> u32
 }
 
 // How far the bits that it reads, after r others, lie above byte j.
+#[tactic(auto, unfolding(crate::specs::Lengths::shift))]
 fn shift_of(op: u32, r: u32, j: u32) -> u32
     requires { (r < 4) × (j < 4) }
     ensures { (result ≡ shift op r j) × (result < 64) }
 {
-    if op == 3 {
-        return 51 - 4 * r - 8 * j;
-    }
-    63
+    if op == 3 { 51 - 4 * r - 8 * j } else { 63 }
 }
 
 // Four bytes in a number, the first lowest.
@@ -99,6 +86,7 @@ fn four_bytes(a: u32, b: u32, c: u32, d: u32) -> u32
 }
 
 // What the head of the operations o does, by its number k.
+#[tactic(auto, unfolding(crate::specs::Lengths::action))]
 fn action_of(o: u32, k: usize) -> u32
     requires { o < 256 }
     ensures { result ≡ action o k }
@@ -107,24 +95,20 @@ fn action_of(o: u32, k: usize) -> u32
     let b = o / 16 % 4;
     let c = o / 4 % 4;
     let d = o % 4;
-    if k == 0 {
-        return four_bytes(keep_of(a), keep_of(b), keep_of(c), keep_of(d));
-    }
-    if k == 1 {
-        return four_bytes(step_of(a), step_of(b), step_of(c), step_of(d));
-    }
     let second = reads_of(a);
     let third = second + reads_of(b);
     let fourth = third + reads_of(c);
-    if k == 2 {
-        return four_bytes(
+    match k {
+        0 => four_bytes(keep_of(a), keep_of(b), keep_of(c), keep_of(d)),
+        1 => four_bytes(step_of(a), step_of(b), step_of(c), step_of(d)),
+        2 => four_bytes(
             shift_of(a, 0, 0),
             shift_of(b, second, 1),
             shift_of(c, third, 2),
             shift_of(d, fourth, 3),
-        );
+        ),
+        _ => 9 + 4 * (fourth + reads_of(d)),
     }
-    9 + 4 * (fourth + reads_of(d))
 }
 
 // All of it for each of 256 heads, to a table of 1,024.
