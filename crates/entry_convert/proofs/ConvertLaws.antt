@@ -35,7 +35,7 @@ use Rattle.entry_convert.specs.Convert.{Call, found, decoded_samples, decoded_ma
 -- ── Writing a decoded frame ──
 
 -- A frame without a sample above 16,383 can be written.
-pub writable : {w h : ℕ} {f : List ℕ} → Frame w h f → too_bright f ≡ false → Writable V2 w h f
+pub writable : {w h : ℕ} {f : List ℕ} → Frame w h f → too_bright f ≡ false → Writable V2 (size w h) f
 writable {f = f} fits dim =
     record {
       wide = fits.wide;

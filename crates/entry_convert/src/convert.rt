@@ -18,16 +18,10 @@ fn is_marked(map: &[u8]) -> bool
 }
 
 // Writes a decoded frame as V2. Refusals 16, 9 and 10, which change nothing.
-fn write_decoded(
-    samples: &[u16],
-    map: &[u8],
-    width: usize,
-    height: usize,
-    stream: &mut [u8],
-) -> Written
-    requires { Frame width height samples.now }
-    ensures answered { result ≡ late_answer width height samples.now map.now (length stream.old) }
-    ensures stream { stream.new ≡ late_stream width height samples.now map.now stream.old }
+fn write_decoded(samples: &[u16], map: &[u8], size: Size, stream: &mut [u8]) -> Written
+    requires { Frame size.width size.height samples.now }
+    ensures answered { result ≡ late_answer size.width size.height samples.now map.now (length stream.old) }
+    ensures stream { stream.new ≡ late_stream size.width size.height samples.now map.now stream.old }
 {
     if is_marked(map) {
         return Written::from(Refusal::Marked);
@@ -35,11 +29,11 @@ fn write_decoded(
     if is_too_bright(samples) {
         return Written::from(Refusal::TooBright);
     }
-    let length = v2_length(samples, width, height);
+    let length = v2_length(samples, size);
     if stream.len() < length {
         return Written::from(Refusal::ShortOutput);
     }
-    write_v2(stream, samples, width, height);
+    write_v2(stream, samples, size);
     Written::done(length as u64)
 }
 
@@ -76,5 +70,5 @@ pub fn v0_to_v2(
     // it (16).
     decode_v0_reference_map(src, offsets, width, height, samples, map);
     let n = width * height;
-    write_decoded(&samples[..n], &map[..n], width, height, stream)
+    write_decoded(&samples[..n], &map[..n], size, stream)
 }

@@ -26,7 +26,7 @@ fn check_before(
     refuse_direct(size, scratch, offsets.len(), None)?;
     check_frame(src, offsets, size)?;
     let n = width * height;
-    if v0_length(&meant[..n], width, height) < src.len() {
+    if v0_length(&meant[..n], size) < src.len() {
         return Err(Fault::from(Refusal::LongStream));
     }
     Ok(())

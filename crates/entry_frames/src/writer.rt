@@ -46,10 +46,10 @@ pub fn write_v0(
         return Written::from(refusal);
     }
     let n = width * height;
-    let length = v0_length(&samples[..n], width, height);
+    let length = v0_length(&samples[..n], size);
     if is_short(stream.len(), length, offsets.len(), height) {
         return Written::from(Refusal::ShortOutput);
     }
-    write::write_v0(stream, offsets, &samples[..n], width, height);
+    write::write_v0(stream, offsets, &samples[..n], size);
     Written::done(length as u64)
 }
