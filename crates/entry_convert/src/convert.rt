@@ -30,14 +30,14 @@ fn write_decoded(
     ensures stream { stream.new ≡ late_stream width height samples.now map.now stream.old }
 {
     if is_marked(map) {
-        return Written::refused(Refusal::Marked.number());
+        return Written::from(Refusal::Marked);
     }
     if is_too_bright(samples) {
-        return Written::refused(Refusal::TooBright.number());
+        return Written::from(Refusal::TooBright);
     }
     let length = v2_length(samples, width, height);
     if stream.len() < length {
-        return Written::refused(Refusal::ShortOutput.number());
+        return Written::from(Refusal::ShortOutput);
     }
     write_v2(stream, samples, width, height);
     Written::done(length as u64)
@@ -67,10 +67,10 @@ pub fn v0_to_v2(
         None,
     );
     if let Err(refusal) = refused {
-        return Written::refused(refusal.number());
+        return Written::from(refusal);
     }
     if width % V2Row::BLOCK != 0 {
-        return Written::refused(Refusal::BadWidth.number());
+        return Written::from(Refusal::BadWidth);
     }
     // The answer isn't needed: no refusal of this decoder is left, so that it is done, and where a word was missing the map tells
     // it (16).

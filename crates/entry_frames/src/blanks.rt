@@ -30,15 +30,15 @@ fn blank_by(
 {
     let size = Size { width, height };
     if let Err(refusal) = refuse_lent(size, samples.len(), Some(map.len())) {
-        return Blanked::refused(refusal.number());
+        return Blanked::from(refusal);
     }
     let n = width * height;
     if is_bad_map(&map[..n]) {
-        return Blanked::refused(Refusal::BadMap.number());
+        return Blanked::from(Refusal::BadMap);
     }
     let found = tally_frame(&map[..n], size);
     if is_short_list(runs.len(), found.runs) {
-        return Blanked::refused(Refusal::ShortRuns.number());
+        return Blanked::from(Refusal::ShortRuns);
     }
     blank_frame(&mut samples[..n], &map[..n], size, fill, runs);
     Blanked::done(found.marked as u64, found.runs as u64)

@@ -43,12 +43,12 @@ pub fn write_v0(
 {
     let size = Size { width, height };
     if let Err(refusal) = refuse_samples(samples, size) {
-        return Written::refused(refusal.number());
+        return Written::from(refusal);
     }
     let n = width * height;
     let length = v0_length(&samples[..n], width, height);
     if is_short(stream.len(), length, offsets.len(), height) {
-        return Written::refused(Refusal::ShortOutput.number());
+        return Written::from(Refusal::ShortOutput);
     }
     write::write_v0(stream, offsets, &samples[..n], width, height);
     Written::done(length as u64)

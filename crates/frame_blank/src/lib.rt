@@ -23,21 +23,6 @@ pub struct Blanked {
 }
 
 impl Blanked {
-    pub fn refused(number: u32) -> Blanked
-        ensures { result ≡ refused number }
-    {
-        let answer = Answer {
-            number,
-            row: 0,
-            filler: 0,
-        };
-        Blanked {
-            answer,
-            count: 0,
-            runs: 0,
-        }
-    }
-
     pub fn done(count: u64, runs: u64) -> Blanked
         ensures { result ≡ blanked_done count runs }
     {

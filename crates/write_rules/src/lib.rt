@@ -40,17 +40,6 @@ pub struct Written {
 }
 
 impl Written {
-    pub fn refused(number: u32) -> Written
-        ensures { result ≡ refused number }
-    {
-        let answer = Answer {
-            number,
-            row: 0,
-            filler: 0,
-        };
-        Written { answer, length: 0 }
-    }
-
     pub fn done(length: u64) -> Written
         ensures { result ≡ written length }
     {

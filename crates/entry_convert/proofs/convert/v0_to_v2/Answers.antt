@@ -1,18 +1,17 @@
 -- The tests before decoding change nothing; then what the decoder leaves is what is written.
-use mathlib.Core.Path.{refl, sym, ap, ◌∙◌}
+use mathlib.Core.Path.{refl, sym}
 use native.Mathlib.Omega.{arith}
 use lib.Seq.{length-take-le}
 use Rattle.rules.proofs.RefusalNumbers.{number_not}
-use Rattle.write_rules.specs.Calls.{refused}
 use Rattle.entry_convert.specs.Convert.{call}
 use Rattle.entry_convert.proofs.ConvertLaws.{lent, decoded, early_yields, width_yields, samples_room, map_room, frame_fits, converted}
 use Rattle.entry_convert.proofs.convert.v0_to_v2.Goals as goal
 
 pub returns-in-Err : goal.returns-in-Err
-returns-in-Err c = early_yields refl c.is_too_small.ensures c.in-Err.ensures (number_not _) (c.refused.ensures ∙ ap refused c.number.ensures)
+returns-in-Err c = early_yields refl c.is_too_small.ensures c.in-Err.ensures (number_not _) c.from.ensures
 
 pub returns-then-width-ne0 : goal.returns-then-width-ne0
-returns-then-width-ne0 c = width_yields ((lent {c = let a = c.args in call a.src.now a.offsets.now a.width a.height a.samples.now a.map.now a.stream.now} refl c.is_too_small.ensures c.in_default.ensures refl)) c.if-width-ne0.true (c.refused-then-width-ne0.ensures ∙ ap refused c.number-then-width-ne0.ensures)
+returns-then-width-ne0 c = width_yields ((lent {c = let a = c.args in call a.src.now a.offsets.now a.width a.height a.samples.now a.map.now a.stream.now} refl c.is_too_small.ensures c.in_default.ensures refl)) c.if-width-ne0.true c.from-then-width-ne0.ensures
 
 pub overflow_mul-n : goal.overflow_mul-n
 overflow_mul-n c = record {

@@ -1,15 +1,15 @@
 -- The tests come in their sequence, and nothing is written before the last of them is passed.
-use mathlib.Core.Path.{refl, sym, ap, ◌∙◌}
+use mathlib.Core.Path.{refl, sym}
 use native.Mathlib.Omega.{arith}
 use lib.Seq.{length-take-le}
-use Rattle.frame_blank.specs.Calls.{call, refused}
+use Rattle.frame_blank.specs.Calls.{call}
 use Rattle.frame_blank.specs.MapLent.{meant}
 use Rattle.rules.proofs.RefusalNumbers.{number_not}
 use Rattle.entry_frames.proofs.BlankLaws.{lent, good, fits, map_there, map_lent, runs_few, frame_lent, early_yields, bad_yields, short_yields, done_yields}
 use Rattle.entry_frames.proofs.blanks.blank_by.Goals as goal
 
 pub returns-in-Err : goal.returns-in-Err
-returns-in-Err c = early_yields c.in-Err.ensures (number_not _) (c.refused.ensures ∙ ap refused c.number.ensures)
+returns-in-Err c = early_yields c.in-Err.ensures (number_not _) c.from.ensures
 
 pub overflow_mul-n : goal.overflow_mul-n
 overflow_mul-n c = omega (
@@ -21,7 +21,7 @@ pub slice_bounds-is_bad_map-end : goal.slice_bounds-is_bad_map-end
 slice_bounds-is_bad_map-end c = sym (length-take-le _ _ (map_there ((lent {c = let a = c.args in call (meant a.fill) a.samples.now a.map.now a.width a.height a.runs.now} c.in_default.ensures refl))))
 
 pub returns-then-is_bad_map : goal.returns-then-is_bad_map
-returns-then-is_bad_map c = bad_yields ((lent {c = let a = c.args in call (meant a.fill) a.samples.now a.map.now a.width a.height a.runs.now} c.in_default.ensures refl)) c.is_bad_map.ensures c.if-is_bad_map.true (c.refused-then-is_bad_map.ensures ∙ ap refused c.number-then-is_bad_map.ensures)
+returns-then-is_bad_map c = bad_yields ((lent {c = let a = c.args in call (meant a.fill) a.samples.now a.map.now a.width a.height a.runs.now} c.in_default.ensures refl)) c.is_bad_map.ensures c.if-is_bad_map.true c.from-then-is_bad_map.ensures
 
 pub slice_bounds-tally_frame-end : goal.slice_bounds-tally_frame-end
 slice_bounds-tally_frame-end c = sym (length-take-le _ _ (map_there ((good ((lent {c = let a = c.args in call (meant a.fill) a.samples.now a.map.now a.width a.height a.runs.now} c.in_default.ensures refl)) c.is_bad_map.ensures c.if-is_bad_map.false)).lent))
@@ -34,7 +34,7 @@ is_short_list-requires c = runs_few ((good ((lent {c = let a = c.args in call (m
 
 pub returns-then-is_short_list : goal.returns-then-is_short_list
 returns-then-is_short_list c =
-    short_yields ((good ((lent {c = let a = c.args in call (meant a.fill) a.samples.now a.map.now a.width a.height a.runs.now} c.in_default.ensures refl)) c.is_bad_map.ensures c.if-is_bad_map.false)) c.tally_frame-found.ensures c.is_short_list.ensures c.if-is_short_list.true (c.refused-then-is_short_list.ensures ∙ ap refused c.number-then-is_short_list.ensures)
+    short_yields ((good ((lent {c = let a = c.args in call (meant a.fill) a.samples.now a.map.now a.width a.height a.runs.now} c.in_default.ensures refl)) c.is_bad_map.ensures c.if-is_bad_map.false)) c.tally_frame-found.ensures c.is_short_list.ensures c.if-is_short_list.true c.from-then-is_short_list.ensures
 
 pub slice_bounds-blank_frame-end : goal.slice_bounds-blank_frame-end
 slice_bounds-blank_frame-end c = ((fits ((good ((lent {c = let a = c.args in call (meant a.fill) a.samples.now a.map.now a.width a.height a.runs.now} c.in_default.ensures refl)) c.is_bad_map.ensures c.if-is_bad_map.false)) c.tally_frame-found.ensures c.is_short_list.ensures c.if-is_short_list.false)).good.lent.room.samples_enough
