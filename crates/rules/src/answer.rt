@@ -3,7 +3,7 @@ ghost use Rattle.std.specs.Prelude.{◌≡◌};
 ghost use Rattle.rules.specs.Answer.{done_with, done, refused};
 ghost use Rattle.rules.specs.Refusals.{refusal_number};
 
-// A number, a row, and how many words were missing. Number 0 is done, the others are refusals.
+// A number, a row, and how many words were missing. Number 0 is done, the others are refusals; it stays a number, since C reads it.
 #[repr(C)]
 #[derive(Clone, Copy)]
 pub struct Answer {
@@ -24,7 +24,7 @@ pub enum Refusal {
     // Fewer samples are lent than the frame has, or in V0 fewer offsets than rows.
     ShortSamples = 3,
 
-    // The map or the two_phase scratch is too short.
+    // The map or the two-phase scratch is too short.
     ShortMap = 4,
 
     // V2: a motion other than 7 in row 0 or 1.
@@ -120,7 +120,7 @@ impl Answer {
     }
 }
 
-// The frame's size in samples.
+// The frame's size in samples. Any numbers are a size: refusal 1 is about those above the limit, and who decodes asks it in a clause.
 #[derive(Clone, Copy)]
 pub struct Size {
     pub width: usize,

@@ -1,4 +1,4 @@
-// The V0 decoder in bands: the two_phase decoder, with phase two done block by block in the sequence of a list of steps.
+// The V0 decoder in bands: the two-phase decoder, with phase two done block by block in the sequence of a list of steps.
 ghost use Rattle.rules_bands.specs.Call.{call, Yields};
 
 use entry_refusals::refuse_two_phase;
