@@ -1,5 +1,5 @@
 -- Blocks one after another: what each keeps all keep, and by position they are those that the record reads.
-use mathlib.Core.Path.{◌≡◌, refl, ap, ◌∙◌}
+use mathlib.Core.Path.{◌≡◌, refl, sym, ap, ◌∙◌}
 use mathlib.Core.Bool.{true, false, ◌&&◌}
 use mathlib.Core.List.{List}
 use Prim.Native.Nat.{ℕ, suc, ◌+◌, ◌-◌, ◌*◌, ◌/◌, ◌≤◌, ◌<◌}
@@ -18,6 +18,7 @@ use Rattle.v0_parse_window.specs.Run.{run_length, blocks_of_run}
 use Rattle.v0_parse_window.specs.declared.WindowHead.{WindowHead}
 use Rattle.v0_parse_window.proofs.GroupLaws.{ahead_end}
 use Rattle.v0_parse_window.proofs.RunLaws.{run_over, run_late, run_long, run_more}
+use Rattle.v0_phase1.specs.RowLent.{RowLent}
 use Rattle.v0_phase1.specs.Ran.{Ran, none, also, row_at, RanAt}
 use Rattle.v0_phase1.specs.declared.run.Point.{Point}
 use Rattle.v0_phase1.proofs.ResidualLaws.{Parsing, parsing_on, position_parsed}
@@ -50,6 +51,14 @@ module _ {s : List ℕ} {w k : ℕ} {st : V0Row} {out dirs : List ℕ} where
   ran_within near (also {k₁} {st₁} r l e x) =
       let more : 15 + (k₁ + 1) ≡ suc (15 + k₁) = omega arith in
       rw (x.state, more) (block_within s st₁ (15 + k₁) (omega arith) (ran_within near r))
+
+  -- So a row that was lent still is.
+  pub ran_lent : {k' : ℕ} {st' : V0Row} {out' dirs' : List ℕ} → RowLent w out dirs → Ran s w k st out dirs k' st' out' dirs' → RowLent w out' dirs'
+  ran_lent l r = record {
+    width = l.width;
+    samples_lent = omega (arith, ran_samples r, l.samples_lent);
+    directions_lent = omega (arith, ran_directions r, l.directions_lent);
+  }
 
   -- What is left after them comes to the whole row, if it did before them.
   pub ran_parsing : {k' : ℕ} {st' : V0Row} {out' dirs' : List ℕ} {n : ℕ} {st₀ : V0Row} {out₀ dirs₀ : List ℕ} → n ≡ blocks_in w → n ≤ length dirs
@@ -107,6 +116,11 @@ module _ (s : List ℕ) (base w last : ℕ) (p : Point) where
     ends_on q' inside e ends f =
         let n : w / 16 - p.k ≡ suc (w / 16 - (p.k + 1)) = omega arith in
         rw (n, run_more s base f last p.q p.lengths h at (w / 16 - (p.k + 1)) q' soon e ends) (omega arith)
+
+-- Where a run ends is where the one from its first point on does.
+pub ended_at : (s : List ℕ) (base w last last' : ℕ) (p p' : Point) → ((f : ℕ) → ending s base w last f p ≡ ending s base w last f p') → last ≡ last'
+    → ((f : ℕ) → p'.k ≡ ending s base w last f p') → (f : ℕ) → p'.k ≡ ending s base w last' f p
+ended_at s base w last last' p p' on el e f = e f ∙ sym (on f) ∙ ap (λ last. ending s base w last f p) el
 
 -- The row's state where a run begins is the one by position.
 pub run_begun_at : {s : List ℕ} {st : V0Row} (k : ℕ) → Standing s st.bits 80

@@ -42,7 +42,7 @@ fn store_edge(out: &mut [u16], width: usize, col: usize, residuals: [u16; 16])
     }
 }
 
-// The residuals of a block that lies within its row.
+// The residuals of a block that lies within its row, with no test of each.
 fn store_inner(out: &mut [u16], width: usize, col: usize, residuals: [u16; 16])
     requires { (width ≤ length out.old) × ((col + 16 ≤ width) × (width ≤ most_side)) }
     ensures { out.new ≡ store_samples 0 width col order residuals out.old }

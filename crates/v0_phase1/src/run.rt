@@ -22,7 +22,8 @@ use read_window::{BACK_BITS, BACK_BYTES, stands_within, state_at};
 use rules::V0Row;
 use v0_parse_window::{BLOCK_BYTES, WindowHead, are_short, last_start, plan_of, window_head};
 
-// A point in a row: a block's number, the bit that it begins at, and the lengths before it.
+// A point in a row: a block's number, by which its direction is kept, the bit that it begins at, and the lengths before it. The direct
+// decoder's points go by columns, as its samples do: in one type with these, one of the two would count in the other's unit.
 #[derive(Clone, Copy)]
 pub struct Point {
     pub k: usize,
@@ -37,7 +38,8 @@ pub struct Run {
     pub row: V0Row,
 }
 
-// The short residuals after a head that was read by position, to the block at a column within its row; and the bit after them.
+// The short residuals after a head that was read by position, to the block at a column within its row; and the bit after them. It is
+// `store_groups` by the short way alone: a reader as its parameter would need a longer contract than these lines.
 fn store_short(
     src: &[u8],
     base: usize,

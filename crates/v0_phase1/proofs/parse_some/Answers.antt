@@ -2,7 +2,7 @@
 use native.Mathlib.Omega.{arith}
 use Rattle.v0_phase1.specs.Ran.{also}
 use Rattle.v0_phase1.proofs.ResidualLaws.{near_enough}
-use Rattle.v0_phase1.proofs.RunLaws.{ran_further, ran_samples, ran_directions, ran_within}
+use Rattle.v0_phase1.proofs.RunLaws.{ran_further, ran_lent, ran_within}
 use Rattle.v0_phase1.proofs.parse_some.Goals as goal
 
 pub parse_block-row-requires : goal.parse_block-row-requires
@@ -10,11 +10,7 @@ parse_block-row-requires c =
     let l = c.requires in let r = c.parse_run-run.ensures.ran in
     record {
       near = near_enough _ c.parse_run-run.result.k (omega (arith, l.row.width)) (ran_within l.near r);
-      row = record {
-        width = l.row.width;
-        samples_lent = omega (arith, ran_samples r, l.row.samples_lent);
-        directions_lent = omega (arith, ran_directions r, l.row.directions_lent);
-      };
+      row = ran_lent l.row r;
       block_in = omega arith;
     }
 
