@@ -21,7 +21,7 @@ use Rattle.rules.proofs.Cells.{all_get}
 use Rattle.rules.proofs.V0Cells.{decoded_length, v0_map_length}
 use Rattle.rules.proofs.Tests.{by-test}
 use Rattle.entry_refusals.specs.Lending.{short}
-use Rattle.entry_refusals.specs.declared.Lending.TheVariants.{Nothing, Length}
+use Rattle.std.specs.Prelude.{Some, None}
 use Rattle.entry_refusals.proofs.RefusalLaws.{Room, room, long_enough}
 use Rattle.write_rules.specs.declared.Written.{Written}
 use Rattle.write_rules.specs.Calls.{too_bright, refused, written}
@@ -35,7 +35,7 @@ use Rattle.entry_convert.specs.Convert.{Call, found, decoded_samples, decoded_ma
 -- ── Writing a decoded frame ──
 
 -- A frame without a sample above 16,383 can be written.
-pub writable : {w h : ℕ} {f : List ℕ} → Frame w h f → too_bright f ≡ false → Writable V2 w h f
+pub writable : {w h : ℕ} {f : List ℕ} → Frame w h f → too_bright f ≡ false → Writable V2 (size w h) f
 writable {f = f} fits dim =
     record {
       wide = fits.wide;
@@ -86,7 +86,7 @@ module _ (w h : ℕ) (f m stream : List ℕ) where
 -- What is known once 1 to 4 are passed: the decoder's own tests are passed, and 15 is left.
 pub record Lent (c : Call) : Type 0 where
   pub v0 : c.asked.decoder ≡ direct
-  pub room : Room c.asked.size (length c.samples) (Length (length c.asked.offsets)) (Length (length c.map)) Nothing
+  pub room : Room c.asked.size (length c.samples) (Some (length c.asked.offsets)) (Some (length c.map)) None
   pub decodes : refusal c.asked (lengths (found c)) ≡ 0
   pub left : early c ≡ cond (eqb (c.asked.size.width % 16) 0) 0 15
 
@@ -100,8 +100,8 @@ pub record Decoded (c : Call) (samples map : List ℕ) : Type 0 where
 abbrev pub first : Call → Bool → ℕ
 first c small =
     let z = c.asked.size in
-    first_of (too_large z) small (ltb (length c.samples) (cells z) || short (Length (length c.asked.offsets)) z.height)
-    (short (Length (length c.map)) (cells z) || short Nothing (scratch_bytes z))
+    first_of (too_large z) small (ltb (length c.samples) (cells z) || short (Some (length c.asked.offsets)) z.height)
+    (short (Some (length c.map)) (cells z) || short None (scratch_bytes z))
 
 or_false : (t : Bool) → (t || false) ≡ t
 or_false true = refl
@@ -134,7 +134,7 @@ module _ {c : Call} where
       lent passed =
           record {
             v0 = v0;
-            room = room c.asked.size small (length c.samples) (Length (length c.asked.offsets)) (Length (length c.map)) Nothing k e passed;
+            room = room c.asked.size small (length c.samples) (Some (length c.asked.offsets)) (Some (length c.map)) None k e passed;
             decodes =
                 rw v0 (by-test (too_large c.asked.size)
                 (λ f. rw f (rw f at (sym e ∙ passed)))

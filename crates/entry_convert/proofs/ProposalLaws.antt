@@ -15,7 +15,7 @@ use Rattle.rules.specs.Answer as Rules
 use Rattle.rules.specs.Answer.{done, refused, too_large, short_samples, short_offsets, scratch_bytes, first_of, buffers}
 use Rattle.rules.proofs.V0Cells.{decoded_length}
 use Rattle.entry_refusals.specs.Lending.{short}
-use Rattle.entry_refusals.specs.declared.Lending.TheVariants.{Nothing, Length}
+use Rattle.std.specs.Prelude.{Some, None}
 use Rattle.entry_refusals.proofs.RefusalLaws.{Room, room, long_enough}
 use Rattle.rules_clean.specs.Verdict.{verdict}
 use Rattle.v0_clean.specs.OffsetsLent.{OffsetsLent}
@@ -55,7 +55,7 @@ pub record MeantLent (p : Proposal) (n : ℕ) : Type 0 where
 -- What is known once 3 of the scratch and of the offsets is passed, too.
 pub record AllLent (p : Proposal) (n : ℕ) : Type 0 where
   pub meant : Writer.Lent p.size p.meant
-  pub room : Room p.size n (Length (length p.offsets)) Nothing Nothing
+  pub room : Room p.size n (Some (length p.offsets)) None None
   pub early_none : Proposals.early p n ≡ 0
 
 -- What is known once 17 to 19 are passed, too.
@@ -80,8 +80,8 @@ module _ (p : Proposal) (n : ℕ) {k : ℕ} (e : k ≡ Writer.first_or p.size p.
   meant_lent passed = record { meant = Writer.lent p.size p.meant e passed; left = first_is ∙ rw passed }
 
 module _ {p : Proposal} {n : ℕ} where
-  module _ (m : MeantLent p n) {j : ℕ} (second : j ≡ first_of (too_large p.size) false (ltb n (cells p.size) || short (Length (length p.offsets)) p.size.height)
-      (short Nothing (cells p.size) || short Nothing (scratch_bytes p.size))) where
+  module _ (m : MeantLent p n) {j : ℕ} (second : j ≡ first_of (too_large p.size) false (ltb n (cells p.size) || short (Some (length p.offsets)) p.size.height)
+      (short None (cells p.size) || short None (scratch_bytes p.size))) where
     early_is : Proposals.early p n ≡ j
     unfolding first_of short short_samples short_offsets too_large
     early_is =
@@ -93,7 +93,7 @@ module _ {p : Proposal} {n : ℕ} where
     short_before ne q = refused_before p n j early_is ne q
 
     pub all_lent : j ≡ 0 → AllLent p n
-    all_lent passed = record { meant = m.meant; room = room p.size false n (Length (length p.offsets)) Nothing Nothing j second passed; early_none = early_is ∙ passed }
+    all_lent passed = record { meant = m.meant; room = room p.size false n (Some (length p.offsets)) None None j second passed; early_none = early_is ∙ passed }
 
   module _ (l : AllLent p n) where
     pub checkable : OffsetsLent p.size p.offsets

@@ -2,9 +2,9 @@
 ghost use Rattle.std.specs.Prelude.{◌≡◌, ◌*◌, ◌%◌, length};
 ghost use Rattle.entry_convert.specs.Convert.{any_marked, Frame, late_answer, late_stream, call, Yields};
 
-use entry_refusals::{Lending, is_too_small, refuse};
+use entry_refusals::{is_too_small, refuse};
 use frame_map::greatest_of;
-use rules::{Answer, Size, V2Row};
+use rules::{Refusal, Size, V2Row};
 use samsung::decode_v0_reference_map;
 use write_frame::measure::v2_length;
 use write_frame::write::write_v2;
@@ -18,28 +18,22 @@ fn is_marked(map: &[u8]) -> bool
 }
 
 // Writes a decoded frame as V2. Refusals 16, 9 and 10, which change nothing.
-fn write_decoded(
-    samples: &[u16],
-    map: &[u8],
-    width: usize,
-    height: usize,
-    stream: &mut [u8],
-) -> Written
-    requires { Frame width height samples.now }
-    ensures answered { result ≡ late_answer width height samples.now map.now (length stream.old) }
-    ensures stream { stream.new ≡ late_stream width height samples.now map.now stream.old }
+fn write_decoded(samples: &[u16], map: &[u8], size: Size, stream: &mut [u8]) -> Written
+    requires { Frame size.width size.height samples.now }
+    ensures answered { result ≡ late_answer size.width size.height samples.now map.now (length stream.old) }
+    ensures stream { stream.new ≡ late_stream size.width size.height samples.now map.now stream.old }
 {
     if is_marked(map) {
-        return Written::refused(Answer::MARKED);
+        return Written::from(Refusal::Marked);
     }
     if is_too_bright(samples) {
-        return Written::refused(Answer::TOO_BRIGHT);
+        return Written::from(Refusal::TooBright);
     }
-    let length = v2_length(samples, width, height);
+    let length = v2_length(samples, size);
     if stream.len() < length {
-        return Written::refused(Answer::SHORT_OUTPUT);
+        return Written::from(Refusal::ShortOutput);
     }
-    write_v2(stream, samples, width, height);
+    write_v2(stream, samples, size);
     Written::done(length as u64)
 }
 
@@ -58,23 +52,23 @@ pub fn v0_to_v2(
         result samples.new map.new stream.new }
 {
     let size = Size { width, height };
-    let refusal = refuse(
+    let refused = refuse(
         size,
         is_too_small(size),
         samples.len(),
-        Lending::Length(offsets.len()),
-        Lending::Length(map.len()),
-        Lending::Nothing,
+        Some(offsets.len()),
+        Some(map.len()),
+        None,
     );
-    if refusal != 0 {
-        return Written::refused(refusal);
+    if let Err(refusal) = refused {
+        return Written::from(refusal);
     }
     if width % V2Row::BLOCK != 0 {
-        return Written::refused(Answer::BAD_WIDTH);
+        return Written::from(Refusal::BadWidth);
     }
     // The answer isn't needed: no refusal of this decoder is left, so that it is done, and where a word was missing the map tells
     // it (16).
     decode_v0_reference_map(src, offsets, width, height, samples, map);
     let n = width * height;
-    write_decoded(&samples[..n], &map[..n], width, height, stream)
+    write_decoded(&samples[..n], &map[..n], size, stream)
 }

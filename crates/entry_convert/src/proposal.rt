@@ -1,15 +1,16 @@
 // The verdict on a V0 stream that an outside optimiser packed.
 ghost use Rattle.std.specs.Prelude.{◌≡◌, length};
+ghost use Rattle.v0_clean.specs.Faults.{told};
 ghost use Rattle.write_packed.specs.Proposal.{proposal, before, same, Yields};
 
 use entry_frames::writer::refuse_samples;
-use entry_refusals::{Lending, refuse_direct, refused};
-use rules::{Answer, Size};
+use entry_refusals::refuse_direct;
+use rules::{Answer, Refusal, Size};
 use samsung::decode_v0_reference;
-use v0_clean::check_frame;
+use v0_clean::{Fault, check_frame};
 use write_frame::measure::v0_length;
 
-// What is answered before a sample is decoded: done, if nothing is wrong so far.
+// What is found before a sample is decoded.
 fn check_before(
     src: &[u8],
     offsets: &[u32],
@@ -17,27 +18,18 @@ fn check_before(
     height: usize,
     meant: &[u16],
     scratch: usize,
-) -> Answer
-    ensures { result ≡ before (proposal src.now offsets.now width height meant.now) scratch }
+) -> Result<(), Fault>
+    ensures { told result ≡ before (proposal src.now offsets.now width height meant.now) scratch }
 {
     let size = Size { width, height };
-    let refusal = refuse_samples(meant, size);
-    if refusal != 0 {
-        return refused(refusal);
-    }
-    let short = refuse_direct(size, scratch, offsets.len(), Lending::Nothing);
-    if short != 0 {
-        return refused(short);
-    }
-    let told = check_frame(src, offsets, size);
-    if told.number != 0 {
-        return told;
-    }
+    refuse_samples(meant, size)?;
+    refuse_direct(size, scratch, offsets.len(), None)?;
+    check_frame(src, offsets, size)?;
     let n = width * height;
-    if v0_length(&meant[..n], width, height) < src.len() {
-        return refused(Answer::LONG_STREAM);
+    if v0_length(&meant[..n], size) < src.len() {
+        return Err(Fault::from(Refusal::LongStream));
     }
-    Answer::done()
+    Ok(())
 }
 
 // Whether two frames are the same. A loop that never leaves early can take many samples at once.
@@ -65,14 +57,13 @@ pub fn check_packed(
     ensures { Yields (proposal src.now offsets.now width height meant.now)
         scratch.old result scratch.new }
 {
-    let told = check_before(src, offsets, width, height, meant, scratch.len());
-    if told.number != 0 {
-        return told;
+    if let Err(fault) = check_before(src, offsets, width, height, meant, scratch.len()) {
+        return Answer::from(fault);
     }
     decode_v0_reference(src, offsets, width, height, scratch);
     let n = width * height;
     if is_same(&scratch[..n], &meant[..n]) {
         return Answer::done();
     }
-    refused(Answer::OTHER_SAMPLE)
+    Answer::from(Refusal::OtherSample)
 }

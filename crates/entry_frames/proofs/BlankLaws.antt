@@ -10,7 +10,7 @@ use lib.Seq.{sets, sets-eq, length-take-le}
 use borrow.Author.Tests.{ne_eqb, ltb-false}
 use Rattle.rules.specs.Frame.{cells}
 use Rattle.entry_refusals.specs.Lending.{short}
-use Rattle.entry_refusals.specs.declared.Lending.TheVariants.{Nothing, Length}
+use Rattle.std.specs.Prelude.{None, Some}
 use Rattle.entry_refusals.proofs.RefusalLaws.{Room, room, long_enough}
 use Rattle.frame_blank.specs.declared.Blanked.{Blanked}
 use Rattle.frame_blank.specs.declared.Tally.{Tally}
@@ -22,7 +22,7 @@ use Rattle.entry_frames.proofs.EarlyLaws.{early, early_then}
 
 -- What is known once tests 1, 3 and 4 are passed.
 pub record Lent (c : Call) : Type 0 where
-  pub room : Room c.size (length c.samples) Nothing (Length (length c.map)) Nothing
+  pub room : Room c.size (length c.samples) None (Some (length c.map)) None
   pub left : refusal c ≡ cond (bad_map (marks_of c)) 14 (cond (short_runs c) 13 0)
 
 -- What is known once test 14 is passed, too.
@@ -36,10 +36,10 @@ pub record Fits (c : Call) : Type 0 where
   pub list_room : 3 * length (found c) ≤ length c.runs
   pub none_holds : refusal c ≡ 0
 
-refusal_is : (c : Call) {k : ℕ} → k ≡ early c.size (length c.samples) (Length (length c.map))
+refusal_is : (c : Call) {k : ℕ} → k ≡ early c.size (length c.samples) (Some (length c.map))
     → refusal c ≡ cond (eqb k 0) (cond (bad_map (marks_of c)) 14 (cond (short_runs c) 13 0)) k
 unfolding refusal short
-refusal_is c e = early_then c.size (length c.samples) (Length (length c.map)) e _
+refusal_is c e = early_then c.size (length c.samples) (Some (length c.map)) e _
 
 module _ {c : Call} where
   refused_yields : (k : ℕ) {r : Blanked} → refusal c ≡ k → (k ≡ 0 → ⊥) → r ≡ refused k → Yields c r c.samples c.runs
@@ -48,14 +48,14 @@ module _ {c : Call} where
       let t : eqb (refusal c) 0 ≡ false = ap (λ m. eqb m 0) e ∙ ne_eqb k 0 n in
       record { answered = q ∙ sym (rw t (ap refused e)); samples_left = sym (rw t); runs_left = sym (rw t) }
 
-  module _ {k : ℕ} (e : k ≡ early c.size (length c.samples) (Length (length c.map))) where
+  module _ {k : ℕ} (e : k ≡ early c.size (length c.samples) (Some (length c.map))) where
     -- 1, 3 and 4.
     pub early_yields : {r : Blanked} → (k ≡ 0 → ⊥) → r ≡ refused k → Yields c r c.samples c.runs
     early_yields n q = refused_yields k (refusal_is c e ∙ rw (ne_eqb k 0 n)) n q
 
     pub lent : k ≡ 0 → Lent c
     lent passed =
-        record { room = room c.size false (length c.samples) Nothing (Length (length c.map)) Nothing k e passed; left = refusal_is c e ∙ rw passed }
+        record { room = room c.size false (length c.samples) None (Some (length c.map)) None k e passed; left = refusal_is c e ∙ rw passed }
 
   module _ (l : Lent c) where
     pub map_there : cells c.size ≤ length c.map

@@ -4,10 +4,8 @@ use mathlib.Core.Bool.{false}
 use mathlib.Core.List.{List}
 use Prim.Native.Nat.{ℕ}
 use lib.Dec.{eqb}
-use lib.ListN.{length}
 use borrow.Author.Tests.{ne_eqb, eqb-true}
 use Rattle.frame_blank.specs.declared.Blanked.{Blanked}
-use Rattle.frame_blank.specs.Blanking.{count}
 use Rattle.frame_blank.specs.Calls as Blank
 use Rattle.write_rules.specs.declared.Written.{Written}
 use Rattle.write_rules.specs.Calls as Write

@@ -1,4 +1,4 @@
--- Nothing of an earlier frame is left in what is exported: two calls of the export that follow alike decoders' calls, and are done,
+-- None of an earlier frame is left in what is exported: two calls of the export that follow alike decoders' calls, and are done,
 -- answer the same, leave the same samples and runs, and write the same stream and the same offsets.
 use Prim.Native.Nat.{ℕ}
 use mathlib.Core.Path.{◌≡◌, refl, sym, ap, ap₂, ◌∙◌, subst}

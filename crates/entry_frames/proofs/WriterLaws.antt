@@ -44,7 +44,7 @@ first_then z samples e rest = rw e (go (too_large z) (ltb (length samples) (cell
 pub record Lent (z : Size) (samples : List ℕ) : Type 0 where
   pub few : z.width * z.height ≤ 268_435_456
   pub enough : cells z ≤ length samples
-  pub writable : Writable V0 z.width z.height (take (cells z) samples)
+  pub writable : Writable V0 z (take (cells z) samples)
 
 none_of : (t1 t3 t9 : Bool) → cond {A = ℕ} t1 1 (cond t3 3 (cond t9 9 0)) ≡ 0 → (t1 ≡ false) × ((t3 ≡ false) × (t9 ≡ false))
 none_of true t3 t9 e = absurd (omega arith)

@@ -4,9 +4,9 @@ ghost use Rattle.frame_blank.specs.Blanking.{stated, unstated};
 ghost use Rattle.frame_blank.specs.Calls.{call, Yields};
 ghost use Rattle.frame_blank.specs.MapLent.{meant};
 
-use entry_refusals::{Lending, refuse_lent};
+use entry_refusals::refuse_lent;
 use frame_blank::{Blanked, blank_frame, is_bad_map, tally_frame};
-use rules::{Answer, Size};
+use rules::{Refusal, Size};
 
 // 13: a list has less than three numbers for each run.
 fn is_short_list(list: usize, runs: usize) -> bool
@@ -29,17 +29,16 @@ fn blank_by(
         result samples.new runs.new }
 {
     let size = Size { width, height };
-    let refusal = refuse_lent(size, samples.len(), Lending::Length(map.len()));
-    if refusal != 0 {
-        return Blanked::refused(refusal);
+    if let Err(refusal) = refuse_lent(size, samples.len(), Some(map.len())) {
+        return Blanked::from(refusal);
     }
     let n = width * height;
     if is_bad_map(&map[..n]) {
-        return Blanked::refused(Answer::BAD_MAP);
+        return Blanked::from(Refusal::BadMap);
     }
     let found = tally_frame(&map[..n], size);
     if is_short_list(runs.len(), found.runs) {
-        return Blanked::refused(Answer::SHORT_RUNS);
+        return Blanked::from(Refusal::ShortRuns);
     }
     blank_frame(&mut samples[..n], &map[..n], size, fill, runs);
     Blanked::done(found.marked as u64, found.runs as u64)

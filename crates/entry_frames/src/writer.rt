@@ -2,27 +2,25 @@
 ghost use Rattle.std.specs.Prelude.{◌≡◌, ◌||◌, cond, ltb, length, take};
 ghost use Rattle.rules.specs.Answer.{too_large};
 ghost use Rattle.rules.specs.Frame.{cells};
+ghost use Rattle.rules.specs.Refusals.{answer_number};
 ghost use Rattle.write_rules.specs.Calls.{call, too_bright, Yields};
 
-use entry_refusals::{Lending, refuse_lent};
-use rules::{Answer, Size};
+use entry_refusals::refuse_lent;
+use rules::{Refusal, Size};
 use write_frame::measure::v0_length;
 use write_frame::write;
 use write_rules::{Written, is_too_bright};
 
-// The first of 1, 3 and 9 that holds of samples that are to be written, or 0.
-pub fn refuse_samples(samples: &[u16], size: Size) -> u32
-    ensures { result ≡ cond (too_large size) 1 (cond (ltb (length samples.now) (cells size)) 3 (cond (too_bright (take (cells size) samples.now)) 9 0)) }
+// Refuses samples that are to be written, by the first of 1, 3 and 9 that holds.
+pub fn refuse_samples(samples: &[u16], size: Size) -> Result<(), Refusal>
+    ensures { answer_number result ≡ cond (too_large size) 1 (cond (ltb (length samples.now) (cells size)) 3 (cond (too_bright (take (cells size) samples.now)) 9 0)) }
 {
-    let refusal = refuse_lent(size, samples.len(), Lending::Nothing);
-    if refusal != 0 {
-        return refusal;
-    }
+    refuse_lent(size, samples.len(), None)?;
     let n = size.width * size.height;
     if is_too_bright(&samples[..n]) {
-        return Answer::TOO_BRIGHT;
+        return Err(Refusal::TooBright);
     }
-    0
+    Ok(())
 }
 
 // 10: a buffer is shorter than what would be written into it.
@@ -44,15 +42,14 @@ pub fn write_v0(
         result stream.new offsets.new }
 {
     let size = Size { width, height };
-    let refusal = refuse_samples(samples, size);
-    if refusal != 0 {
-        return Written::refused(refusal);
+    if let Err(refusal) = refuse_samples(samples, size) {
+        return Written::from(refusal);
     }
     let n = width * height;
-    let length = v0_length(&samples[..n], width, height);
+    let length = v0_length(&samples[..n], size);
     if is_short(stream.len(), length, offsets.len(), height) {
-        return Written::refused(Answer::SHORT_OUTPUT);
+        return Written::from(Refusal::ShortOutput);
     }
-    write::write_v0(stream, offsets, &samples[..n], width, height);
+    write::write_v0(stream, offsets, &samples[..n], size);
     Written::done(length as u64)
 }

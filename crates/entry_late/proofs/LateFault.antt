@@ -1,6 +1,6 @@
 -- How far a late fault reaches: what may be released while the rest of a frame is sent again. The claim of the entry points.
 --
--- Promised, V0. Take every two calls of V0 decoders that are done: direct or for clean frames, with or without a map, two_phase, or in
+-- Promised, V0. Take every two calls of V0 decoders that are done: direct or for clean frames, with or without a map, two-phase, or in
 -- bands by any cut and list, the two alike or not. If stream, size and the first N samples found are equal, and the offset tables agree
 -- before entry r, then in every row before r − (r mod 2) their samples are equal, the rules' marks are, and so are the bytes of maps
 -- where both are lent one.

@@ -31,7 +31,7 @@ fn is_short(lent: Option<usize>, needed: usize) -> bool
     lent.is_some_and(|n| n < needed)
 }
 
-// The two_phase scratch: a byte for each block of rows 2 on.
+// The two-phase scratch: a byte for each block of rows 2 on.
 fn bytes_of_scratch(size: Size) -> usize
     requires { (size.width ≤ most_side) × (size.height ≤ most_side) }
     ensures { result ≡ scratch_bytes size }

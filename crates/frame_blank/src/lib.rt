@@ -5,12 +5,13 @@
 ghost use Rattle.std.specs.Prelude.{◌≡◌, [], ◌∷◌, ◌+◌, ◌*◌, ◌≤◌, ◌<◌, ltb, length, drop};
 ghost use Rattle.std.proofs.lemmas.List.Edits.{sets};
 ghost use Rattle.rules.specs.Limits.{most_side};
+ghost use Rattle.rules.specs.Refusals.{refusal_number};
 ghost use Rattle.frame_blank.specs.Blanking.{marked, bad_map, bit, blanked, stretch, row_runs, runs_of, numbers};
 ghost use Rattle.frame_blank.specs.Calls.{refused, blanked_done};
 ghost use Rattle.frame_blank.specs.MapLent.{tally, meant, left_of, turns, by_turns, MapLent, RowLent, RowBlanked, FrameLent};
 
 use frame_map::greatest_of;
-use rules::{Answer, Size};
+use rules::{Answer, Refusal, Size};
 
 // The answer, how many samples were set, and how many runs they make; both are 0 unless samples were set.
 #[repr(C)]
@@ -22,21 +23,6 @@ pub struct Blanked {
 }
 
 impl Blanked {
-    pub fn refused(number: u32) -> Blanked
-        ensures { result ≡ refused number }
-    {
-        let answer = Answer {
-            number,
-            row: 0,
-            filler: 0,
-        };
-        Blanked {
-            answer,
-            count: 0,
-            runs: 0,
-        }
-    }
-
     pub fn done(count: u64, runs: u64) -> Blanked
         ensures { result ≡ blanked_done count runs }
     {
@@ -45,6 +31,19 @@ impl Blanked {
             answer,
             count,
             runs,
+        }
+    }
+}
+
+// A refusal's answer, with no samples and no runs.
+impl From<Refusal> for Blanked {
+    ghost from_gives = { λ refusal blanked. blanked ≡ refused (refusal_number refusal) };
+
+    fn from(refusal: Refusal) -> Blanked {
+        Blanked {
+            answer: Answer::from(refusal),
+            count: 0,
+            runs: 0,
         }
     }
 }

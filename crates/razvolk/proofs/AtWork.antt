@@ -174,7 +174,7 @@ module _ (s offsets : List ℕ) (w h : ℕ) (samples : List ℕ) where
   unfolding step Bands-lists.step
   in_bands_finds scratch k n steps = (refl, refl)
 
-  -- At a list's end, done, it is the two_phase call.
+  -- At a list's end, done, it is the two-phase call.
   pub in_bands_ends : (scratch : List ℕ) (k n : ℕ) (steps : List ℕ) (done : (in_bands_call scratch k n steps).result.number ≡ 0)
       → ((ended (last_in_bands (in_bands_call scratch k n steps) done)).ask ≡ two_phase_ask)
       × ((ended (last_in_bands (in_bands_call scratch k n steps) done)).found ≡ buffers samples none (some scratch))
@@ -322,7 +322,7 @@ module _ (b b' x y : List ℕ) (h : Samples b) (h' : Samples b') (cs : Calls ste
 
 -- ── Two lists ──
 
--- On a buffer of six samples: V2 is lent all of it and is refused, then a two_phase call is lent its first four.
+-- On a buffer of six samples: V2 is lent all of it and is refused, then a two-phase call is lent its first four.
 abbrev six : List ℕ
 six = 7 ∷ 8 ∷ 9 ∷ 10 ∷ 11 ∷ 12 ∷ []
 

@@ -112,7 +112,7 @@ pub record EveryInput (M : Type 1) : Type 2 where
   pub into_v2 : (x : Converts) → OneOf (0 ∷ 1 ∷ 2 ∷ 3 ∷ 4 ∷ 9 ∷ 10 ∷ 15 ∷ 16 ∷ []) (converts x).answered.answer.number
   pub check_packed : (c : Checks) → OneOf (0 ∷ 1 ∷ 3 ∷ 9 ∷ 17 ∷ 18 ∷ 19 ∷ 20 ∷ 21 ∷ []) (checks c).answered.number
 
--- A decoder's answer and what it leaves in every buffer are the rules'; the two_phase decoder gives what the direct one gives. So are the
+-- A decoder's answer and what it leaves in every buffer are the rules'; the two-phase decoder gives what the direct one gives. So are the
 -- reader's values and states.
 pub record ByTheRules : Type 0 where
   pub rules : (c : Export) → Yields (returned c).ask (returned c).found (returned c).answered (returned c).left
@@ -136,7 +136,7 @@ pub record Blanked : Type 0 where
 pub record Promises (M : Type 1) : Type 2 where
   -- 1. Every byte string, offset table, size and set of buffers is answered.
   pub p1_answered : EveryInput M
-  -- 2. Each decoder and the reader equal the rules, and two_phase equals direct.
+  -- 2. Each decoder and the reader equal the rules, and two-phase equals direct.
   pub p2_by_the_rules : ByTheRules
   -- 3. No earlier frame reaches a sample that is not marked old, by every two lists of calls of exports that write a sample buffer.
   pub p3_no_earlier_frame : Isolation
@@ -148,7 +148,7 @@ pub record Promises (M : Type 1) : Type 2 where
   pub p6_written : WrittenV0
   -- 7. Which streams of other programs are taken, and that these are decoded back.
   pub p7_packed_by_others : Packed
-  -- 8. In bands, by every good list, the two_phase decoder's frame.
+  -- 8. In bands, by every good list, the two-phase decoder's frame.
   pub p8_in_bands : InBands
   -- 9. Clean frames, and they alone, are taken, and decoded as the direct decoder does.
   pub p9_clean_frames : CleanFrames

@@ -12,7 +12,7 @@ fn read_short(src: &[u8], bits: Bits, n: u32) -> Taken<[u32; 4]>
     ensures { result ≡ four src.now n bits }
 {
     let g = get_whole(src, bits, 4 * n);
-    let v = g.value as u64;
+    let v = u64::from(g.value);
     let next = g.bits;
     Taken {
         value: [
@@ -32,8 +32,8 @@ fn read_medium(src: &[u8], bits: Bits, n: u32) -> Taken<[u32; 4]>
 {
     let g = get_whole(src, bits, 2 * n);
     let h = get_whole(src, g.bits, 2 * n);
-    let v = g.value as u64;
-    let w = h.value as u64;
+    let v = u64::from(g.value);
+    let w = u64::from(h.value);
     let next = h.bits;
     Taken {
         value: [

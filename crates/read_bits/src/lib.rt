@@ -19,13 +19,6 @@ pub mod four;
 use read_fields::{field, residual_of, signed_of};
 pub use rules::{Bits, Got, Taken};
 
-// The word of four bytes, lowest first.
-fn word_of(a: u8, b: u8, c: u8, d: u8) -> u32
-    ensures { result ≡ a + b * 256 + c * 65_536 + d * 16_777_216 }
-{
-    a as u32 + b as u32 * 256 + c as u32 * 65_536 + d as u32 * 16_777_216
-}
-
 // The word at `pos`, or none where fewer than 4 bytes remain: it is read as the filler.
 pub fn fetch(src: &[u8], pos: u64) -> Option<u32>
     ensures { result ≡ fetched src.now pos }
@@ -34,7 +27,8 @@ pub fn fetch(src: &[u8], pos: u64) -> Option<u32>
     let n = src.len();
     if 4 <= n {
         if at <= n - 4 {
-            return Some(word_of(src[at], src[at + 1], src[at + 2], src[at + 3]));
+            let bytes = [src[at], src[at + 1], src[at + 2], src[at + 3]];
+            return Some(u32::from_le_bytes(bytes));
         }
     }
     None
@@ -44,32 +38,21 @@ pub fn fetch(src: &[u8], pos: u64) -> Option<u32>
 fn capped(n: u32) -> u32
     ensures { result ≡ min n 32 }
 {
-    if n < Bits::WORD_BITS {
-        n
-    } else {
-        Bits::WORD_BITS
-    }
+    n.min(Bits::WORD_BITS)
 }
 
 // A count of missing words after one more.
 fn count_missing(filler: u64) -> u64
     ensures { result ≡ counted filler true }
 {
-    if filler < Bits::MOST_FILLER {
-        return filler + 1;
-    }
-    filler
+    filler.saturating_add(1)
 }
 
 // Returns the sum of two counts of missing words, held at the greatest count as a reader's is.
 pub fn held_sum(a: u64, b: u64) -> u64
     ensures { result ≡ min (a + b) most_filler }
 {
-    if b < Bits::MOST_FILLER - a {
-        a + b
-    } else {
-        Bits::MOST_FILLER
-    }
+    a.saturating_add(b)
 }
 
 // How many bits a state holds.
@@ -96,9 +79,9 @@ fn joined(bits: Bits, have: u32, word: u32, filler: u64) -> Refilled
     ensures { result ≡ joined_with bits have word filler }
 {
     Refilled {
-        words: bits.word as u64 * 4_294_967_296 + word as u64,
+        words: u64::from(bits.word) * 4_294_967_296 + u64::from(word),
         bits: Bits {
-            pos: std::num::wrapping_add_u64(bits.pos, Bits::WORD_BYTES),
+            pos: bits.pos.wrapping_add(Bits::WORD_BYTES),
             word,
             count: have + Bits::WORD_BITS,
             filler,
@@ -115,7 +98,7 @@ fn refill(src: &[u8], bits: Bits, k: u32) -> Refilled
     let have = held_bits(bits);
     if k <= have {
         return Refilled {
-            words: bits.word as u64,
+            words: u64::from(bits.word),
             bits: Bits {
                 pos: bits.pos,
                 word: bits.word,
@@ -172,6 +155,7 @@ pub fn reset_at(bits: Bits, pos: u64) -> Bits
 }
 
 // Reads a number of n bits, at most 32, in two's complement.
+// The next function does the same for samples: each is a definition of the rules, which its contract names.
 pub fn read_signed(src: &[u8], bits: Bits, n: u32) -> Taken<i32>
     ensures { result ≡ read_signed src.now bits n }
 {

@@ -32,7 +32,7 @@ impl Cut for i32 {
     fn low(x: u64, n: u32) -> i32 {
         let top = power(n);
         let half = top / 2;
-        (std::num::wrapping_add_u64(x, half) % top) as i32 - half as i32
+        (x.wrapping_add(half) % top) as i32 - half as i32
     }
 
     ghost short = { lit≤ tt };
@@ -47,7 +47,7 @@ impl Cut for u16 {
     fn low(x: u64, n: u32) -> u16 {
         let top = power(n);
         let half = top / 2;
-        ((std::num::wrapping_add_u64(x, half) % top + 4_294_967_296 - half) % 65_536) as u16
+        ((x.wrapping_add(half) % top + 4_294_967_296 - half) % 65_536) as u16
     }
 
     ghost short = { lit≤ tt };

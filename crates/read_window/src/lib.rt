@@ -27,22 +27,15 @@ pub const BACK_BITS: usize = 96;
 // The most bits that each of four numbers has that one window holds.
 pub const SHORT_BITS: u32 = 16;
 
-// A byte as a wide number.
-fn wide(x: u8) -> u64
-    ensures { (result ≡ x) × (result < 256) }
-{
-    x as u64
-}
-
 // The word at `at`, which is there. The compiler makes one load of the four.
 fn word_there(src: &[u8], at: usize) -> u64
     requires { at + 4 ≤ length src.now }
     ensures { (result ≡ word_at src.now at) × (result < 2 ^ 32) }
 {
-    wide(src[at])
-        + wide(src[at + 1]) * 256
-        + wide(src[at + 2]) * 65_536
-        + wide(src[at + 3]) * 16_777_216
+    u64::from(src[at])
+        + u64::from(src[at + 1]) * 256
+        + u64::from(src[at + 2]) * 65_536
+        + u64::from(src[at + 3]) * 16_777_216
 }
 
 // The 64 bits from bit q on: two words and the first bits of a third, moved up. A short number of the word takes fewer instructions.
@@ -78,7 +71,7 @@ fn stands(src: &[u8], bits: Bits, more: usize) -> bool
     if n - more < at - 4 {
         return false;
     }
-    word_there(src, at - 4) == bits.word as u64
+    word_there(src, at - 4) == u64::from(bits.word)
 }
 
 // Whether a state stands in the stream, with `more` bytes there from the word fetched last on and two words before that one: a

@@ -6,7 +6,7 @@
 mod call;
 mod samples;
 
-use call::{differs, end_at, word};
+use call::{decode_two_phase, differs, end_at, word};
 use std::{cmp, env, fs, io};
 
 const INPUT: usize = 140_000;
@@ -60,7 +60,7 @@ fn differing(input: &[u8], count: usize) -> u64 {
 fn differing_at(input: &[u8], at: usize) -> u64 {
     let start = cmp::min(at, input.len());
     let call = &input[start..];
-    u64::from(differs(call, false) || differs(call, true))
+    u64::from(differs(call, samsung::decode_v0_reference) || differs(call, decode_two_phase))
 }
 
 // Where the call after the one at `at` starts.

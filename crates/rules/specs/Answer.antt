@@ -71,7 +71,7 @@ short_offsets v2 offsets z = false
 unfoldable pub short_samples : Ask → Lent → Bool
 short_samples a l = ltb l.samples (cells a.size) || short_offsets a.decoder a.offsets a.size
 
--- 4: a map shorter than N bytes, or two_phase scratch shorter than one byte for each block of rows 2 on.
+-- 4: a map shorter than N bytes, or two-phase scratch shorter than one byte for each block of rows 2 on.
 unfoldable pub short_map : Option ℕ → Size → Bool
 short_map none z = false
 short_map (some n) z = ltb n (cells z)
@@ -114,7 +114,7 @@ frame_samples direct s offsets z f = V0.decoded s offsets z f
 frame_samples two_phase s offsets z f = Phases.two_phase s offsets z f
 frame_samples v2 s offsets z f = V2.decoded s z f
 
--- The frame's map by the rules, whether one is lent or not; the two_phase decoder is lent none, and its samples are the direct one's.
+-- The frame's map by the rules, whether one is lent or not; the two-phase decoder is lent none, and its samples are the direct one's.
 unfoldable pub frame_marks : Decoder → List ℕ → List ℕ → Size → List ℕ
 frame_marks direct s offsets z = Map.v0_map s offsets z
 frame_marks two_phase s offsets z = Map.v0_map s offsets z
@@ -123,7 +123,7 @@ frame_marks v2 s offsets z = Map.v2_map s z
 abbrev pub marks : Ask → List ℕ
 marks a = frame_marks a.decoder a.stream a.offsets a.size
 
--- The frame's direction bytes: the two_phase decoder alone has scratch.
+-- The frame's direction bytes: the two-phase decoder alone has scratch.
 unfoldable pub frame_scratch : Decoder → List ℕ → List ℕ → Size → List ℕ
 frame_scratch direct s offsets z = []
 frame_scratch two_phase s offsets z = Phases.scratch s offsets z

@@ -3,7 +3,7 @@ ghost use Rattle.std.specs.Prelude.{◌≡◌};
 ghost use Rattle.rules.specs.Answer.{done_with, done, refused};
 ghost use Rattle.rules.specs.Refusals.{refusal_number};
 
-// A number, a row, and how many words were missing. Number 0 is done, the others are refusals.
+// A number, a row, and how many words were missing. Number 0 is done, the others are refusals; it stays a number, since C reads it.
 #[repr(C)]
 #[derive(Clone, Copy)]
 pub struct Answer {
@@ -24,7 +24,7 @@ pub enum Refusal {
     // Fewer samples are lent than the frame has, or in V0 fewer offsets than rows.
     ShortSamples = 3,
 
-    // The map or the two_phase scratch is too short.
+    // The map or the two-phase scratch is too short.
     ShortMap = 4,
 
     // V2: a motion other than 7 in row 0 or 1.
@@ -102,69 +102,6 @@ impl From<Refusal> for Answer {
 }
 
 impl Answer {
-    // Width or height is above the limit.
-    pub const TOO_LARGE: u32 = 1;
-
-    // V2: width or height is below the least.
-    pub const TOO_SMALL: u32 = 2;
-
-    // Fewer samples are lent than the frame has, or in V0 fewer offsets than rows.
-    pub const SHORT_SAMPLES: u32 = 3;
-
-    // The map or the two_phase scratch is too short.
-    pub const SHORT_MAP: u32 = 4;
-
-    // V2: a motion other than 7 in row 0 or 1.
-    pub const EARLY_MOTION: u32 = 5;
-
-    // V2: a motion reference outside the frame.
-    pub const OUTSIDE: u32 = 6;
-
-    // V2: a difference length above depth + 1.
-    pub const LONG_DIFFERENCE: u32 = 7;
-
-    // V2: a row is finished and a word was missing.
-    pub const OVERRUN: u32 = 8;
-
-    // The writer: a sample is above 16,383.
-    pub const TOO_BRIGHT: u32 = 9;
-
-    // The writer: the buffer for the stream or for the offsets is too short.
-    pub const SHORT_OUTPUT: u32 = 10;
-
-    // In bands: a number of bands or a block width that the frame can't be cut by.
-    pub const BAD_CUT: u32 = 11;
-
-    // In bands: the list is too short or too long, or a step is no block's number or isn't ready.
-    pub const BAD_STEPS: u32 = 12;
-
-    // Blanking: the list is too short for all runs.
-    pub const SHORT_RUNS: u32 = 13;
-
-    // Blanking: a map byte above 3.
-    pub const BAD_MAP: u32 = 14;
-
-    // V0 into V2: the width is not a multiple of 16.
-    pub const BAD_WIDTH: u32 = 15;
-
-    // V0 into V2: a sample of the decoded frame is marked.
-    pub const MARKED: u32 = 16;
-
-    // For clean frames: a block of row 0 or 1 has direction 1.
-    pub const EARLY_UPWARD: u32 = 17;
-
-    // For clean frames: a length is outside 0 to 16 after its block's operations.
-    pub const BAD_LENGTH: u32 = 18;
-
-    // For clean frames: a word was missing by the end of a block.
-    pub const MISSING_WORD: u32 = 19;
-
-    // Packed by others: a sample of the decoded frame isn't the one meant.
-    pub const OTHER_SAMPLE: u32 = 20;
-
-    // Packed by others: the stream is longer than what the writer makes.
-    pub const LONG_STREAM: u32 = 21;
-
     // Done, and so many words were missing.
     pub fn done_with(filler: u64) -> Answer
         ensures { result ≡ done_with filler }
@@ -183,7 +120,7 @@ impl Answer {
     }
 }
 
-// The frame's size in samples.
+// The frame's size in samples. Any numbers are a size: refusal 1 is about those above the limit, and who decodes asks it in a clause.
 #[derive(Clone, Copy)]
 pub struct Size {
     pub width: usize,

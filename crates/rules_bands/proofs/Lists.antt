@@ -1,4 +1,4 @@
--- A call in bands among others on one sample buffer. One that is done is the plain two_phase call by what it yields, so what is
+-- A call in bands among others on one sample buffer. One that is done is the plain two-phase call by what it yields, so what is
 -- claimed of lists of decoder calls holds of it; one that is refused leaves the samples as it found them.
 use Prim.Native.Nat.{ℕ}
 use mathlib.Core.Path.{◌≡◌, sym, ap, ◌∙◌}

@@ -1,4 +1,4 @@
--- A call of the V0 decoder in bands, for every input. It is the plain two_phase call, with a cut and a list of steps; it makes no
+-- A call of the V0 decoder in bands, for every input. It is the plain two-phase call, with a cut and a list of steps; it makes no
 -- map. Its own refusals, 11 and 12, come after the plain call's 1 to 4 and before anything is written.
 use Rattle.std.specs.Prelude.{ℕ, cond, ◌≡◌, List, ◌++◌, eqb, length, take, drop}
 use Rattle.std.proofs.Math.Option.{none, some}
@@ -30,7 +30,7 @@ call s offsets w h samples scratch bands block_width steps =
       scratch = scratch;
     }
 
--- The plain two_phase call: what it asks for, and its buffers.
+-- The plain two-phase call: what it asks for, and its buffers.
 abbrev pub plain : Call → Plain.Ask
 plain c = record { decoder = Plain.two_phase; stream = c.stream; offsets = c.offsets; size = c.cut.size }
 

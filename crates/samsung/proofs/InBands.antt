@@ -1,5 +1,5 @@
--- A call in bands is done exactly if the plain two_phase call is lent enough, the cut fits and the list is good; else it changes nothing.
--- One that is done equals the plain two_phase call: asked the same over the same buffers, they give the same answer, samples and
+-- A call in bands is done exactly if the plain two-phase call is lent enough, the cut fits and the list is good; else it changes nothing.
+-- One that is done equals the plain two-phase call: asked the same over the same buffers, they give the same answer, samples and
 -- scratch, whatever the cut and the list of steps.
 use mathlib.Core.Path.{◌≡◌, sym, ap, ◌∙◌}
 use mathlib.Core.Logic.{◌≢◌}

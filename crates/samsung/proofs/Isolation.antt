@@ -8,7 +8,7 @@
 -- equal too, whole; by the first part of its byte a sample is marked 0 or 1: (c) every one of the first N samples that is marked 0
 -- is equal; (d) in V0 a sample marked 1 is the sample that its call found at one position plus an amount, modulo 65,536, both set
 -- by stream, offsets and size alone, and the position is below N.
--- A call in bands that is done counts as the two_phase call that it equals, by whatever cut and list of steps; the rules' marks are
+-- A call in bands that is done counts as the two-phase call that it equals, by whatever cut and list of steps; the rules' marks are
 -- that call's. A call for clean frames that is done counts as the direct call that it equals.
 -- Free. How long the lists are and what came before; what the buffers first held; what maps and scratch hold at entry.
 -- Not promised. Samples marked 1 in V2, what lies past N, and calls that end with 1 to 4, 11, 12 or 17 to 19, which change

@@ -1,4 +1,4 @@
--- The two_phase entry equals the direct ones: called alike, with scratch long enough, they give the same number, row and samples. The
+-- The two-phase entry equals the direct ones: called alike, with scratch long enough, they give the same number, row and samples. The
 -- direct ones alone count missing words and make a map.
 use mathlib.Core.Path.{◌≡◌, refl, sym, ap, ◌∙◌}
 use mathlib.Core.Bool.{false}
@@ -25,8 +25,8 @@ use Rattle.samsung.proofs.Isolation.{Call, returned}
 abbrev pub in_two_phases : Ask → Ask
 in_two_phases a = record { decoder = two_phase; stream = a.stream; offsets = a.offsets; size = a.size }
 
--- A direct call and a two_phase one: stream, offsets, size and old samples are equal, a map that the direct one is lent is long enough,
--- and so is the scratch. The two_phase decoder is lent no map.
+-- A direct call and a two-phase one: stream, offsets, size and old samples are equal, a map that the direct one is lent is long enough,
+-- and so is the scratch. The two-phase decoder is lent no map.
 pub record Paired (c d : Returned) : Type 0 where
   pub decoder : c.ask.decoder ≡ direct
   pub ask : d.ask ≡ in_two_phases c.ask
@@ -39,7 +39,7 @@ pub record Paired (c d : Returned) : Type 0 where
 abbrev pub uncounted : Answer → Answer
 uncounted r = record { number = r.number; row = r.row; filler = 0 }
 
--- They answer with the same number and row, the two_phase one without a count, and leave the same samples.
+-- They answer with the same number and row, the two-phase one without a count, and leave the same samples.
 pub record SameFrame (c d : Returned) : Type 0 where
   pub answers : d.answered ≡ uncounted c.answered
   pub samples : d.left.samples ≡ c.left.samples

@@ -1,9 +1,9 @@
-// The V0 decoder in bands: the two_phase decoder, with phase two done block by block in the sequence of a list of steps.
+// The V0 decoder in bands: the two-phase decoder, with phase two done block by block in the sequence of a list of steps.
 ghost use Rattle.rules_bands.specs.Call.{call, Yields};
 
 use entry_refusals::refuse_two_phase;
 use rules::{Answer, Size};
-use rules_bands::refuse_steps;
+use rules_bands::Cut;
 use v0_bands::decode_frame;
 
 // Decodes a V0 frame over what `out` holds, its directions in `scratch`. Refusals 1, 3, 4, 11 and 12, each before anything is
@@ -27,24 +27,15 @@ pub fn decode_v0_bands(
     if let Err(refusal) = refuse_two_phase(size, out.len(), offsets.len(), scratch.len()) {
         return Answer::from(refusal);
     }
-    let unfit = refuse_steps(width, height, bands, block_width, steps);
-    if unfit != 0 {
-        return Answer {
-            number: unfit,
-            row: 0,
-            filler: 0,
-        };
-    }
-    let n = width * height;
-    decode_frame(
-        src,
-        offsets,
+    let cut = Cut {
         size,
-        &mut out[..n],
-        scratch,
         bands,
         block_width,
-        steps,
-    );
+    };
+    if let Err(unfit) = cut.refuse_steps(steps) {
+        return Answer::from(unfit);
+    }
+    let n = width * height;
+    decode_frame(src, offsets, cut, &mut out[..n], scratch, steps);
     Answer::done()
 }

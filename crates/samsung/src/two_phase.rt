@@ -1,4 +1,4 @@
-// The two_phase V0 decoder's entry. It makes no map.
+// The two-phase V0 decoder's entry. It makes no map.
 ghost use Rattle.std.proofs.Math.Option.{none, some};
 ghost use Rattle.rules.specs.Answer.{two_phase, ask, buffers, Yields};
 

@@ -67,7 +67,7 @@ pub record Framed (z : Size) (f : List ℕ) : Type 0 where
   pub height : z.height ≤ most_side
   pub lent : length f ≡ cells z
 
--- What a phase of the two_phase decoder is lent: a frame's cells, and a direction byte for each block from row 2 on.
+-- What a phase of the two-phase decoder is lent: a frame's cells, and a direction byte for each block from row 2 on.
 pub record PhaseLent (z : Size) (f dirs : List ℕ) : Type 0 where
   pub frame : Framed z f
   pub directions_lent : scratch_bytes z ≤ length dirs

@@ -21,7 +21,7 @@ use Rattle.v0_clean.specs.Row.{fault_from, Decides, Passed}
 use Rattle.v0_clean.specs.Rows.{RowsIn, RowsPassed, or_after, in_order, four_from, part, Parted}
 use Rattle.v0_clean.specs.Faults.{told}
 use Rattle.v0_clean.specs.declared.Fault.{Fault}
-use Rattle.v0_clean.specs.declared.heads.Rows.{Rows}
+use Rattle.v0_clean.specs.declared.heads.OfFour.{OfFour}
 
 pub record Going (s offsets : List ℕ) (z : Size) (row : ℕ) : Type 0 where
   pub below : row ≤ z.height
@@ -30,12 +30,9 @@ pub record Going (s offsets : List ℕ) (z : Size) (row : ℕ) : Type 0 where
 pub row_lent : {z : Size} {offsets : List ℕ} {row : ℕ} → row < z.height → OffsetsLent z offsets → InRow z row
 row_lent l d = record { width = d.width; height = d.height; row_in = l }
 
--- A row of four, whose number fits an answer.
+-- A row of four.
 pub row_of_four : {z : Size} {row : ℕ} → RowsIn z row → (r : ℕ) → r < row + 4 → InRow z r
 row_of_four x r l = record { width = x.width; height = x.height; row_in = omega (arith, x.rows_in) }
-
-pub row_short : {z : Size} {row : ℕ} → RowsIn z row → (r : ℕ) → r < row + 4 → r < 2 ^ 32
-row_short x r l = omega (arith, x.rows_in, x.height)
 
 -- One of four that are lent.
 module _ {z : Size} {row : ℕ} {offsets : List ℕ} (x : FourLent z row offsets) (r : ℕ) (l : r < row + 4) where
@@ -103,7 +100,7 @@ module _ (s offsets : List ℕ) (z : Size) where
   unfolding rows_verdict
   row_alone row = refl
 
-  pub four_rows : (row : ℕ) (r : Rows) → fault_from s z row r.a ≡ row_fault s z row (get_or offsets row 0)
+  pub four_rows : (row : ℕ) (r : OfFour Run) → fault_from s z row r.a ≡ row_fault s z row (get_or offsets row 0)
       → fault_from s z (row + 1) r.b ≡ row_fault s z (row + 1) (get_or offsets (row + 1) 0)
       → fault_from s z (row + 2) r.c ≡ row_fault s z (row + 2) (get_or offsets (row + 2) 0)
       → fault_from s z (row + 3) r.d ≡ row_fault s z (row + 3) (get_or offsets (row + 3) 0) → in_order s z row r ≡ rows_verdict s offsets z 4 row
@@ -113,7 +110,7 @@ module _ (s offsets : List ℕ) (z : Size) where
       rw (a, b, c, d, one, two, three)
 
   -- Rows that were begun and passed over.
-  pub four_passed : (row : ℕ) → FourLent z row offsets → (r r' : Rows) → RowsPassed s z r r' → Decides s z row (row_fault s z row (get_or offsets row 0)) r.a
+  pub four_passed : (row : ℕ) → FourLent z row offsets → (r r' : OfFour Run) → RowsPassed s z r r' → Decides s z row (row_fault s z row (get_or offsets row 0)) r.a
       → Decides s z (row + 1) (row_fault s z (row + 1) (get_or offsets (row + 1) 0)) r.b
       → Decides s z (row + 2) (row_fault s z (row + 2) (get_or offsets (row + 2) 0)) r.c
       → Decides s z (row + 3) (row_fault s z (row + 3) (get_or offsets (row + 3) 0)) r.d → in_order s z row r' ≡ rows_verdict s offsets z 4 row

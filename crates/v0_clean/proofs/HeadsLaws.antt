@@ -38,8 +38,7 @@ use Rattle.v0_clean.specs.Block.{seen}
 use Rattle.v0_clean.specs.Row.{Placed, fault_from, Passed}
 use Rattle.v0_clean.specs.Heads.{row_of, point, Tracked, NextHead, Moved, PassedAt, Ready, TrackOf, TracksOf, TracksAt, AllTracked, AllPassed, AllMoved, HeadsAt, HeadsNear, TracksRoom, RowsReady, RowsOf, all_four, roomy, all_short, blocks_on, least_on, all_ready, run_on, side_by_side, RowsReach}
 use Rattle.v0_clean.specs.Rows.{Four, RowsPlaced, RowsPassed}
-use Rattle.v0_clean.specs.declared.heads.Heads.{Heads}
-use Rattle.v0_clean.specs.declared.heads.Rows.{Rows}
+use Rattle.v0_clean.specs.declared.heads.OfFour.{OfFour}
 use Rattle.v0_clean.specs.declared.heads.Track.{Track}
 use Rattle.v0_clean.specs.declared.heads.Tracks.{Tracks}
 use Rattle.v0_clean.proofs.PassLaws.{plan_ahead, passed}
@@ -53,19 +52,7 @@ pub never : {A : Type 0} → false ≡ true → A
 never e = absurd (clash e refl)
 
 module _ (a b c d : Bool) where
-  pub four_first : a ≡ false → false ≡ all_four a b c d
-  unfolding all_four
-  four_first e = rw e
-
-  pub four_second : a ≡ true → b ≡ false → false ≡ all_four a b c d
-  unfolding all_four
-  four_second e f = rw (e, f)
-
-  pub four_third : a ≡ true → b ≡ true → c ≡ false → false ≡ all_four a b c d
-  unfolding all_four
-  four_third e f g = rw (e, f, g)
-
-  pub four_last : a ≡ true → b ≡ true → c ≡ true → d ≡ all_four a b c d
+  four_last : a ≡ true → b ≡ true → c ≡ true → d ≡ all_four a b c d
   unfolding all_four
   four_last e f g = rw (e, f, g)
 
@@ -246,7 +233,7 @@ module _ {s : List ℕ} (t : Tracks) where
     room_of : {u : Track} → Tracked s u → leb u.q u.last ≡ true → Ahead s u.base u.q block_ahead
     room_of x l = room_for x.ahead.late x.there fits x.last_is (leb-true _ _ l)
 
-    pub all_ahead : Four (Ahead s t.a.base t.a.q block_ahead) (Ahead s t.b.base t.b.q block_ahead) (Ahead s t.c.base t.c.q block_ahead) (Ahead s t.d.base t.d.q block_ahead)
+    pub all_ahead : Four (Ahead s t.rows.a.base t.rows.a.q block_ahead) (Ahead s t.rows.b.base t.rows.b.q block_ahead) (Ahead s t.rows.c.base t.rows.c.q block_ahead) (Ahead s t.rows.d.base t.rows.d.q block_ahead)
     all_ahead =
         let l = four_hold _ _ _ _ e in
         record { first = room_of x.first l.first; second = room_of x.second l.second; third = room_of x.third l.third; fourth = room_of x.fourth l.fourth }
@@ -261,13 +248,13 @@ module _ {s : List ℕ} (t : Tracks) where
           fourth = record { room = ahead_room a.fourth; packed = x.fourth.packed };
         }
 
-  pub all_near : (h : Heads) → AllTracked s t → HeadsAt s t h → HeadsNear t h
+  pub all_near : (h : OfFour PackedHead) → AllTracked s t → HeadsAt s t h → HeadsNear t h
   all_near h x y =
       record {
-        first = near t.a h.a x.first y.first;
-        second = near t.b h.b x.second y.second;
-        third = near t.c h.c x.third y.third;
-        fourth = near t.d h.d x.fourth y.fourth;
+        first = near t.rows.a h.a x.first y.first;
+        second = near t.rows.b h.b x.second y.second;
+        third = near t.rows.c h.c x.third y.third;
+        fourth = near t.rows.d h.d x.fourth y.fourth;
       }
     where
       near : (u : Track) (k : PackedHead) → Tracked s u → NextHead s u k → (u.q < 2 ^ 31) × (k.size ≤ 25)
@@ -289,7 +276,7 @@ module _ {s : List ℕ} {z : Size} {f : Tracks} (at : TracksAt s z f) where
     all_tracked = record { first = p.first.tracked; second = p.second.tracked; third = p.third.tracked; fourth = p.fourth.tracked }
 
     -- A block more of each.
-    pub all_on : (t' : Tracks) (h : Heads) → length s < 2 ^ 64 → t.col + 16 ≤ z.width → roomy t ≡ true → HeadsAt s t h → all_short h ≡ true → AllMoved t h t' → AllPassed s z f t'
+    pub all_on : (t' : Tracks) (h : OfFour PackedHead) → length s < 2 ^ 64 → t.col + 16 ≤ z.width → roomy t ≡ true → HeadsAt s t h → all_short h ≡ true → AllMoved t h t' → AllPassed s z f t'
     all_on t' h fits inside e hs short m =
         let a = all_ahead t fits all_tracked e in let l = four_hold _ _ _ _ short in let y = m.each in
         rw m.col
@@ -318,22 +305,22 @@ module _ (s : List ℕ) (z : Size) (t : Tracks) where
   -- What each way out decides.
   pub ends_narrow : z.width < t.col + 16 → least_on s z t ≡ 0
   unfolding least_on
-  ends_narrow l = let e = none_narrow t.a l in omega arith
+  ends_narrow l = let e = none_narrow t.rows.a l in omega arith
 
   pub ends_late : roomy t ≡ false → least_on s z t ≡ 0
   unfolding least_on
   ends_late e =
-      four_fails _ _ _ _ e (λ x. omega (arith, none_late t.a x)) (λ x. omega (arith, none_late t.b x)) (λ x. omega (arith, none_late t.c x)) (λ x. omega (arith, none_late t.d x))
+      four_fails _ _ _ _ e (λ x. omega (arith, none_late t.rows.a x)) (λ x. omega (arith, none_late t.rows.b x)) (λ x. omega (arith, none_late t.rows.c x)) (λ x. omega (arith, none_late t.rows.d x))
 
-  pub ends_long : (h : Heads) → HeadsAt s t h → roomy t ≡ true → all_short h ≡ false → least_on s z t ≡ 0
+  pub ends_long : (h : OfFour PackedHead) → HeadsAt s t h → roomy t ≡ true → all_short h ≡ false → least_on s z t ≡ 0
   unfolding least_on
   ends_long h at l e =
       let r = four_hold _ _ _ _ l in
-      four_fails _ _ _ _ e (λ x. omega (arith, none_long t.a h.a at.first r.first x)) (λ x. omega (arith, none_long t.b h.b at.second r.second x))
-      (λ x. omega (arith, none_long t.c h.c at.third r.third x)) (λ x. omega (arith, none_long t.d h.d at.fourth r.fourth x))
+      four_fails _ _ _ _ e (λ x. omega (arith, none_long t.rows.a h.a at.first r.first x)) (λ x. omega (arith, none_long t.rows.b h.b at.second r.second x))
+      (λ x. omega (arith, none_long t.rows.c h.c at.third r.third x)) (λ x. omega (arith, none_long t.rows.d h.d at.fourth r.fourth x))
 
   -- A block more of each is one less that they go on for.
-  pub least_more : (t' : Tracks) (h : Heads) → length s < 2 ^ 64 → AllTracked s t → t.col + 16 ≤ z.width → roomy t ≡ true → HeadsAt s t h → all_short h ≡ true → AllMoved t h t'
+  pub least_more : (t' : Tracks) (h : OfFour PackedHead) → length s < 2 ^ 64 → AllTracked s t → t.col + 16 ≤ z.width → roomy t ≡ true → HeadsAt s t h → all_short h ≡ true → AllMoved t h t'
       → t.col + 16 * least_on s z t ≡ t'.col + 16 * least_on s z t'
   unfolding least_on
   least_more t' h fits x inside e hs short m =
@@ -345,10 +332,10 @@ module _ (s : List ℕ) (z : Size) (t : Tracks) where
       rw m.col (omega (arith, e₀, e₁, e₂, e₃))
 
 -- From points and back.
-pub rows_stay : {s : List ℕ} {z : Size} {r : Rows} → RowsPlaced z r → RowsPassed s z r r
+pub rows_stay : {s : List ℕ} {z : Size} {r : OfFour Run} → RowsPlaced z r → RowsPassed s z r r
 rows_stay x = record { first = stays x.first; second = stays x.second; third = stays x.third; fourth = stays x.fourth }
 
-pub tracks_at : {s : List ℕ} {z : Size} {r : Rows} {t : Tracks} → z.width ≤ most_side → RowsPlaced z r → RowsReady s r → TracksOf s r t → TracksAt s z t
+pub tracks_at : {s : List ℕ} {z : Size} {r : OfFour Run} {t : Tracks} → z.width ≤ most_side → RowsPlaced z r → RowsReady s r → TracksOf s r t → TracksAt s z t
 tracks_at wide x y o =
     let e = o.each in
     record {
@@ -359,7 +346,7 @@ tracks_at wide x y o =
       each = record { first = e.first.tracked; second = e.second.tracked; third = e.third.tracked; fourth = e.fourth.tracked };
     }
 
-pub rows_go : {s : List ℕ} {z : Size} {r r' : Rows} {t t' : Tracks} → RowsReady s r → TracksOf s r t → AllPassed s z t t' → RowsOf s t' r' → RowsPassed s z r r'
+pub rows_go : {s : List ℕ} {z : Size} {r r' : OfFour Run} {t t' : Tracks} → RowsReady s r → TracksOf s r t → AllPassed s z t t' → RowsOf s t' r' → RowsPassed s z r r'
 rows_go y o p e =
     let x = o.each in let q = rw o.col at p in
     record {
@@ -370,7 +357,7 @@ rows_go y o p e =
     }
 
 -- How far the rows go, from points on.
-module _ (s : List ℕ) (z : Size) (r : Rows) where
+module _ (s : List ℕ) (z : Size) (r : OfFour Run) where
   pub reach_none : all_ready s r ≡ false → RowsReach s z r r
   unfolding side_by_side
   reach_none e = rw e (record { first = omega arith; second = omega arith; third = omega arith; fourth = omega arith })
@@ -380,12 +367,12 @@ module _ (s : List ℕ) (z : Size) (r : Rows) where
       ap₂ (λ b l. run_length s (b * 8 + l) ((z.width - 16) / 16) (row_of s t)) x.base_is (x.tracked.last_is ∙ ap (λ b. last_start (length s - b)) x.base_is)
       ∙ ap₂ (λ (c : ℕ) st. run_length s (last_bit s p.state.bits) ((z.width - c) / 16) st) (sym e) (sym x.is)
 
-  pub reach_some : (r' : Rows) (t t' : Tracks) → all_ready s r ≡ true → RowsReady s r → TracksOf s r t → t'.col ≡ t.col + 16 * least_on s z t → RowsOf s t' r' → RowsReach s z r r'
+  pub reach_some : (r' : OfFour Run) (t t' : Tracks) → all_ready s r ≡ true → RowsReady s r → TracksOf s r t → t'.col ≡ t.col + 16 * least_on s z t → RowsOf s t' r' → RowsReach s z r r'
   unfolding side_by_side least_on
   reach_some r' t t' e y o far x =
       let c = o.col in let k = o.each in
-      let a₀ = run_same r.a t.a y.first.first k.first in let a₁ = run_same r.b t.b y.second.first k.second in
-      let a₂ = run_same r.c t.c y.third.first k.third in let a₃ = run_same r.d t.d y.fourth.first k.fourth in
+      let a₀ = run_same r.a t.rows.a y.first.first k.first in let a₁ = run_same r.b t.rows.b y.second.first k.second in
+      let a₂ = run_same r.c t.rows.c y.third.first k.third in let a₃ = run_same r.d t.rows.d y.fourth.first k.fourth in
       let n = rw (c, a₀, a₁, a₂, a₃) at far in
       rw e
       (record {

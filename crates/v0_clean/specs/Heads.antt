@@ -13,8 +13,7 @@ use Rattle.v0_direct.specs.declared.run.Run.{Run}
 use Rattle.v0_clean.specs.OffsetsLent.{InRow}
 use Rattle.v0_clean.specs.Row.{fault_from}
 use Rattle.v0_clean.specs.Rows.{Four}
-use Rattle.v0_clean.specs.declared.heads.Heads.{Heads}
-use Rattle.v0_clean.specs.declared.heads.Rows.{Rows}
+use Rattle.v0_clean.specs.declared.heads.OfFour.{OfFour}
 use Rattle.v0_clean.specs.declared.heads.Track.{Track}
 use Rattle.v0_clean.specs.declared.heads.Tracks.{Tracks}
 
@@ -78,45 +77,45 @@ pub record PassedAt (s : List ℕ) (z : Size) (col : ℕ) (t : Track) (col' : �
 
 -- ── Four rows ──
 
-abbrev pub RowsReady : List ℕ → Rows → Type 0
+abbrev pub RowsReady : List ℕ → OfFour Run → Type 0
 RowsReady s r = Four (Ready s r.a) (Ready s r.b) (Ready s r.c) (Ready s r.d)
 
-abbrev pub all_ready : List ℕ → Rows → Bool
+abbrev pub all_ready : List ℕ → OfFour Run → Bool
 all_ready s r = all_four (ready s r.a) (ready s r.b) (ready s r.c) (ready s r.d)
 
 abbrev pub AllTracked : List ℕ → Tracks → Type 0
-AllTracked s t = Four (Tracked s t.a) (Tracked s t.b) (Tracked s t.c) (Tracked s t.d)
+AllTracked s t = Four (Tracked s t.rows.a) (Tracked s t.rows.b) (Tracked s t.rows.c) (Tracked s t.rows.d)
 
-pub record TracksOf (s : List ℕ) (r : Rows) (t : Tracks) : Type 0 where
+pub record TracksOf (s : List ℕ) (r : OfFour Run) (t : Tracks) : Type 0 where
   pub col : t.col ≡ 16
-  pub each : Four (TrackOf s r.a t.a) (TrackOf s r.b t.b) (TrackOf s r.c t.c) (TrackOf s r.d t.d)
+  pub each : Four (TrackOf s r.a t.rows.a) (TrackOf s r.b t.rows.b) (TrackOf s r.c t.rows.c) (TrackOf s r.d t.rows.d)
 
-abbrev pub RowsOf : List ℕ → Tracks → Rows → Type 0
-RowsOf s t r = Four (r.a ≡ point s t.col t.a) (r.b ≡ point s t.col t.b) (r.c ≡ point s t.col t.c) (r.d ≡ point s t.col t.d)
+abbrev pub RowsOf : List ℕ → Tracks → OfFour Run → Type 0
+RowsOf s t r = Four (r.a ≡ point s t.col t.rows.a) (r.b ≡ point s t.col t.rows.b) (r.c ≡ point s t.col t.rows.c) (r.d ≡ point s t.col t.rows.d)
 
 -- Whether the stream has room for a block of each, and whether all lengths after four heads are short.
 abbrev pub roomy : Tracks → Bool
-roomy t = all_four (leb t.a.q t.a.last) (leb t.b.q t.b.last) (leb t.c.q t.c.last) (leb t.d.q t.d.last)
+roomy t = all_four (leb t.rows.a.q t.rows.a.last) (leb t.rows.b.q t.rows.b.last) (leb t.rows.c.q t.rows.c.last) (leb t.rows.d.q t.rows.d.last)
 
-abbrev pub all_short : Heads → Bool
+abbrev pub all_short : OfFour PackedHead → Bool
 all_short h = all_four (short (lengths_after h.a.sums)) (short (lengths_after h.b.sums)) (short (lengths_after h.c.sums)) (short (lengths_after h.d.sums))
 
 abbrev pub TracksRoom : List ℕ → Tracks → Type 0
-TracksRoom s t = Four (RoomAt s t.a) (RoomAt s t.b) (RoomAt s t.c) (RoomAt s t.d)
+TracksRoom s t = Four (RoomAt s t.rows.a) (RoomAt s t.rows.b) (RoomAt s t.rows.c) (RoomAt s t.rows.d)
 
-abbrev pub HeadsAt : List ℕ → Tracks → Heads → Type 0
-HeadsAt s t h = Four (NextHead s t.a h.a) (NextHead s t.b h.b) (NextHead s t.c h.c) (NextHead s t.d h.d)
+abbrev pub HeadsAt : List ℕ → Tracks → OfFour PackedHead → Type 0
+HeadsAt s t h = Four (NextHead s t.rows.a h.a) (NextHead s t.rows.b h.b) (NextHead s t.rows.c h.c) (NextHead s t.rows.d h.d)
 
 -- What is asked so that no sum is too large.
 abbrev pub Near : Track → PackedHead → Type 0
 Near t h = (t.q < 2 ^ 31) × (h.size ≤ 25)
 
-abbrev pub HeadsNear : Tracks → Heads → Type 0
-HeadsNear t h = Four (Near t.a h.a) (Near t.b h.b) (Near t.c h.c) (Near t.d h.d)
+abbrev pub HeadsNear : Tracks → OfFour PackedHead → Type 0
+HeadsNear t h = Four (Near t.rows.a h.a) (Near t.rows.b h.b) (Near t.rows.c h.c) (Near t.rows.d h.d)
 
-pub record AllMoved (t : Tracks) (h : Heads) (t' : Tracks) : Type 0 where
+pub record AllMoved (t : Tracks) (h : OfFour PackedHead) (t' : Tracks) : Type 0 where
   pub col : t'.col ≡ t.col + 16
-  pub each : Four (Moved t.a h.a t'.a) (Moved t.b h.b t'.b) (Moved t.c h.c t'.c) (Moved t.d h.d t'.d)
+  pub each : Four (Moved t.rows.a h.a t'.rows.a) (Moved t.rows.b h.b t'.rows.b) (Moved t.rows.c h.c t'.rows.c) (Moved t.rows.d h.d t'.rows.d)
 
 -- Four rows at a column after the first.
 pub record TracksAt (s : List ℕ) (z : Size) (t : Tracks) : Type 0 where
@@ -128,8 +127,8 @@ pub record TracksAt (s : List ℕ) (z : Size) (t : Tracks) : Type 0 where
 
 abbrev pub AllPassed : List ℕ → Size → Tracks → Tracks → Type 0
 AllPassed s z t t' =
-    Four (PassedAt s z t.col t.a t'.col t'.a) (PassedAt s z t.col t.b t'.col t'.b)
-    (PassedAt s z t.col t.c t'.col t'.c) (PassedAt s z t.col t.d t'.col t'.d)
+    Four (PassedAt s z t.col t.rows.a t'.col t'.rows.a) (PassedAt s z t.col t.rows.b t'.col t'.rows.b)
+    (PassedAt s z t.col t.rows.c t'.col t'.rows.c) (PassedAt s z t.col t.rows.d t'.col t'.rows.d)
 
 -- How many blocks a row goes on for from a column, and all four together.
 abbrev pub blocks_on : List ℕ → Size → ℕ → Track → ℕ
@@ -137,17 +136,17 @@ blocks_on s z col t = run_length s (t.base * 8 + t.last) ((z.width - col) / 16) 
 
 unfoldable pub least_on : List ℕ → Size → Tracks → ℕ
 least_on s z t =
-    min (min (blocks_on s z t.col t.a) (blocks_on s z t.col t.b)) (min (blocks_on s z t.col t.c) (blocks_on s z t.col t.d))
+    min (min (blocks_on s z t.col t.rows.a) (blocks_on s z t.col t.rows.b)) (min (blocks_on s z t.col t.rows.c) (blocks_on s z t.col t.rows.d))
 
 -- The same from points on: as far as the run of the one goes that ends first, where all are ready.
 abbrev pub run_on : List ℕ → Size → Run → ℕ
 run_on s z p = run_length s (last_bit s p.state.bits) ((z.width - p.col) / 16) p.state
 
-unfoldable pub side_by_side : List ℕ → Size → Rows → ℕ
+unfoldable pub side_by_side : List ℕ → Size → OfFour Run → ℕ
 side_by_side s z r =
     cond (all_ready s r) (min (min (run_on s z r.a) (run_on s z r.b)) (min (run_on s z r.c) (run_on s z r.d))) 0
 
-abbrev pub RowsReach : List ℕ → Size → Rows → Rows → Type 0
+abbrev pub RowsReach : List ℕ → Size → OfFour Run → OfFour Run → Type 0
 RowsReach s z r r' =
     let n = 16 * side_by_side s z r in
     Four (r'.a.col ≡ r.a.col + n) (r'.b.col ≡ r.b.col + n) (r'.c.col ≡ r.c.col + n) (r'.d.col ≡ r.d.col + n)

@@ -8,7 +8,8 @@ use Rattle.rules_clean.specs.Verdict.{fault_at, rows_verdict}
 use Rattle.v0_clean.specs.Row.{Placed, fault_from, Passed}
 use Rattle.v0_clean.specs.Faults.{told}
 use Rattle.v0_clean.specs.declared.Fault.{Fault}
-use Rattle.v0_clean.specs.declared.heads.Rows.{Rows}
+use Rattle.v0_direct.specs.declared.run.Run.{Run}
+use Rattle.v0_clean.specs.declared.heads.OfFour.{OfFour}
 
 -- The same of each of four.
 pub record Four (A B C D : Type 0) : Type 0 where
@@ -23,10 +24,10 @@ pub record RowsIn (z : Size) (row : ℕ) : Type 0 where
   pub height : z.height ≤ most_side
   pub rows_in : row + 4 ≤ z.height
 
-abbrev pub RowsPlaced : Size → Rows → Type 0
+abbrev pub RowsPlaced : Size → OfFour Run → Type 0
 RowsPlaced z r = Four (Placed z r.a) (Placed z r.b) (Placed z r.c) (Placed z r.d)
 
-abbrev pub RowsPassed : List ℕ → Size → Rows → Rows → Type 0
+abbrev pub RowsPassed : List ℕ → Size → OfFour Run → OfFour Run → Type 0
 RowsPassed s z r r' = Four (Passed s z r.a r'.a) (Passed s z r.b r'.b) (Passed s z r.c r'.c) (Passed s z r.d r'.d)
 
 -- A row's fault, or if it has none what comes next.
@@ -34,7 +35,7 @@ abbrev pub or_after : ℕ → ℕ → Answer → Answer
 or_after row k next = cond (eqb k 0) next (fault_at row k)
 
 -- The first fault of four rows in their order.
-unfoldable pub in_order : List ℕ → Size → ℕ → Rows → Answer
+unfoldable pub in_order : List ℕ → Size → ℕ → OfFour Run → Answer
 in_order s z row r =
     or_after row (fault_from s z row r.a)
     (or_after (row + 1) (fault_from s z (row + 1) r.b)

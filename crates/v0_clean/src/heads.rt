@@ -11,7 +11,7 @@ ghost use Rattle.std.specs.Prelude.{true, ◌≡◌, ◌+◌, ◌*◌, ◌^◌, 
 ghost use Rattle.rules.specs.Limits.{most_side};
 ghost use Rattle.v0_lanes.specs.Lengths.{actions};
 ghost use Rattle.v0_lanes.specs.Tables.{Holds};
-ghost use Rattle.v0_clean.specs.Rows.{RowsPlaced, RowsPassed};
+ghost use Rattle.v0_clean.specs.Rows.{Four, RowsPlaced, RowsPassed};
 ghost use Rattle.v0_clean.specs.Heads.{Ready, ready, RowsReady, all_ready, TrackOf, point, Tracked, TracksOf, AllTracked, RowsOf, roomy, all_short, TracksRoom, HeadsAt, Moved, HeadsNear, AllMoved, TracksAt, AllPassed, least_on, RowsReach};
 
 use read_window::{BACK_BITS, BACK_BYTES, stands_within, state_at};
@@ -21,13 +21,43 @@ use v0_lanes::blocks::head_at;
 use v0_lanes::lengths::{PackedHead, all_fit, ends_of, lengths_after, packed, unpacked};
 use v0_parse_window::{BLOCK_BYTES, are_short, last_start};
 
-// Where four rows are.
+// Something of each of four rows. Named fields, and no array, keep the four side by side in registers.
 #[derive(Clone, Copy)]
-pub struct Rows {
-    pub a: Run,
-    pub b: Run,
-    pub c: Run,
-    pub d: Run,
+pub struct OfFour<T> {
+    pub a: T,
+    pub b: T,
+    pub c: T,
+    pub d: T,
+}
+
+impl<T: Copy> OfFour<T> {
+    // What a function makes of each.
+    #[inline(always)]
+    fn map<U, F: Fn(T) -> U>(self, f: F) -> OfFour<U>
+        requires { Four (F.pre f self.a) (F.pre f self.b) (F.pre f self.c) (F.pre f self.d) }
+        ensures { Four (F.post f self.a result.a) (F.post f self.b result.b) (F.post f self.c result.c) (F.post f self.d result.d) }
+    {
+        OfFour {
+            a: f(self.a),
+            b: f(self.b),
+            c: f(self.c),
+            d: f(self.d),
+        }
+    }
+
+    // What a function makes of each and of another of the same row.
+    #[inline(always)]
+    fn map_with<V: Copy, U, F: Fn(T, V) -> U>(self, other: OfFour<V>, f: F) -> OfFour<U>
+        requires { Four (F.pre f self.a other.a) (F.pre f self.b other.b) (F.pre f self.c other.c) (F.pre f self.d other.d) }
+        ensures { Four (F.post f self.a other.a result.a) (F.post f self.b other.b result.b) (F.post f self.c other.c result.c) (F.post f self.d other.d result.d) }
+    {
+        OfFour {
+            a: f(self.a, other.a),
+            b: f(self.b, other.b),
+            c: f(self.c, other.c),
+            d: f(self.d, other.d),
+        }
+    }
 }
 
 // A row by position, where no word was missing.
@@ -43,52 +73,30 @@ struct Track {
 #[derive(Clone, Copy)]
 struct Tracks {
     col: usize,
-    a: Track,
-    b: Track,
-    c: Track,
-    d: Track,
+    rows: OfFour<Track>,
 }
 
 // Whether a row can be followed by position: its first block was read, no word was missing, its lengths are short, and its record
 // stands in the stream.
+#[tactic(auto, unfolding(crate::specs::Heads::all_four))]
 fn is_ready(src: &[u8], at: Run) -> bool
     ensures answered { result ≡ ready src.now at }
     ensures holds { result ≡ true → Ready src.now at }
 {
     let state = at.state;
-    let bits = state.bits;
-    let lengths = state.lengths;
-    if at.col != V0Row::BLOCK {
-        return false;
-    }
-    if bits.filler != 0 {
-        return false;
-    }
-    if !are_short(lengths) {
-        return false;
-    }
-    stands_within(src, bits, BLOCK_BYTES)
+    at.col == V0Row::BLOCK
+        && state.bits.filler == 0
+        && are_short(state.lengths)
+        && stands_within(src, state.bits, BLOCK_BYTES)
 }
 
 // Whether all four can.
-fn are_ready(src: &[u8], rows: Rows) -> bool
+#[tactic(auto, unfolding(crate::specs::Heads::all_four))]
+fn are_ready(src: &[u8], rows: OfFour<Run>) -> bool
     ensures answered { result ≡ all_ready src.now rows }
     ensures holds { result ≡ true → RowsReady src.now rows }
 {
-    let a = rows.a;
-    let b = rows.b;
-    let c = rows.c;
-    let d = rows.d;
-    if !is_ready(src, a) {
-        return false;
-    }
-    if !is_ready(src, b) {
-        return false;
-    }
-    if !is_ready(src, c) {
-        return false;
-    }
-    is_ready(src, d)
+    is_ready(src, rows.a) && is_ready(src, rows.b) && is_ready(src, rows.c) && is_ready(src, rows.d)
 }
 
 // Such a row by position, and back to its state at a column.
@@ -119,103 +127,51 @@ fn run_of(src: &[u8], col: usize, t: Track) -> Run
 }
 
 // The same of four.
-fn tracks_of(src: &[u8], rows: Rows) -> Tracks
+fn tracks_of(src: &[u8], rows: OfFour<Run>) -> Tracks
     requires { RowsReady src.now rows }
     ensures { TracksOf src.now rows result }
 {
-    let a = rows.a;
-    let b = rows.b;
-    let c = rows.c;
-    let d = rows.d;
     Tracks {
         col: V0Row::BLOCK,
-        a: track_of(src, a),
-        b: track_of(src, b),
-        c: track_of(src, c),
-        d: track_of(src, d),
+        rows: rows.map(|row| track_of(src, row)),
     }
 }
 
-fn rows_of(src: &[u8], t: Tracks) -> Rows
+fn rows_of(src: &[u8], t: Tracks) -> OfFour<Run>
     requires { AllTracked src.now t }
     ensures { RowsOf src.now t result }
 {
-    let a = t.a;
-    let b = t.b;
-    let c = t.c;
-    let d = t.d;
-    Rows {
-        a: run_of(src, t.col, a),
-        b: run_of(src, t.col, b),
-        c: run_of(src, t.col, c),
-        d: run_of(src, t.col, d),
-    }
-}
-
-// The heads of the blocks that four rows go on with.
-#[derive(Clone, Copy)]
-struct Heads {
-    a: PackedHead,
-    b: PackedHead,
-    c: PackedHead,
-    d: PackedHead,
+    let col = t.col;
+    t.rows.map(|row| run_of(src, col, row))
 }
 
 // Whether the stream has room for a block of each.
+#[tactic(auto, unfolding(crate::specs::Heads::all_four))]
 fn have_room(t: Tracks) -> bool
     ensures { result ≡ roomy t }
 {
-    let a = t.a;
-    let b = t.b;
-    let c = t.c;
-    let d = t.d;
-    if a.last < a.q {
-        return false;
-    }
-    if b.last < b.q {
-        return false;
-    }
-    if c.last < c.q {
-        return false;
-    }
-    d.q <= d.last
+    let rows = t.rows;
+    rows.a.q <= rows.a.last
+        && rows.b.q <= rows.b.last
+        && rows.c.q <= rows.c.last
+        && rows.d.q <= rows.d.last
 }
 
 // Whether all lengths after four heads are short.
-fn are_all_short(h: Heads) -> bool
+#[tactic(auto, unfolding(crate::specs::Heads::all_four))]
+fn are_all_short(h: OfFour<PackedHead>) -> bool
     ensures { result ≡ all_short h }
 {
-    let a = h.a;
-    let b = h.b;
-    let c = h.c;
-    let d = h.d;
-    if !all_fit(a.sums) {
-        return false;
-    }
-    if !all_fit(b.sums) {
-        return false;
-    }
-    if !all_fit(c.sums) {
-        return false;
-    }
-    all_fit(d.sums)
+    all_fit(h.a.sums) && all_fit(h.b.sums) && all_fit(h.c.sums) && all_fit(h.d.sums)
 }
 
-// The four heads.
-fn read_heads(src: &[u8], t: Tracks, heads: &[u32; 1024]) -> Heads
+// The heads of the blocks that four rows go on with.
+fn read_heads(src: &[u8], t: Tracks, heads: &[u32; 1024]) -> OfFour<PackedHead>
     requires { TracksRoom src.now t × Holds actions 1_024 heads.now }
     ensures { HeadsAt src.now t result }
 {
-    let a = t.a;
-    let b = t.b;
-    let c = t.c;
-    let d = t.d;
-    Heads {
-        a: head_at(src, a.base, a.q, a.lengths, heads),
-        b: head_at(src, b.base, b.q, b.lengths, heads),
-        c: head_at(src, c.base, c.q, c.lengths, heads),
-        d: head_at(src, d.base, d.q, d.lengths, heads),
-    }
+    t.rows
+        .map(|row| head_at(src, row.base, row.q, row.lengths, heads))
 }
 
 // A row after a block with a head of short lengths.
@@ -234,24 +190,13 @@ fn moved(t: Track, h: PackedHead) -> Track
 }
 
 // All four after a block.
-fn all_moved(t: Tracks, h: Heads) -> Tracks
+fn all_moved(t: Tracks, h: OfFour<PackedHead>) -> Tracks
     requires { (t.col < 2 ^ 31) × HeadsNear t h }
     ensures { AllMoved t h result }
 {
-    let a = t.a;
-    let b = t.b;
-    let c = t.c;
-    let d = t.d;
-    let ha = h.a;
-    let hb = h.b;
-    let hc = h.c;
-    let hd = h.d;
     Tracks {
         col: t.col + V0Row::BLOCK,
-        a: moved(a, ha),
-        b: moved(b, hb),
-        c: moved(c, hc),
-        d: moved(d, hd),
+        rows: t.rows.map_with(h, moved),
     }
 }
 
@@ -273,7 +218,7 @@ fn pass_heads(src: &[u8], size: Size, from: Tracks, heads: &[u32; 1024]) -> Trac
 }
 
 // Four rows side by side, if all of them are ready: where each is then.
-pub fn pass_rows(src: &[u8], size: Size, rows: Rows, heads: &[u32; 1024]) -> Rows
+pub fn pass_rows(src: &[u8], size: Size, rows: OfFour<Run>, heads: &[u32; 1024]) -> OfFour<Run>
     requires width_le_most_side { (size.width ≤ most_side) × Holds actions 1_024 heads.now }
     requires rows_placed { RowsPlaced size rows }
     ensures passed { RowsPassed src.now size rows result }

@@ -20,7 +20,7 @@ ghost use Rattle.v0_clean.specs.Rows.{RowsIn, RowsPlaced, or_after, in_order, fo
 
 pub mod heads;
 
-use heads::{Rows, pass_rows};
+use heads::{OfFour, pass_rows};
 use read_window::{BACK_BITS, BACK_BYTES, stands_within, state_at};
 use rules::{Answer, Refusal, Size, V0Head, V0Row};
 use v0_direct::run::Run;
@@ -219,7 +219,7 @@ fn check_one(src: &[u8], offsets: &[u32], size: Size, row: usize) -> Result<(), 
 }
 
 // The first fault of four rows from points on, in the order of the rows.
-fn check_in_order(src: &[u8], size: Size, row: usize, rows: Rows) -> Result<(), Fault>
+fn check_in_order(src: &[u8], size: Size, row: usize, rows: OfFour<Run>) -> Result<(), Fault>
     requires { RowsIn size row × RowsPlaced size rows }
     ensures { told result ≡ in_order src.now size row rows }
 {
@@ -240,7 +240,7 @@ fn check_four(
     requires { FourLent size row offsets.now × Holds actions 1_024 heads.now }
     ensures { told result ≡ rows_verdict src.now offsets.now size 4 row }
 {
-    let begun = Rows {
+    let begun = OfFour {
         a: begin_row(src, size, row, offsets[row]),
         b: begin_row(src, size, row + 1, offsets[row + 1]),
         c: begin_row(src, size, row + 2, offsets[row + 2]),

@@ -49,7 +49,7 @@ fn decode_freeing(
     filler
 }
 
-// Rows 0 and 1, or as many as there are: what the two_phase decoder begins with, without a map.
+// Rows 0 and 1, or as many as there are: what the two-phase decoder begins with, without a map.
 pub fn decode_v0_head(src: &[u8], offsets: &[u32], size: Size, out: &mut [u16])
     requires { FrameLent size offsets.now out.old [] }
     ensures { out.new ≡ first_rows V0.sample_kind src.now offsets.now size out.old }

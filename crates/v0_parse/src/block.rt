@@ -52,8 +52,7 @@ fn read_residuals(src: &[u8], head: V0Head) -> ReadBlock
     let lengths = row.lengths;
     let mut bits = row.bits;
     let mut residuals = [0; V0Row::BLOCK];
-    let mut j: usize = 0;
-    while j < 4 {
+    for j in 0..4 {
         let n = residual_length(lengths[j]);
         let four = read_four(src, bits, n);
         let values = four.value;
@@ -63,7 +62,6 @@ fn read_residuals(src: &[u8], head: V0Head) -> ReadBlock
         residuals[k + 2] = residual_of(values[2], n);
         residuals[k + 3] = residual_of(values[3], n);
         bits = four.bits;
-        j += 1;
     }
     let next = V0Row { lengths, bits };
     ReadBlock {

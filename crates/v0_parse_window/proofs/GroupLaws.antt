@@ -1,4 +1,5 @@
 -- Residuals by position are those that the record reads: first four of one length out of windows, then the block.
+use Rattle.std.specs.List.{list_all}
 use Rattle.std.proofs.Common.{◌≡◌, ℕ, ◌+◌, ◌-◌, ◌*◌, ◌/◌, ◌%◌, ◌^◌, ◌<◌, ◌≤◌, Bool, true, false, ◌&&◌, leb, ◌⊎◌, List, [], ◌∷◌, length, get_or, set, replicate, ℤ, pos, negsuc, sym, refl, ap, ◌∙◌, subst, ⊎_elim, arith, w32, to_z, of_z, leb-false, leb-true}
 use lib.Signed.{mag, le_z}
 use mir.ValLaws.{to_z-of_z}
@@ -90,27 +91,19 @@ pub short_from_0 : (l : ℤ) → le_z (pos 0) l ≡ true → le_z l (pos 15) ≡
 unfolding short_length
 short_from_0 l e = rw e
 
--- What is told of length j, which goes through 32 bits.
-pub short_at : (ls : List ℤ) (j : ℕ) {r : Bool} → mag (get_or ls j (pos 0)) < 2 ^ 31 → r ≡ short_length (to_z w32 (of_z w32 (get_or ls j (pos 0)))) → r ≡ short_length (get_or ls j (pos 0))
-short_at ls j fits e = rw (to_z-of_z w32 (get_or ls j (pos 0)) (record { sfits = fits })) at e
+and_true : (t : Bool) → t && true ≡ t
+and_true true = refl
+and_true false = refl
 
--- What the tests of four lengths decide, those before each having held.
-module _ (ls : List ℤ) where
-  pub short_0 : false ≡ short_length (get_or ls 0 (pos 0)) → false ≡ short ls
-  unfolding short
-  short_0 a = rw (← a)
-
-  pub short_1 : true ≡ short_length (get_or ls 0 (pos 0)) → false ≡ short_length (get_or ls 1 (pos 0)) → false ≡ short ls
-  unfolding short
-  short_1 a b = rw (← a, ← b)
-
-  pub short_2 : true ≡ short_length (get_or ls 0 (pos 0)) → true ≡ short_length (get_or ls 1 (pos 0)) → false ≡ short_length (get_or ls 2 (pos 0)) → false ≡ short ls
-  unfolding short
-  short_2 a b c = rw (← a, ← b, ← c)
-
-  pub short_3 : true ≡ short_length (get_or ls 0 (pos 0)) → true ≡ short_length (get_or ls 1 (pos 0)) → true ≡ short_length (get_or ls 2 (pos 0)) → short_length (get_or ls 3 (pos 0)) ≡ short ls
-  unfolding short
-  short_3 a b c = rw (← a, ← b, ← c)
+-- The test of all is that of each of the four in turn.
+pub short_all : (ls : List ℤ) → length ls ≡ 4 → list_all short_length ls ≡ short ls
+unfolding short
+short_all [] e = absurd (omega (arith, e))
+short_all (a ∷ []) e = absurd (omega (arith, e))
+short_all (a ∷ b ∷ []) e = absurd (omega (arith, e))
+short_all (a ∷ b ∷ c ∷ []) e = absurd (omega (arith, e))
+short_all (a ∷ b ∷ c ∷ d ∷ []) e = rw (and_true (short_length d))
+short_all (a ∷ b ∷ c ∷ d ∷ x ∷ ls) e = absurd (omega (arith, e))
 
 -- What follows if all four are short.
 pub short_is : (ls : List ℤ) → short ls ≡ true → Short ls

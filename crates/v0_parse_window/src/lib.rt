@@ -8,6 +8,7 @@ ghost use Rattle.v0_parse_window.specs.ByWindow.{residual, Room, length_in, Head
 ghost use Rattle.v0_parse.specs.Lengths.{Within, furthest};
 
 use read_fields::{field, power};
+use read_window::four::{Cut, four_at};
 use read_window::{SHORT_BITS, window};
 use v0_parse::block::residual_length;
 use v0_parse::head::step;
@@ -136,38 +137,7 @@ fn is_short(length: i32) -> bool
 pub fn are_short(lengths: [i32; 4]) -> bool
     ensures { result ≡ short lengths }
 {
-    if !is_short(lengths[0]) {
-        return false;
-    }
-    if !is_short(lengths[1]) {
-        return false;
-    }
-    if !is_short(lengths[2]) {
-        return false;
-    }
-    is_short(lengths[3])
-}
-
-// The residual that the low n bits of x are. A sum, a remainder and a difference, with no test of the sign.
-fn low(x: u64, n: u32) -> u16
-    requires { n ≤ 32 }
-    ensures { result ≡ residual n (x % 2 ^ n) }
-{
-    let top = power(n);
-    let half = top / 2;
-    ((std::num::wrapping_add_u64(x, half) % top + 4_294_967_296 - half) % 65_536) as u16
-}
-
-// Four residuals of n bits from bit q on, out of the window that ends with them: the last is its lowest n bits.
-pub fn four_at(src: &[u8], base: usize, q: usize, n: u32) -> [u16; 4]
-    requires { (n ≤ 16) × ((64 ≤ q) × ((q < 2 ^ 32) × (base + (q + 4 * n - 64) / 32 * 4 + 12 ≤ length src.now))) }
-    ensures { Group src.now base q n result }
-{
-    let d = window(src, base, q + 4 * n as usize - 64);
-    let c = d / power(n);
-    let b = c / power(n);
-    let a = b / power(n);
-    [low(a, n), low(b, n), low(c, n), low(d, n)]
+    lengths.iter().all(|length| is_short(*length))
 }
 
 // Four residuals of n bits, more than 16, from bit q on: two out of each of two windows.
@@ -178,10 +148,10 @@ pub fn four_long_at(src: &[u8], base: usize, q: usize, n: u32) -> [u16; 4]
     let b = window(src, base, q) / power(64 - 2 * n);
     let d = window(src, base, q + 2 * n as usize) / power(64 - 2 * n);
     [
-        low(b / power(n), n),
-        low(b, n),
-        low(d / power(n), n),
-        low(d, n),
+        Cut::low(b / power(n), n),
+        Cut::low(b, n),
+        Cut::low(d / power(n), n),
+        Cut::low(d, n),
     ]
 }
 

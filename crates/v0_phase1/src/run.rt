@@ -17,11 +17,10 @@ ghost use Rattle.v0_phase1.specs.RowLent.{RunLent};
 ghost use Rattle.v0_phase1.specs.Ran.{RanAt, Ran, row_at};
 
 use super::store_four;
+use read_window::four::four_at;
 use read_window::{BACK_BITS, BACK_BYTES, stands_within, state_at};
 use rules::V0Row;
-use v0_parse_window::{
-    BLOCK_BYTES, WindowHead, are_short, four_at, last_start, plan_of, window_head,
-};
+use v0_parse_window::{BLOCK_BYTES, WindowHead, are_short, last_start, plan_of, window_head};
 
 // A point in a row: a block's number, by which its direction is kept, the bit that it begins at, and the lengths before it. The direct
 // decoder's points go by columns, as its samples do: in one type with these, one of the two would count in the other's unit.

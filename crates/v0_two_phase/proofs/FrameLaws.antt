@@ -1,4 +1,4 @@
--- A whole frame: the steps one after another are the two_phase decoder.
+-- A whole frame: the steps one after another are the two-phase decoder.
 use mathlib.Core.Path.{◌≡◌, ap, ◌∙◌}
 use mathlib.Core.List.{List}
 use Prim.Native.Nat.{ℕ, ◌-◌, ◌*◌, ◌/◌}

@@ -19,51 +19,22 @@ pub struct References {
     pub averaging: bool,
 }
 
-// What a motion of 0 to 6 does: its columns' offset, 4 more than it is so that none is below 0, and whether it averages.
-#[derive(Clone, Copy)]
-struct Motion {
-    offset_plus_4: u8,
-    averages: bool,
+// The columns' offsets of motions 0 to 6, 4 more than they are so that none is below 0. A table of numbers alone is read where it lies.
+const OFFSETS_PLUS_4: [u8; 7] = [0, 2, 2, 4, 4, 6, 8];
+
+fn offset_plus_4(motion: u32) -> usize
+    requires { motion < 7 }
+    ensures { result ≡ offset_4 motion }
+{
+    usize::from(OFFSETS_PLUS_4[motion as usize])
 }
 
-const MOTIONS: [Motion; 7] = [
-    Motion {
-        offset_plus_4: 0,
-        averages: false,
-    },
-    Motion {
-        offset_plus_4: 2,
-        averages: false,
-    },
-    Motion {
-        offset_plus_4: 2,
-        averages: true,
-    },
-    Motion {
-        offset_plus_4: 4,
-        averages: false,
-    },
-    Motion {
-        offset_plus_4: 4,
-        averages: true,
-    },
-    Motion {
-        offset_plus_4: 6,
-        averages: false,
-    },
-    Motion {
-        offset_plus_4: 8,
-        averages: false,
-    },
-];
-
-// The table, held to the rules' two lists.
-fn motion_of(motion: u32) -> Motion
+// Whether a base of motion 0 to 6 is the average of two cells.
+fn averages(motion: u32) -> bool
     requires { motion < 7 }
-    ensures offset { result.offset_plus_4 ≡ offset_4 motion }
-    ensures averages { result.averages ≡ get_or motion_averages motion false }
+    ensures { result ≡ get_or motion_averages motion false }
 {
-    MOTIONS[motion as usize]
+    motion == 2 || motion == 4
 }
 
 // Where sample 0 or 1 refers to, 5 places on, so that none is below 0.
@@ -71,7 +42,7 @@ fn reference_plus_5(at: V2Place, motion: u32, i: usize) -> usize
     requires { ReferringAt at motion i }
     ensures { result ≡ reference_5 at.width at.row at.col motion i }
 {
-    let col = at.col + i + usize::from(motion_of(motion).offset_plus_4);
+    let col = at.col + i + offset_plus_4(motion);
     if (at.row + i) % 2 == 1 {
         (at.row - 2) * at.width + col + 1
     } else {
@@ -89,7 +60,7 @@ fn references_of(at: V2Place, motion: u32) -> References
     References {
         even,
         odd,
-        averaging: motion_of(motion).averages,
+        averaging: averages(motion),
     }
 }
 

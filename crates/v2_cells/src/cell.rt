@@ -33,10 +33,13 @@ impl Cell for u8 {
     }
 }
 
-// Sixteen cells to their place.
+// Sixteen cells to their place. `copy_from_slice` would be shorter, and misses the bar of speed: the compiler then takes the cells
+// apart, and makes four of the sixteen samples one by one.
 pub fn store<C: Cell>(frame: &mut [C], at: usize, cells: &[C; 16])
     requires { at + 16 ≤ length frame.old }
     ensures { frame.new ≡ sets frame.old at cells.now }
 {
-    frame[at..at + V2Row::BLOCK].copy_from_slice(cells);
+    for k in 0..V2Row::BLOCK {
+        frame[at + k] = cells[k];
+    }
 }

@@ -1,5 +1,7 @@
 -- Differences by position are those that the reader's state reads: the sixteen of a block out of four windows.
-use Rattle.std.proofs.Common.{◌≡◌, ℕ, zero, suc, ◌+◌, ◌-◌, ◌*◌, ◌/◌, ◌^◌, ◌<◌, ◌≤◌, min, true, ◌&&◌, leb, List, length, get_or, set, ℤ, sym, refl, ◌∙◌, arith, le-leb, leb-true}
+use Rattle.std.proofs.Common.{◌≡◌, ℕ, zero, suc, ◌+◌, ◌-◌, ◌*◌, ◌/◌, ◌^◌, ◌<◌, ◌≤◌, min, true, ◌&&◌, leb, List, length, get_or, set, ℤ, sym, refl, ◌∙◌, arith, leb-true}
+use Rattle.std.specs.List.{list_all}
+use Rattle.std.proofs.Common.{nat_le, Bool, false, [], ◌∷◌}
 use Rattle.rules.specs.Reader.{word_at, signed, read_signed}
 use Rattle.rules.specs.V2.{position, differences_from}
 use Rattle.rules.specs.declared.reader.Bits.{Bits}
@@ -29,9 +31,18 @@ short_is ls e =
     go a b c d (suc (suc (suc zero))) h = d
     go a b c d (suc (suc (suc (suc j)))) h = absurd (omega arith)
 
-pub short_last : (ls : List ℕ) → get_or ls 0 0 ≤ 16 → get_or ls 1 0 ≤ 16 → get_or ls 2 0 ≤ 16 → leb (get_or ls 3 0) 16 ≡ short ls
+and_true : (t : Bool) → t && true ≡ t
+and_true true = refl
+and_true false = refl
+
+pub short_all : (ls : List ℕ) → length ls ≡ 4 → list_all (λ n. nat_le n 16) ls ≡ short ls
 unfolding short
-short_last ls a b c = simp (le-leb _ _ a, le-leb _ _ b, le-leb _ _ c)
+short_all [] e = absurd (omega (arith, e))
+short_all (a ∷ []) e = absurd (omega (arith, e))
+short_all (a ∷ b ∷ []) e = absurd (omega (arith, e))
+short_all (a ∷ b ∷ c ∷ []) e = absurd (omega (arith, e))
+short_all (a ∷ b ∷ c ∷ d ∷ []) e = rw (and_true (nat_le d 16))
+short_all (a ∷ b ∷ c ∷ d ∷ x ∷ ls) e = absurd (omega (arith, e))
 
 -- ── As the state reads them ──
 

@@ -9,11 +9,10 @@ use Rattle.rules.specs.declared.reader.Taken.{Taken}
 use Rattle.read_bits.specs.Refilled.{Whole}
 use Rattle.read_bits.proofs.WholeLaws.{pair_whole}
 use Rattle.v2_differences.specs.Pairs.{signed_pair}
-use Rattle.v2_differences.specs.declared.Pair.{Pair}
 use Rattle.v2_differences.proofs.DifferenceLaws.{difference_more}
 
 pub pair_cut : (s : List ℕ) (n : ℕ) (b : Bits) (g : Got) (x y : ℤ) → n ≤ 16 → Whole s b (2 * n) g
-    → x ≡ signed n (g.value / 2 ^ n % 2 ^ n) → y ≡ signed n (g.value / 2 ^ 0 % 2 ^ n) → record { first = x; second = y; bits = g.bits } ≡ signed_pair s n b
+    → x ≡ signed n (g.value / 2 ^ n % 2 ^ n) → y ≡ signed n (g.value / 2 ^ 0 % 2 ^ n) → record { value = (x, y); bits = g.bits } ≡ signed_pair s n b
 unfolding signed_pair
 pair_cut s n b g x y l w ex ey =
     let m : min n 32 ≡ n = omega arith in
@@ -24,15 +23,15 @@ pair_cut s n b g x y l w ex ey =
     rw (read_signed_is s b n, read_signed_is s (read s b n).bits n, m, ex, ey, ← first, ← second, ← rest)
 
 pub pair_read : (s : List ℕ) (n : ℕ) (b : Bits) (g h : Taken ℤ) → g ≡ read_signed s b n → h ≡ read_signed s g.bits n
-    → record { first = g.value; second = h.value; bits = h.bits } ≡ signed_pair s n b
+    → record { value = (g.value, h.value); bits = h.bits } ≡ signed_pair s n b
 unfolding signed_pair
 pair_read s n b g h eg eh = rw (eh, eg)
 
 -- Differences k and k + 1, which have one length where k is even.
-pub pair_more : (s : List ℕ) (row : ℕ) (ls : List ℕ) (k : ℕ) (ds : List ℤ) (b : Bits) (x : Pair) (p q : ℕ) → k < 16 → k % 2 ≡ 0
+pub pair_more : (s : List ℕ) (row : ℕ) (ls : List ℕ) (k : ℕ) (ds : List ℤ) (b : Bits) (x : Taken (ℤ × ℤ)) (p q : ℕ) → k < 16 → k % 2 ≡ 0
     → x ≡ signed_pair s (get_or ls (k / 4) 0) b → p ≡ position row k → q ≡ position row (k + 1)
     → differences_from s row ls (16 - k) k (record { values = ds; bits = b })
-    ≡ differences_from s row ls (16 - (k + 2)) (k + 2) (record { values = set (set ds p x.first) q x.second; bits = x.bits })
+    ≡ differences_from s row ls (16 - (k + 2)) (k + 2) (record { values = set (set ds p x.value.0) q x.value.1; bits = x.bits })
 unfolding signed_pair
 pair_more s row ls k ds b x p q h even ex ep eq =
     let n : ℕ = get_or ls (k / 4) 0 in

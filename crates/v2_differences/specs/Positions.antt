@@ -1,5 +1,5 @@
 -- The positions of a block's differences, by row parity.
-use Rattle.std.specs.Prelude.{◌≡◌, ℕ, ◌+◌, List, set, ℤ, pos, slice_index, slice_index_or, slice_set}
+use Rattle.std.specs.Prelude.{ℕ, ◌+◌, List, set, ℤ, pos, slice_index, slice_index_or, slice_set}
 use Rattle.rules.specs.Frame.{tabulate}
 use Rattle.rules.specs.V2.{position}
 
@@ -10,11 +10,6 @@ row_positions row = tabulate 16 0 (position row)
 -- Those of even rows, and of odd ones.
 abbrev pub positions : List (List ℕ)
 positions = tabulate 2 0 row_positions
-
--- The positions of some row.
-pub record OfARow (ps : List ℕ) : Type 0 where
-  pub row : ℕ
-  pub are : ps ≡ row_positions row
 
 -- Four differences, from number k on, each stored at its position.
 abbrev pub stored_four : List ℤ → List ℕ → ℕ → List ℤ → List ℤ

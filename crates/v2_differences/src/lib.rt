@@ -1,98 +1,59 @@
 // What V2 reads of a block last: its differences, out of windows where the reader's record stands in the stream, else two by two.
 #![tactic(auto)]
 
-ghost use Rattle.std.specs.Prelude.{◌≡◌, ℕ, ◌+◌, ◌<◌, slice_index};
+ghost use Rattle.std.specs.Prelude.{◌≡◌, ℕ, ◌+◌, ◌<◌};
 ghost use Rattle.rules.specs.V2.{differences_from};
 ghost use Rattle.read_window.specs.Window.{Standing};
 ghost use Rattle.v2_differences.specs.Four.{Short, short};
 ghost use Rattle.v2_differences.specs.Pairs.{signed_pair};
-ghost use Rattle.v2_differences.specs.Positions.{row_positions, positions, OfARow, stored_four};
+ghost use Rattle.v2_differences.specs.Positions.{row_positions, stored_four};
 
+pub mod positions;
+
+use positions::Positions;
 use read_bits::{get_whole, read_signed};
 use read_fields::{field, signed_of};
 use read_window::four::four_at;
 use read_window::{BACK_BITS, BACK_BYTES, SHORT_BITS, stands_within, state_at};
-use rules::{Bits, V2Row};
-
-// Where the sixteen differences go in even rows, and in odd ones: docs/RULES.md, "V2", a block's differences.
-const POSITIONS: [[u8; 16]; 2] = [
-    [0, 2, 4, 6, 8, 10, 12, 14, 1, 3, 5, 7, 9, 11, 13, 15],
-    [1, 3, 5, 7, 9, 11, 13, 15, 0, 2, 4, 6, 8, 10, 12, 14],
-];
-
-// The table, held to the rule at all 32 entries.
-fn table() -> [[u8; 16]; 2]
-    ensures { result ≡ positions }
-{
-    POSITIONS
-}
-
-// A row's part of the table. It is made once for a row and lent to its blocks, since a constant that is read in a loop is laid on
-// the stack at each read.
-pub fn positions_of(row: usize) -> [u8; 16]
-    ensures { result ≡ row_positions row }
-{
-    let both = table();
-    both[row % 2]
-}
-
-// Where difference k goes, by a row's part of the table.
-fn entry(positions: &[u8; 16], k: usize) -> usize
-    requires { OfARow positions.now × (k < 16) }
-    ensures { (result ≡ slice_index positions.now k) × (result < 16) }
-{
-    positions[k] as usize
-}
-
-// Two differences, and the reader's state after them.
-#[derive(Clone, Copy)]
-struct Pair {
-    first: i32,
-    second: i32,
-    bits: Bits,
-}
+use rules::{Bits, Taken, V2Row};
 
 // Two differences of n bits, by one read where 32 bits hold both: a read costs more than a cut of its value.
-fn read_pair(src: &[u8], bits: Bits, n: u32) -> Pair
+fn read_pair(src: &[u8], bits: Bits, n: u32) -> Taken<(i32, i32)>
     ensures { result ≡ signed_pair src.now n bits }
 {
     if n <= 16 {
-        let g = get_whole(src, bits, 2 * n);
-        let v = g.value as u64;
-        let next = g.bits;
-        return Pair {
-            first: signed_of(field(v, n, n), n),
-            second: signed_of(field(v, 0, n), n),
-            bits: next,
+        let both = get_whole(src, bits, 2 * n);
+        let v = u64::from(both.value);
+        return Taken {
+            value: (signed_of(field(v, n, n), n), signed_of(field(v, 0, n), n)),
+            bits: both.bits,
         };
     }
-    let a = read_signed(src, bits, n);
-    let b = read_signed(src, a.bits, n);
-    let next = b.bits;
-    Pair {
-        first: a.value,
-        second: b.value,
-        bits: next,
+    let first = read_signed(src, bits, n);
+    let second = read_signed(src, first.bits, n);
+    Taken {
+        value: (first.value, second.value),
+        bits: second.bits,
     }
 }
 
 // The sixteen differences two by two, whatever the state and the lengths.
 fn by_pairs(
     src: &[u8],
-    positions: &[u8; 16],
+    positions: &Positions,
     lengths: [u32; 4],
     bits: Bits,
     values: &mut [i32; 16],
 ) -> Bits
-    requires { OfARow positions.now }
-    ensures { (row : ℕ) → positions.now ≡ row_positions row → record { values = values.exit.now; bits = result } ≡ differences_from src.now row lengths 16 0 (record { values = values.entry.now; bits = bits }) }
+    ensures { (row : ℕ) → positions.now.places ≡ row_positions row → record { values = values.exit.now; bits = result } ≡ differences_from src.now row lengths 16 0 (record { values = values.entry.now; bits = bits }) }
 {
     let mut at = bits;
     for half in 0..V2Row::BLOCK / 2 {
         let k = 2 * half;
         let pair = read_pair(src, at, lengths[k / 4]);
-        values[entry(positions, k)] = pair.first;
-        values[entry(positions, k + 1)] = pair.second;
+        let (first, second) = pair.value;
+        values[positions.entry(k)] = first;
+        values[positions.entry(k + 1)] = second;
         at = pair.bits;
     }
     at
@@ -104,27 +65,27 @@ const REACH: usize = 40;
 
 // Four differences, from number k on, each to the position that the table has for it, which is read right before its store: a
 // register holds it no longer than that.
-fn store_four(values: &mut [i32; 16], positions: &[u8; 16], k: usize, four: [i32; 4])
-    requires { OfARow positions.now × (k + 3 < 16) }
-    ensures { values.new ≡ stored_four values.old positions.now k four }
+fn store_four(values: &mut [i32; 16], positions: &Positions, k: usize, four: [i32; 4])
+    requires { k + 3 < 16 }
+    ensures { values.new ≡ stored_four values.old positions.now.places k four }
 {
-    values[entry(positions, k)] = four[0];
-    values[entry(positions, k + 1)] = four[1];
-    values[entry(positions, k + 2)] = four[2];
-    values[entry(positions, k + 3)] = four[3];
+    values[positions.entry(k)] = four[0];
+    values[positions.entry(k + 1)] = four[1];
+    values[positions.entry(k + 2)] = four[2];
+    values[positions.entry(k + 3)] = four[3];
 }
 
 // The sixteen differences out of four windows, where the state stands in the stream: no read asks whether a word is left, and the
 // state is made again at the end. Bits are counted from two words before the one fetched last.
 fn by_windows(
     src: &[u8],
-    positions: &[u8; 16],
+    positions: &Positions,
     lengths: [u32; 4],
     bits: Bits,
     values: &mut [i32; 16],
 ) -> Bits
-    requires { Standing src.now bits 40 × (Short lengths × OfARow positions.now) }
-    ensures { (row : ℕ) → positions.now ≡ row_positions row → record { values = values.exit.now; bits = result } ≡ differences_from src.now row lengths 16 0 (record { values = values.entry.now; bits = bits }) }
+    requires { Standing src.now bits 40 × Short lengths }
+    ensures { (row : ℕ) → positions.now.places ≡ row_positions row → record { values = values.exit.now; bits = result } ≡ differences_from src.now row lengths 16 0 (record { values = values.entry.now; bits = bits }) }
 {
     let base = bits.pos as usize - BACK_BYTES;
     let mut q = BACK_BITS - bits.count as usize;
@@ -141,28 +102,18 @@ fn by_windows(
 fn are_short(lengths: [u32; 4]) -> bool
     ensures { result ≡ short lengths }
 {
-    if SHORT_BITS < lengths[0] {
-        return false;
-    }
-    if SHORT_BITS < lengths[1] {
-        return false;
-    }
-    if SHORT_BITS < lengths[2] {
-        return false;
-    }
-    lengths[3] <= SHORT_BITS
+    lengths.iter().all(|length| *length <= SHORT_BITS)
 }
 
 // The sixteen differences, each at its position, for a row that has these.
 pub fn block_differences(
     src: &[u8],
-    positions: &[u8; 16],
+    positions: &Positions,
     lengths: [u32; 4],
     bits: Bits,
     values: &mut [i32; 16],
 ) -> Bits
-    requires { OfARow positions.now }
-    ensures { (row : ℕ) → positions.now ≡ row_positions row → record { values = values.exit.now; bits = result } ≡ differences_from src.now row lengths 16 0 (record { values = values.entry.now; bits = bits }) }
+    ensures { (row : ℕ) → positions.now.places ≡ row_positions row → record { values = values.exit.now; bits = result } ≡ differences_from src.now row lengths 16 0 (record { values = values.entry.now; bits = bits }) }
 {
     if are_short(lengths) && stands_within(src, bits, REACH) {
         return by_windows(src, positions, lengths, bits, values);

@@ -218,30 +218,6 @@ module _ (t : ℕ) (s : List ℕ) (h : V2Hdr) (w row : ℕ) (whole : Row) (f₀ 
         comes = comes_on r.comes (comes_on (comes_same _ (ap (λ (x : Row). x.blocks) block_next)) (comes_first _ new f' g' p ep ev ef eg));
       }
 
--- A refusal's number is not 0.
-pub refusal_some : (x : Refusal) → eqb (refusal_number x) 0 ≡ false
-refusal_some Refusal.TooLarge = refl
-refusal_some Refusal.TooSmall = refl
-refusal_some Refusal.ShortSamples = refl
-refusal_some Refusal.ShortMap = refl
-refusal_some Refusal.EarlyMotion = refl
-refusal_some Refusal.Outside = refl
-refusal_some Refusal.LongDifference = refl
-refusal_some Refusal.Overrun = refl
-refusal_some Refusal.TooBright = refl
-refusal_some Refusal.ShortOutput = refl
-refusal_some Refusal.BadCut = refl
-refusal_some Refusal.BadSteps = refl
-refusal_some Refusal.ShortRuns = refl
-refusal_some Refusal.BadMap = refl
-refusal_some Refusal.BadWidth = refl
-refusal_some Refusal.Marked = refl
-refusal_some Refusal.EarlyUpward = refl
-refusal_some Refusal.BadLength = refl
-refusal_some Refusal.MissingWord = refl
-refusal_some Refusal.OtherSample = refl
-refusal_some Refusal.LongStream = refl
-
 -- ── A frame ──
 
 -- A frame at a row.

@@ -12,6 +12,7 @@ use v2_cells::V2Place;
 use v2_cells::base::{bases, refusal_of};
 use v2_cells::samples::build;
 use v2_differences::block_differences;
+use v2_differences::positions::Positions;
 use v2_parse::header::top_of;
 use v2_parse::lengths::{TooLong, block_lengths};
 use v2_parse::motion::next_motion;
@@ -43,11 +44,11 @@ fn read_tail(
     state: V2Row,
     lengths: &mut [[u32; 2]; 3],
     bits: Bits,
-    positions: &[u8; 16],
+    positions: &Positions,
     base: &[u16; 16],
     samples: &mut [u16; 16],
 ) -> Result<Taken<V2Row>, Refused>
-    requires { (hdr.depth ≤ 16) × (Between 512 4_605 state.scale × (positions.now ≡ row_positions row)) }
+    requires { (hdr.depth ≤ 16) × (Between 512 4_605 state.scale × (positions.now.places ≡ row_positions row)) }
     ensures outcome { result ≡ block_result (tail src.now hdr row state lengths.old bits).outcome }
     ensures remembered { lengths.new ≡ (tail src.now hdr row state lengths.old bits).mode }
     ensures samples { samples.new ≡ written result (tabulate 16 0 (λ i. sample (top hdr) state.scale (get_or (tail src.now hdr row state lengths.old bits).differences i (pos 0)) (get_or base.now i 0))) samples.old }
@@ -72,10 +73,10 @@ pub fn read_block(
     bits: Bits,
     state: V2Row,
     lengths: &mut [[u32; 2]; 3],
-    positions: &[u8; 16],
+    positions: &Positions,
     samples: &mut [u16; 16],
 ) -> Result<Taken<V2Row>, Refused>
-    requires { Ready hdr (length out.now) at state × (positions.now ≡ row_positions at.row) }
+    requires { Ready hdr (length out.now) at state × (positions.now.places ≡ row_positions at.row) }
     ensures outcome { result ≡ block_result (read_block src.now hdr at.width at.row at.col bits state lengths.old).outcome }
     ensures remembered { lengths.new ≡ (read_block src.now hdr at.width at.row at.col bits state lengths.old).mode }
     ensures samples { samples.new ≡ written result (block_cells (sample_kind (top hdr)) out.now (read_block src.now hdr at.width at.row at.col bits state lengths.old).block) samples.old }

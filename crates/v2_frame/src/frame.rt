@@ -9,7 +9,7 @@ use rules::{Answer, Bits, Refusal, Size, V2Hdr, V2Row};
 use v2_cells::V2Place;
 use v2_cells::cell::store;
 use v2_cells::marks::mark_ended_block;
-use v2_differences::positions_of;
+use v2_differences::positions::Positions;
 use v2_parse::header::{align, read_header};
 
 // Decodes a row over the samples of `out`, and its marks over those of `map`. At a refusal the blocks before it stay written.
@@ -29,7 +29,7 @@ fn decode_row(
     ensures marks { map.new ≡ apply v2_marks (read_row src.now hdr size.width row bits).blocks map.old }
 {
     let width = size.width;
-    let positions = positions_of(row);
+    let positions = Positions::of(row);
     let mut bits = align(bits);
     let mut state = V2Row::fresh();
     let mut lengths = V2Row::mode(row);

@@ -36,9 +36,9 @@ fn next_length(src: &[u8], flag: u32, first: u32, bits: Bits) -> Got
     if flag == 3 {
         return read_bits::get(src, bits, 4);
     }
-    let less = std::num::wrapping_sub_u32(flag / 2, flag % 2);
+    let less = (flag / 2).wrapping_sub(flag % 2);
     Got {
-        value: std::num::wrapping_sub_u32(first, less),
+        value: first.wrapping_sub(less),
         bits,
     }
 }

@@ -5,9 +5,8 @@ use mathlib.Core.Path.{◌≡◌, refl, sym, ap, ap₂, ◌∙◌}
 use mathlib.Core.List.{List, [], ◌∷◌, ◌++◌, append-nil, append_assoc}
 use native.Mathlib.Omega.{arith}
 use native.Mathlib.Nat.{mod-lt, mul-le-mul_left}
-use lib.ListN.{length, get_or, take, drop, length-append}
-use lib.Seq.{sets, sets-eq, drop-drop, take_at}
-use borrow.Rule.Slice.PartMut.{put_mid}
+use lib.ListN.{length, get_or, set, take, length-append}
+use lib.Seq.{sets, take_at}
 use lib.Arith.{digits_lt}
 use lib.Count.{count_leading_zeros, leading_length}
 use lib.Dec.{lit<}
@@ -53,13 +52,14 @@ pair_bits a b n =
 pub pair_law : (n a b x : ℕ) → x ≡ a * 2 ^ n + b % 2 ^ n → bits_of (2 * n) x ≡ bits_of n a ++ bits_of n b
 pair_law n a b x e = rw e (pair_bits a b n)
 
--- A part that becomes another list of its length.
-part_set : (f ys : List ℕ) (at n : ℕ) → n ≡ length ys → at + length ys ≤ length f → put_mid at n f ys ≡ sets f at ys
-part_set f ys at n long room = rw (long, drop-drop (length ys) at f) (sym (append_assoc (take at f) ys (drop (at + length ys) f)) ∙ sym (sets-eq ys f at room))
-
--- Four bytes that become a word's.
-pub stored : (f : List ℕ) (at n x : ℕ) (ys : List ℕ) → n ≡ 4 → at + 4 ≤ length f → ys ≡ word_bytes x → put_mid at n f ys ≡ sets f at (word_bytes x)
-stored f at n x ys four room is = ap (put_mid at n f) is ∙ part_set f (word_bytes x) at n four room
+-- Four stores are a word's bytes.
+pub stored : (f : List ℕ) (at x a b c d : ℕ) → a ≡ x % 256 → b ≡ x / 256 % 256 → c ≡ x / 65_536 % 256 → d ≡ x / 16_777_216 % 256
+    → set (set (set (set f at a) (at + 1) b) (at + 2) c) (at + 3) d ≡ sets f at (word_bytes x)
+stored f at x a b c d p q r t =
+    let one : at + 1 ≡ suc at = omega arith in
+    let two : at + 2 ≡ suc (suc at) = omega arith in
+    let three : at + 3 ≡ suc (suc (suc at)) = omega arith in
+    rw (p, q, r, t, one, two, three)
 
 -- The two ways of a step: the bits wait, ..
 module _ (p : Pending) (n x : ℕ) where

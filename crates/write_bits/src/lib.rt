@@ -19,8 +19,12 @@ pub fn store(out: &mut [u8], at: usize, x: u32)
     requires { at + 4 ≤ length out.old }
     ensures { out.new ≡ sets out.old at (word_bytes x) }
 {
-    let end = at + 4;
-    out[at..end].copy_from_slice(&x.to_le_bytes());
+    // Four stores become one; before `copy_from_slice` addresses would be compared.
+    let bytes = x.to_le_bytes();
+    out[at] = bytes[0];
+    out[at + 1] = bytes[1];
+    out[at + 2] = bytes[2];
+    out[at + 3] = bytes[3];
 }
 
 // The bits that wait, and the low n bits of x after them.

@@ -8,6 +8,7 @@ use native.Mathlib.Decide.{dec_lt}
 use lib.Dec.{lit<}
 use lib.ListN.{length, get_or}
 use Rattle.rules.specs.Limits.{sample_bound}
+use Rattle.rules.specs.declared.answer.Size.{Size}
 use Rattle.rules.specs.V0.{order, sample_kind}
 use Rattle.rules.specs.V2.{position}
 use Rattle.rules.proofs.Cells.{All, nil, more}
@@ -22,18 +23,18 @@ use Rattle.write_frame.specs.declared.format.Format.TheVariants.{V0, V2}
 use Rattle.write_frame.specs.Frames.{BlockLent, Whole, Writable, size, exchanged, coding, unit, block_of, block_residuals, block_differences, block_numbers}
 use Rattle.write_frame.proofs.HalfLaws.{tabulate_get, tabulate_length}
 
-module _ (w h : ℕ) (f : List ℕ) where
-  pub unit_is : (format : Format) → (coding format w h f).unit ≡ unit format
+module _ (z : Size) (f : List ℕ) where
+  pub unit_is : (format : Format) → (coding format z f).unit ≡ unit format
   unfolding coding unit
   unit_is V0 = refl
   unit_is V2 = refl
 
-  pub width_is : (format : Format) → (coding format w h f).width ≡ w
+  pub width_is : (format : Format) → (coding format z f).width ≡ z.width
   unfolding coding
   width_is V0 = refl
   width_is V2 = refl
 
-  pub coding_unit : (format : Format) → Unit (coding format w h f).unit
+  pub coding_unit : (format : Format) → Unit (coding format z f).unit
   unfolding coding
   coding_unit V0 = word
   coding_unit V2 = line
@@ -54,11 +55,11 @@ in_lines format bits e = rw e (omega arith)
 
 -- A block's numbers, by the format.
 module _ (format : Format) (w h : ℕ) (f : List ℕ) (row col : ℕ) where
-  pub numbers_v0 : (d : List ℕ) → format ≡ V0 → d ≡ block_residuals w h f row col → d ≡ block_numbers format w h f row col
+  pub numbers_v0 : (d : List ℕ) → format ≡ V0 → d ≡ block_residuals (size w h) f row col → d ≡ block_numbers format (size w h) f row col
   unfolding coding
   numbers_v0 d e q = rw e q
 
-  pub numbers_v2 : (d : List ℕ) → format ≡ V2 → d ≡ block_differences w f row col → d ≡ block_numbers format w h f row col
+  pub numbers_v2 : (d : List ℕ) → format ≡ V2 → d ≡ block_differences w f row col → d ≡ block_numbers format (size w h) f row col
   unfolding coding
   numbers_v2 d e q = rw e q
 
@@ -68,11 +69,11 @@ unfolding unit
 whole_v0 w = record { blocks = λ e. absurd (let q : 4 ≡ 16 = ap unit e in omega arith) }
 
 -- A V2 block ends within its row.
-pub inner_block : {format : Format} {w h row col : ℕ} {f : List ℕ} → BlockLent w h row col f → Whole format w → format ≡ V2 → col + 16 ≤ w
+pub inner_block : {format : Format} {w h row col : ℕ} {f : List ℕ} → BlockLent (size w h) row col f → Whole format w → format ≡ V2 → col + 16 ≤ w
 inner_block x whole e = let b = whole.blocks e in omega arith
 
 -- Each block of a frame that can be written is lent.
-pub block_lent : {format : Format} {w h row col : ℕ} {f : List ℕ} → Writable format w h f → row < h → col < w → col % 16 ≡ 0 → BlockLent w h row col f × Whole format w
+pub block_lent : {format : Format} {w h row col : ℕ} {f : List ℕ} → Writable format (size w h) f → row < h → col < w → col % 16 ≡ 0 → BlockLent (size w h) row col f × Whole format w
 block_lent x r c e = (record { place = record { wide = x.wide; high = x.high; row_in = r; col_in = c }; block = e; whole = x.whole }, x.blocks)
 
 -- A block's numbers as a list, each of them short.
@@ -92,12 +93,12 @@ all_of_get : (f : List ℕ) → ((i : ℕ) → get_or f i 0 < sample_bound) → 
 all_of_get [] q = nil
 all_of_get (a ∷ f) q = more (q 0) (all_of_get f (λ i. q (suc i)))
 
-number_short : (format : Format) (w h : ℕ) (f : List ℕ) → All (λ a. a < sample_bound) f → (row col : ℕ) → row < h → (k : ℕ) → Short ((coding format w h f).number row col k)
+number_short : (format : Format) (w h : ℕ) (f : List ℕ) → All (λ a. a < sample_bound) f → (row col : ℕ) → row < h → (k : ℕ) → Short ((coding format (size w h) f).number row col k)
 unfolding coding
 number_short V0 w h f dim row col l k =
-    residual_short w h (exchanged w h f) (exchange_all sample_kind (λ a. a < sample_bound) (lit< tt) (size w h) dim) row l col (get_or order k 0)
+    residual_short w h (exchanged (size w h) f) (exchange_all sample_kind (λ a. a < sample_bound) (lit< tt) (size w h) dim) row l col (get_or order k 0)
 number_short V2 w h f dim row col l k = difference_short w h f dim row l col (position row k)
 
-pub block_short : (format : Format) (w h : ℕ) (f : List ℕ) (row col : ℕ) → Writable format w h f → row < h → (d : List ℕ) → d ≡ block_numbers format w h f row col → Shorts d
+pub block_short : (format : Format) (w h : ℕ) (f : List ℕ) (row col : ℕ) → Writable format (size w h) f → row < h → (d : List ℕ) → d ≡ block_numbers format (size w h) f row col → Shorts d
 block_short format w h f row col writable l d e =
-    rw e (listed_short (coding format w h f) row col (number_short format w h f (all_of_get f writable.dim) row col l))
+    rw e (listed_short (coding format (size w h) f) row col (number_short format w h f (all_of_get f writable.dim) row col l))

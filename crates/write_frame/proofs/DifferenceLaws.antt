@@ -11,7 +11,7 @@ use borrow.Author.Tests.{ltb-true, ltb-false, eqb-true, eqb-false}
 use Rattle.rules.specs.Frame.{tabulate}
 use Rattle.rules.specs.V2.{position}
 use Rattle.write_rules.specs.V2Writer.{base_of, difference}
-use Rattle.write_frame.specs.Frames.{BlockLent, block_differences, by_halves}
+use Rattle.write_frame.specs.Frames.{BlockLent, block_differences, by_halves, size}
 use Rattle.write_frame.proofs.PlaceLaws.{frame_small}
 use Rattle.write_frame.proofs.HalfLaws.{tabulate_get, tabulate_length, listed}
 use Rattle.rules.proofs.Tests.{by-test}
@@ -31,7 +31,7 @@ position_second row k l l' =
     (λ e. rw e (let q = eqb-true (row % 2) 0 e in omega arith))
     (λ e. rw e (let q = eqb-false (row % 2) 0 e in omega arith))
 
-module _ {w h row col : ℕ} {f : List ℕ} (b : BlockLent w h row col f) (inner : col + 16 ≤ w) where
+module _ {w h row col : ℕ} {f : List ℕ} (b : BlockLent (size w h) row col f) (inner : col + 16 ≤ w) where
   -- The block lies in the frame, and its places fit 64 bits.
   pub block_in : (row * w + col + 15 < length f) × (length f ≤ 268_435_456)
   block_in =

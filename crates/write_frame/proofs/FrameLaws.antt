@@ -130,28 +130,28 @@ header_kept f f' e = ap length e ∙ length-sets f 0 (bytes header_bits)
 
 module _ (w h : ℕ) (f : List ℕ) where
   -- V0's stream is its rows.
-  pub v0_rows : V0W.stream_for (size w h) f ≡ rows_bytes (coding V0 w h f) h 0
+  pub v0_rows : V0W.stream_for (size w h) f ≡ rows_bytes (coding V0 (size w h) f) h 0
   unfolding V0W.stream_for coding
   v0_rows = refl
 
-  pub v0_offsets : V0W.offsets_for (size w h) f ≡ offsets_from (coding V0 w h f) h 0 0
+  pub v0_offsets : V0W.offsets_for (size w h) f ≡ offsets_from (coding V0 (size w h) f) h 0 0
   unfolding V0W.offsets_for coding
   v0_offsets = refl
 
   -- V2's stream is its header and its rows.
-  v2_rows : V2W.stream_for (size w h) f ≡ bytes header_bits ++ rows_bytes (coding V2 w h f) h 0
+  v2_rows : V2W.stream_for (size w h) f ≡ bytes header_bits ++ rows_bytes (coding V2 (size w h) f) h 0
   unfolding V2W.stream_for coding
   v2_rows = refl
 
-  pub v2_length_is : length (V2W.stream_for (size w h) f) ≡ 16 + length (rows_bytes (coding V2 w h f) h 0)
+  pub v2_length_is : length (V2W.stream_for (size w h) f) ≡ 16 + length (rows_bytes (coding V2 (size w h) f) h 0)
   v2_length_is =
-      ap length v2_rows ∙ length-append (bytes header_bits) (rows_bytes (coding V2 w h f) h 0)
-      ∙ ap (λ n. n + length (rows_bytes (coding V2 w h f) h 0)) header_bytes
+      ap length v2_rows ∙ length-append (bytes header_bits) (rows_bytes (coding V2 (size w h) f) h 0)
+      ∙ ap (λ n. n + length (rows_bytes (coding V2 (size w h) f) h 0)) header_bytes
 
-  pub v2_wrote : (o o1 o2 : List ℕ) → o1 ≡ sets o 0 (bytes header_bits) → o2 ≡ sets o1 16 (rows_bytes (coding V2 w h f) h 0) → o2 ≡ sets o 0 (V2W.stream_for (size w h) f)
+  pub v2_wrote : (o o1 o2 : List ℕ) → o1 ≡ sets o 0 (bytes header_bits) → o2 ≡ sets o1 16 (rows_bytes (coding V2 (size w h) f) h 0) → o2 ≡ sets o 0 (V2W.stream_for (size w h) f)
   v2_wrote o o1 o2 a b =
       let sixteen : 0 + length (bytes header_bits) ≡ 16 = omega (arith, header_bytes) in
-      rw (v2_rows, sets_append o (bytes header_bits) (rows_bytes (coding V2 w h f) h 0) 0, sixteen, ← a) b
+      rw (v2_rows, sets_append o (bytes header_bits) (rows_bytes (coding V2 (size w h) f) h 0) 0, sixteen, ← a) b
 
 -- Neither start is inside a unit.
 pub v0_start : 0 % unit V0 ≡ 0

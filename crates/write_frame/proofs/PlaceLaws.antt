@@ -18,7 +18,7 @@ use Rattle.write_frame.specs.Frames.{BlockLent, size, exchanged}
 pub product : (a w : ℕ) → a ≤ 16_384 → w ≤ 16_384 → a * w ≤ 268_435_456
 product a w l m = mul-le-mul l m
 
-pub frame_small : {w h row col : ℕ} {f : List ℕ} → BlockLent w h row col f → length f ≤ 268_435_456
+pub frame_small : {w h row col : ℕ} {f : List ℕ} → BlockLent (size w h) row col f → length f ≤ 268_435_456
 frame_small {w} {h} b = omega (arith, product w h b.place.wide b.place.high)
 
 -- ── The starts ──
@@ -92,7 +92,7 @@ module _ (w h row col : ℕ) where
 
 -- What is read there is the exchanged frame's sample.
 pub sample_is : (w h row col : ℕ) (f : List ℕ) (p : ℕ) → row < h → col < w → length f ≡ w * h → p ≡ place_of (size w h) row col
-    → get_or f p 0 ≡ get_or (exchanged w h f) (row * w + col) 0
+    → get_or f p 0 ≡ get_or (exchanged (size w h) f) (row * w + col) 0
 sample_is w h row col f p r l e q = rw q (sym (exchange_place sample_kind (size w h) f e row col r l))
 
 -- ── An inner block ──

@@ -72,7 +72,7 @@ pub edge_on : (w : ℕ) (g : List ℕ) (row col : ℕ) (d : List ℕ) (k v : ℕ
 edge_on w g row col d k v l e r = finding_on (at_column w g row col) d k v l (e ∙ ap (residual w g row col) (order_is k l)) r
 
 -- An inner block by its halves.
-module _ {w h row col : ℕ} {f : List ℕ} (b : BlockLent w h row col f) (inner : col + 16 ≤ w) where
+module _ {w h row col : ℕ} {f : List ℕ} (b : BlockLent (size w h) row col f) (inner : col + 16 ≤ w) where
   -- Each half lies in the frame.
   pub evens_in : {evens : ℕ} → evens ≡ evens_start w row → (evens + col + 14 < length f) × (length f ≤ 268_435_456)
   evens_in {evens} e =
@@ -84,10 +84,10 @@ module _ {w h row col : ℕ} {f : List ℕ} (b : BlockLent w h row col f) (inner
       let s : odds + col + 1 + 14 ≡ odds_start (size w h) row + (col + 15) = omega arith in
       (omega (arith, s, odds_place w h row (col + 15) (omega arith) (omega arith), place_in w h row (col + 15) b.place.row_in (omega arith)), frame_small b)
 
-module _ {w h row col : ℕ} {f : List ℕ} (b : BlockLent w h row col f) (inner : col + 16 ≤ w) {evens odds : ℕ}
+module _ {w h row col : ℕ} {f : List ℕ} (b : BlockLent (size w h) row col f) (inner : col + 16 ≤ w) {evens odds : ℕ}
     (evens_are : evens ≡ evens_start w row) (odds_are : odds ≡ odds_start (size w h) row) where
   abbrev g : List ℕ
-  g = exchanged w h f
+  g = exchanged (size w h) f
 
   abbrev first : ℕ
   first = evens + col
@@ -118,7 +118,7 @@ module _ {w h row col : ℕ} {f : List ℕ} (b : BlockLent w h row col f) (inner
       ∙ ap (λ i. get_or g i 0) t
 
   pub inner_law : (even odd : ℕ) (d : List ℕ) → even ≡ cond (eqb col 0) 128 (get_or f (first - 2) 0) → odd ≡ cond (eqb col 0) 128 (get_or f (second - 2) 0)
-      → d ≡ tabulate 16 0 (by_halves f first second even odd) → d ≡ block_residuals w h f row col
+      → d ≡ tabulate 16 0 (by_halves f first second even odd) → d ≡ block_residuals (size w h) f row col
   inner_law even odd d p q e =
       listed (at_column w g row col) d (ap length e ∙ tabulate_length (by_halves f first second even odd) 16 0)
       (λ k l. ap (λ x. get_or x k 0) e ∙ tabulate_get (by_halves f first second even odd) 16 0 k l ∙ ap (by_halves f first second even odd) (zero-add k) ∙ each k l)

@@ -13,62 +13,62 @@ abbrev pub size : ℕ → ℕ → Size
 size width height = record { width = width; height = height }
 
 -- A row and a column that the frame has, within the limits.
-pub record InFrame (width height row col : ℕ) : Type 0 where
-  pub wide : width ≤ most_side
-  pub high : height ≤ most_side
-  pub row_in : row < height
-  pub col_in : col < width
+pub record InFrame (z : Size) (row col : ℕ) : Type 0 where
+  pub wide : z.width ≤ most_side
+  pub high : z.height ≤ most_side
+  pub row_in : row < z.height
+  pub col_in : col < z.width
 
 -- The block at a column of a row, where all of the frame is lent.
-pub record BlockLent (width height row col : ℕ) (f : List ℕ) : Type 0 where
-  pub place : InFrame width height row col
+pub record BlockLent (z : Size) (row col : ℕ) (f : List ℕ) : Type 0 where
+  pub place : InFrame z row col
   pub block : col % 16 ≡ 0
-  pub whole : length f ≡ width * height
+  pub whole : length f ≡ z.width * z.height
 
 -- In V2 every block ends within its row.
 pub record Whole (format : Format) (width : ℕ) : Type 0 where
   pub blocks : format ≡ V2 → width % 16 ≡ 0
 
 -- A frame that can be written: it is within the limits, all of it is lent, and no sample is above 16,383.
-pub record Writable (format : Format) (width height : ℕ) (f : List ℕ) : Type 0 where
-  pub wide : width ≤ most_side
-  pub high : height ≤ most_side
-  pub blocks : Whole format width
-  pub whole : length f ≡ width * height
+pub record Writable (format : Format) (z : Size) (f : List ℕ) : Type 0 where
+  pub wide : z.width ≤ most_side
+  pub high : z.height ≤ most_side
+  pub blocks : Whole format z.width
+  pub whole : length f ≡ z.width * z.height
   pub dim : (i : ℕ) → get_or f i 0 < sample_bound
 
 -- What V0 writes: the samples after the exchange of places.
-abbrev pub exchanged : ℕ → ℕ → List ℕ → List ℕ
-exchanged width height f = exchange sample_kind (size width height) f
+abbrev pub exchanged : Size → List ℕ → List ℕ
+exchanged z f = exchange sample_kind z f
 
 -- What a frame's blocks are written from in each format, and the bytes that its rows are padded to.
-unfoldable pub coding : Format → ℕ → ℕ → List ℕ → Coding
-coding V0 width height f = residuals width (exchanged width height f)
-coding V2 width height f = differences width f
+unfoldable pub coding : Format → Size → List ℕ → Coding
+coding V0 z f = residuals z.width (exchanged z f)
+coding V2 z f = differences z.width f
 
 unfoldable pub unit : Format → ℕ
 unit V0 = 4
 unit V2 = 16
 
 -- The bytes of a row, and of all.
-abbrev pub row_of : Format → ℕ → ℕ → List ℕ → ℕ → List ℕ
-row_of format width height f row = row_bytes (coding format width height f) row
+abbrev pub row_of : Format → Size → List ℕ → ℕ → List ℕ
+row_of format z f row = row_bytes (coding format z f) row
 
-abbrev pub rows_of : Format → ℕ → ℕ → List ℕ → List ℕ
-rows_of format width height f = rows_bytes (coding format width height f) height 0
+abbrev pub rows_of : Format → Size → List ℕ → List ℕ
+rows_of format z f = rows_bytes (coding format z f) z.height 0
 
 -- The numbers of the block at a column of a row, in the order of the stream.
 abbrev pub block_of : Coding → ℕ → ℕ → List ℕ
 block_of x row col = tabulate 16 0 (x.number row col)
 
-abbrev pub block_residuals : ℕ → ℕ → List ℕ → ℕ → ℕ → List ℕ
-block_residuals width height f row col = block_of (residuals width (exchanged width height f)) row col
+abbrev pub block_residuals : Size → List ℕ → ℕ → ℕ → List ℕ
+block_residuals z f row col = block_of (residuals z.width (exchanged z f)) row col
 
 abbrev pub block_differences : ℕ → List ℕ → ℕ → ℕ → List ℕ
 block_differences width f row col = block_of (differences width f) row col
 
-abbrev pub block_numbers : Format → ℕ → ℕ → List ℕ → ℕ → ℕ → List ℕ
-block_numbers format width height f row col = block_of (coding format width height f) row col
+abbrev pub block_numbers : Format → Size → List ℕ → ℕ → ℕ → List ℕ
+block_numbers format z f row col = block_of (coding format z f) row col
 
 -- The same where each half begins at a place, its samples two places apart, and has one prediction.
 abbrev pub by_halves : List ℕ → ℕ → ℕ → ℕ → ℕ → ℕ → ℕ

@@ -4,7 +4,7 @@ ghost use Rattle.write_frame.specs.Frames.{BlockLent, Whole, unit, block_numbers
 
 use super::differences::differences_of;
 use super::residuals::residuals_of;
-use rules::V2Hdr;
+use rules::{Size, V2Hdr};
 
 #[derive(Clone, Copy)]
 pub enum Format {
@@ -26,19 +26,12 @@ pub fn unit_of(format: Format) -> usize
 }
 
 // The numbers of the block at a column of a row, in the order of the stream.
-pub fn numbers_of(
-    samples: &[u16],
-    format: Format,
-    width: usize,
-    height: usize,
-    row: usize,
-    col: usize,
-) -> [u16; 16]
-    requires { BlockLent width height row col samples.now × Whole format width }
-    ensures { result ≡ block_numbers format width height samples.now row col }
+pub fn numbers_of(samples: &[u16], size: Size, format: Format, row: usize, col: usize) -> [u16; 16]
+    requires { BlockLent size row col samples.now × Whole format size.width }
+    ensures { result ≡ block_numbers format size samples.now row col }
 {
     match format {
-        Format::V0 => residuals_of(samples, width, height, row, col),
-        Format::V2 => differences_of(samples, width, height, row, col),
+        Format::V0 => residuals_of(samples, size, row, col),
+        Format::V2 => differences_of(samples, size, row, col),
     }
 }

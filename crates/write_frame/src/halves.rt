@@ -10,7 +10,7 @@ use rules::V0Row;
 pub fn less(a: u16, p: u16) -> u16
     ensures { result ≡ (a + 65_536 - p) % 65_536 }
 {
-    ((a as u32 + 65_536 - p as u32) % 65_536) as u16
+    a.wrapping_sub(p)
 }
 
 // What a half is predicted from: in a row's first block a constant, else the sample two places before its first.
@@ -24,15 +24,8 @@ pub fn prediction(samples: &[u16], constant: u16, col: usize, first: usize) -> u
     samples[first - 2]
 }
 
-// Where the half of sample k begins.
-fn half_start(k: usize, first: usize, second: usize) -> usize
-    ensures { result ≡ cond (ltb k 8) first second }
-{
-    if k < 8 { first } else { second }
-}
-
-// What the half of sample k is predicted from.
-fn half_prediction(k: usize, first: u16, second: u16) -> u16
+// What belongs to the half of sample k.
+fn of_half<T: Copy>(k: usize, first: T, second: T) -> T
     ensures { result ≡ cond (ltb k 8) first second }
 {
     if k < 8 { first } else { second }
@@ -45,8 +38,9 @@ pub fn halves(samples: &[u16], first: usize, second: usize, p: u16, q: u16) -> [
 {
     let mut d = [0u16; V0Row::BLOCK];
     for k in 0..V0Row::BLOCK {
-        let a = samples[half_start(k, first, second) + 2 * (k % 8)];
-        d[k] = less(a, half_prediction(k, p, q));
+        let start = of_half(k, first, second);
+        let prediction = of_half(k, p, q);
+        d[k] = less(samples[start + 2 * (k % 8)], prediction);
     }
     d
 }

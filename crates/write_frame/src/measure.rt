@@ -3,11 +3,11 @@ ghost use Rattle.std.specs.Prelude.{◌≡◌, ◌+◌, ◌*◌, ◌/◌, ◌≤
 ghost use Rattle.write_rules.specs.Writer as V0;
 ghost use Rattle.write_rules.specs.V2Writer as V2;
 ghost use Rattle.write_rules.specs.Writer.{gap};
-ghost use Rattle.write_frame.specs.Frames.{Writable, size, unit, row_of, rows_of};
+ghost use Rattle.write_frame.specs.Frames.{Writable, unit, row_of, rows_of};
 ghost use Rattle.write_frame.specs.declared.format.Format.TheVariants as Variants;
 
 use super::format::{Format, HEADER_BYTES, numbers_of};
-use rules::V0Row;
+use rules::{Size, V0Row};
 use write_bits::block_length;
 
 // The bytes of so many bits, padded to whole units.
@@ -22,42 +22,42 @@ fn in_units(format: Format, bits: usize) -> usize
 }
 
 // The bytes of a row.
-fn row_length(samples: &[u16], format: Format, width: usize, height: usize, row: usize) -> usize
-    requires { Writable format width height samples.now × (row < height) }
-    ensures { result ≡ length (row_of format width height samples.now row) }
+fn row_length(samples: &[u16], size: Size, format: Format, row: usize) -> usize
+    requires { Writable format size samples.now × (row < size.height) }
+    ensures { result ≡ length (row_of format size samples.now row) }
 {
     let mut bits: usize = 0;
-    for block in 0..V0Row::blocks_in(width) {
-        let d = numbers_of(samples, format, width, height, row, block * V0Row::BLOCK);
+    for block in 0..V0Row::blocks_in(size.width) {
+        let d = numbers_of(samples, size, format, row, block * V0Row::BLOCK);
         bits += block_length(d);
     }
     in_units(format, bits)
 }
 
 // The bytes of a frame's rows.
-fn rows_length(samples: &[u16], format: Format, width: usize, height: usize) -> usize
-    requires { Writable format width height samples.now }
-    ensures { result ≡ length (rows_of format width height samples.now) }
+fn rows_length(samples: &[u16], size: Size, format: Format) -> usize
+    requires { Writable format size samples.now }
+    ensures { result ≡ length (rows_of format size samples.now) }
 {
     let mut bytes: usize = 0;
-    for row in 0..height {
-        bytes += row_length(samples, format, width, height, row);
+    for row in 0..size.height {
+        bytes += row_length(samples, size, format, row);
     }
     bytes
 }
 
 // The bytes of a V0 stream.
-pub fn v0_length(samples: &[u16], width: usize, height: usize) -> usize
-    requires { Writable Variants.V0 width height samples.now }
-    ensures { result ≡ length (V0.stream_for (size width height) samples.now) }
+pub fn v0_length(samples: &[u16], size: Size) -> usize
+    requires { Writable Variants.V0 size samples.now }
+    ensures { result ≡ length (V0.stream_for size samples.now) }
 {
-    rows_length(samples, Format::V0, width, height)
+    rows_length(samples, size, Format::V0)
 }
 
 // The bytes of a V2 stream: its header, and the rows.
-pub fn v2_length(samples: &[u16], width: usize, height: usize) -> usize
-    requires { Writable Variants.V2 width height samples.now }
-    ensures { result ≡ length (V2.stream_for (size width height) samples.now) }
+pub fn v2_length(samples: &[u16], size: Size) -> usize
+    requires { Writable Variants.V2 size samples.now }
+    ensures { result ≡ length (V2.stream_for size samples.now) }
 {
-    HEADER_BYTES + rows_length(samples, Format::V2, width, height)
+    HEADER_BYTES + rows_length(samples, size, Format::V2)
 }

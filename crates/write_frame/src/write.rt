@@ -4,11 +4,11 @@ ghost use Rattle.std.proofs.lemmas.List.Edits.{sets};
 ghost use Rattle.write_rules.specs.Writer as V0;
 ghost use Rattle.write_rules.specs.V2Writer as V2;
 ghost use Rattle.write_rules.specs.Writer.{bytes, offsets_from};
-ghost use Rattle.write_frame.specs.Frames.{Writable, size, unit, coding, row_of, rows_of};
+ghost use Rattle.write_frame.specs.Frames.{Writable, unit, coding, row_of, rows_of};
 ghost use Rattle.write_frame.specs.declared.format.Format.TheVariants as Variants;
 
 use super::format::{Format, HEADER_BYTES, numbers_of, unit_of};
-use rules::V0Row;
+use rules::{Size, V0Row};
 use write_bits::{Pending, finish, put_block, store};
 
 // ── Rows ──
@@ -18,17 +18,16 @@ fn write_row(
     out: &mut [u8],
     at: usize,
     samples: &[u16],
+    size: Size,
     format: Format,
-    width: usize,
-    height: usize,
     row: usize,
 ) -> usize
-    requires { Writable format width height samples.now × (row < height) × (at % unit format ≡ 0) × (at + length (row_of format width height samples.now row) ≤ length out.old) }
-    ensures { (result ≡ at + length (row_of format width height samples.now row)) × (out.new ≡ sets out.old at (row_of format width height samples.now row)) }
+    requires { Writable format size samples.now × (row < size.height) × (at % unit format ≡ 0) × (at + length (row_of format size samples.now row) ≤ length out.old) }
+    ensures { (result ≡ at + length (row_of format size samples.now row)) × (out.new ≡ sets out.old at (row_of format size samples.now row)) }
 {
     let mut p = Pending::none(at);
-    for block in 0..V0Row::blocks_in(width) {
-        let d = numbers_of(samples, format, width, height, row, block * V0Row::BLOCK);
+    for block in 0..V0Row::blocks_in(size.width) {
+        let d = numbers_of(samples, size, format, row, block * V0Row::BLOCK);
         p = put_block(out, p, d);
     }
     let q = finish(out, p, unit_of(format));
@@ -51,30 +50,29 @@ fn write_rows(
     start: usize,
     offsets: &mut [u32],
     samples: &[u16],
+    size: Size,
     format: Format,
-    width: usize,
-    height: usize,
 )
-    requires { Writable format width height samples.now × (start % unit format ≡ 0) × (start ≤ 16) × (start + length (rows_of format width height samples.now) ≤ length out.old) }
-    ensures stream { out.new ≡ sets out.old start (rows_of format width height samples.now) }
-    ensures offsets { offsets.new ≡ sets offsets.old 0 (offsets_from (coding format width height samples.now) height 0 start) }
+    requires { Writable format size samples.now × (start % unit format ≡ 0) × (start ≤ 16) × (start + length (rows_of format size samples.now) ≤ length out.old) }
+    ensures stream { out.new ≡ sets out.old start (rows_of format size samples.now) }
+    ensures offsets { offsets.new ≡ sets offsets.old 0 (offsets_from (coding format size samples.now) size.height 0 start) }
 {
     let mut at = start;
-    for row in 0..height {
+    for row in 0..size.height {
         put_offset(offsets, row, at);
-        at = write_row(out, at, samples, format, width, height, row);
+        at = write_row(out, at, samples, size, format, row);
     }
 }
 
 // ── Frames ──
 
 // Writes a V0 frame: the stream from byte 0 on, and its offsets.
-pub fn write_v0(out: &mut [u8], offsets: &mut [u32], samples: &[u16], width: usize, height: usize)
-    requires { Writable Variants.V0 width height samples.now × (length (V0.stream_for (size width height) samples.now) ≤ length out.old) }
-    ensures stream { out.new ≡ sets out.old 0 (V0.stream_for (size width height) samples.now) }
-    ensures offsets { offsets.new ≡ sets offsets.old 0 (V0.offsets_for (size width height) samples.now) }
+pub fn write_v0(out: &mut [u8], offsets: &mut [u32], samples: &[u16], size: Size)
+    requires { Writable Variants.V0 size samples.now × (length (V0.stream_for size samples.now) ≤ length out.old) }
+    ensures stream { out.new ≡ sets out.old 0 (V0.stream_for size samples.now) }
+    ensures offsets { offsets.new ≡ sets offsets.old 0 (V0.offsets_for size samples.now) }
 {
-    write_rows(out, 0, offsets, samples, Format::V0, width, height);
+    write_rows(out, 0, offsets, samples, size, Format::V0);
 }
 
 // V2's header, four words: depth 14 less 1, options 7, and all else 0.
@@ -89,9 +87,9 @@ fn write_header(out: &mut [u8])
 }
 
 // Writes a V2 frame: the header, and the rows.
-pub fn write_v2(out: &mut [u8], samples: &[u16], width: usize, height: usize)
-    requires { Writable Variants.V2 width height samples.now × (length (V2.stream_for (size width height) samples.now) ≤ length out.old) }
-    ensures { out.new ≡ sets out.old 0 (V2.stream_for (size width height) samples.now) }
+pub fn write_v2(out: &mut [u8], samples: &[u16], size: Size)
+    requires { Writable Variants.V2 size samples.now × (length (V2.stream_for size samples.now) ≤ length out.old) }
+    ensures { out.new ≡ sets out.old 0 (V2.stream_for size samples.now) }
 {
     let mut no_offsets = [0u32; 0];
     write_header(out);
@@ -100,8 +98,7 @@ pub fn write_v2(out: &mut [u8], samples: &[u16], width: usize, height: usize)
         HEADER_BYTES,
         &mut no_offsets,
         samples,
+        size,
         Format::V2,
-        width,
-        height,
     );
 }

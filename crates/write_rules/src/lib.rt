@@ -2,11 +2,12 @@
 #![tactic(auto)]
 
 ghost use Rattle.std.specs.Prelude.{◌≡◌};
+ghost use Rattle.rules.specs.Refusals.{refusal_number};
 ghost use Rattle.write_rules.specs.Pending.{nothing};
 ghost use Rattle.write_rules.specs.Calls.{refused, written, too_bright};
 
 use frame_map::greatest;
-use rules::Answer;
+use rules::{Answer, Refusal};
 
 // Bits that wait for their word: the low `count` bits of `word`, fewer than 32. `pos` is the byte position where the word will
 // stand.
@@ -39,22 +40,23 @@ pub struct Written {
 }
 
 impl Written {
-    pub fn refused(number: u32) -> Written
-        ensures { result ≡ refused number }
-    {
-        let answer = Answer {
-            number,
-            row: 0,
-            filler: 0,
-        };
-        Written { answer, length: 0 }
-    }
-
     pub fn done(length: u64) -> Written
         ensures { result ≡ written length }
     {
         let answer = Answer::done();
         Written { answer, length }
+    }
+}
+
+// A refusal's answer, with no length.
+impl From<Refusal> for Written {
+    ghost from_gives = { λ refusal written. written ≡ refused (refusal_number refusal) };
+
+    fn from(refusal: Refusal) -> Written {
+        Written {
+            answer: Answer::from(refusal),
+            length: 0,
+        }
     }
 }
 

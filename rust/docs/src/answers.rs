@@ -40,11 +40,16 @@ fn parts(line: &str) -> Option<[&str; 3]> {
     parts.try_into().ok()
 }
 
-/// The constants of a struct in Rattle that are numbers of 32 bits, as `number NAME`.
-pub fn constants(rattle: &str) -> Vec<String> {
-    let lines = rattle.lines().filter_map(|line| line.trim().strip_prefix("pub const ")?.strip_suffix(';'));
-    let parted = lines.filter_map(|line| line.split_once(": u32 = "));
-    parted.map(|(name, number)| format!("{number} {name}")).collect()
+/// The variants of an enum in Rattle that have numbers, as `number NAME`.
+pub fn variants(rattle: &str) -> Vec<String> {
+    let lines = rattle.lines().filter_map(|line| line.trim().strip_suffix(','));
+    let parted = lines.filter_map(|line| line.split_once(" = "));
+    let named = parted.filter(|(name, number)| is_name(name) && number.parse::<u32>().is_ok());
+    named.map(|(name, number)| format!("{number} {}", in_capitals(name))).collect()
+}
+
+fn is_name(word: &str) -> bool {
+    word.starts_with(|c: char| c.is_uppercase()) && word.chars().all(char::is_alphanumeric)
 }
 
 /// The same of the table with these two columns; done has no name.
@@ -129,9 +134,8 @@ mod tests {
 
     #[test]
     fn names_and_texts() {
-        let rattle =
-            "impl Answer {\n    // Too large.\n    pub const TOO_LARGE: u32 = 1;\n    pub const MOST: usize = 9;\n}";
-        assert_eq!(constants(rattle), ["1 TOO_LARGE"]);
+        let rattle = "pub enum Refusal {\n    // Too large.\n    TooLarge = 1,\n}\n\npub const MOST: usize = 9;\n\nfn f() {\n    a = 1,\n}";
+        assert_eq!(variants(rattle), ["1 TOO_LARGE"]);
         assert_eq!(names(RULES), ["1 TOO_LARGE", "2 SHORT"]);
         let rust =
             "refusals! {\n    /// | 3 | x |\n    1 TooLarge \"x\";\n    2 Short { row } \"{row} y\";\n}\n0 => None,";

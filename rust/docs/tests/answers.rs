@@ -1,7 +1,7 @@
-//! The answers are listed in docs/RULES.md; whatever else lists them says the same. A new number is added there, as a constant
-//! of `Answer` in crates/rules, and wherever this test then fails.
+//! The answers are listed in docs/RULES.md; whatever else lists them says the same. A new number is added there, as a refusal
+//! in crates/rules, and wherever this test then fails.
 
-use docs::answers::{Listed, constants, defines, names, of_c, of_tables, refusals};
+use docs::answers::{Listed, defines, names, of_c, of_tables, refusals, variants};
 use docs::{hold, text};
 
 /// The list, done first.
@@ -13,9 +13,9 @@ fn rules() -> Vec<Listed> {
 }
 
 #[test]
-fn each_number_is_a_constant_of_its_name() {
+fn each_number_is_a_refusal_of_its_name() {
     let (source, rules) = ("crates/rules/src/answer.rt", text("docs/RULES.md"));
-    hold(&constants(&text(source)), "docs/RULES.md", &names(&rules));
+    hold(&variants(&text(source)), "docs/RULES.md", &names(&rules));
 }
 
 #[test]

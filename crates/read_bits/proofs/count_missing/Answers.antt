@@ -1,10 +1,7 @@
--- One more, unless the count is the greatest.
-use Rattle.std.proofs.Common.{sym, arith, rules}
-use Rattle.rules.proofs.ReaderLaws.{counted_missing, counted_held}
+-- At the greatest count it stays.
+use Rattle.rules.specs.Reader.{counted}
 use Rattle.read_bits.proofs.count_missing.Goals as goal
 
-pub returns-then-filler-lt-MOST_FILLER : goal.returns-then-filler-lt-MOST_FILLER
-returns-then-filler-lt-MOST_FILLER c = sym (counted_missing _ (omega arith))
-
 pub returns : goal.returns
-returns c = sym (counted_held _ (search rules) (omega arith))
+unfolding counted
+returns c = c.saturating_add.ensures

@@ -6,7 +6,7 @@ use Rattle.read_bits.proofs.RefilledLaws.{enough_held, enough_next}
 use Rattle.read_bits.proofs.refill.Goals as goal
 
 pub returns-then-k-have : goal.returns-then-k-have
-returns-then-k-have c = enough_held _ c.args.bits _ _ c.requires c.held_bits-have.ensures (omega arith)
+returns-then-k-have c = rw c.from.ensures (enough_held _ c.args.bits _ _ c.requires c.held_bits-have.ensures (omega arith))
 
 pub returns-in-Some : goal.returns-in-Some
 returns-in-Some c = enough_next _ c.args.bits _ _ c.requires c.held_bits-have.ensures (Some c.in-Some.word) _ _ (omega arith) (sym c.in-Some.is ∙ c.fetch.ensures) (search rules)

@@ -19,4 +19,4 @@ returns-then-n-more-2 c = let a = c.args in sym (stands_late a.src.now a.bits a.
 
 pub returns : goal.returns
 returns c = let a = c.args in
-    ap (λ w. eqb w a.bits.word) c.word_there.ensures.0 ∙ sym (stands_word a.src.now a.bits a.more (omega arith) (omega arith) (omega arith))
+    rw c.from.ensures (ap (λ w. eqb w a.bits.word) c.word_there.ensures.0 ∙ sym (stands_word a.src.now a.bits a.more (omega arith) (omega arith) (omega arith)))

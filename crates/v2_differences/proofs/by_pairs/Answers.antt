@@ -14,7 +14,7 @@ loop-half-preserved c =
     let x = c.read_pair-pair.result in
     let k = 2 * l.half in
     let next : 2 * (l.half + 1) ≡ k + 2 = omega arith in
-    λ row e. simp (to_z-of_z w32 x.first (search rules), to_z-of_z w32 x.second (search rules), next)
+    λ row e. simp (to_z-of_z w32 x.value.0 (search rules), to_z-of_z w32 x.value.1 (search rules), next)
     (l.invariant row e ∙ pair_more _ row _ k _ _ x _ _ (omega arith) (omega arith) c.read_pair-pair.ensures (c.entry.ensures.0 ∙ (position_at row _ _ e (omega arith)).0) (c.entry-in-loop-half.ensures.0 ∙ (position_at row _ _ e (omega arith)).0))
 
 pub returns : goal.returns

@@ -7,4 +7,4 @@ use Rattle.v2_differences.proofs.by_pairs.Given as goal
 
 abbrev pub invariant-loop-half : goal.invariant-loop-half
 invariant-loop-half l =
-    (row : ℕ) → l.positions ≡ row_positions row → differences_from l.src row l.lengths 16 0 (record { values = l.initial.values; bits = l.initial.at }) ≡ differences_from l.src row l.lengths (16 - 2 * l.half) (2 * l.half) (record { values = l.values; bits = l.at })
+    (row : ℕ) → l.positions.places ≡ row_positions row → differences_from l.src row l.lengths 16 0 (record { values = l.initial.values; bits = l.initial.at }) ≡ differences_from l.src row l.lengths (16 - 2 * l.half) (2 * l.half) (record { values = l.values; bits = l.at })

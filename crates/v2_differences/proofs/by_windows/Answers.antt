@@ -8,21 +8,21 @@ loop-j-init c = reached_start _ _ _ _ _ _ _ c.requires.0.few
 pub four_at-four-requires : goal.four_at-four-requires
 four_at-four-requires c = let l = c.loop-j.invariant in
     let there = c.requires.0.there in
-    let small = c.requires.1.0.most _ c.loop-j-test.true in
+    let small = c.requires.1.most _ c.loop-j-test.true in
     (omega arith, (small, omega (arith, small, there, l.late, l.soon, c.loop-j-test.true)))
 
 pub store_four-requires : goal.store_four-requires
-store_four-requires c = (c.requires.1.1, omega (arith, c.loop-j-test.true))
+store_four-requires c = omega (arith, c.loop-j-test.true)
 
 pub overflow_mul-q : goal.overflow_mul-q
-overflow_mul-q c = omega (arith, c.requires.1.0.most _ c.loop-j-test.true)
+overflow_mul-q c = omega (arith, c.requires.1.most _ c.loop-j-test.true)
 
 pub overflow_add-q : goal.overflow_add-q
-overflow_add-q c = omega (arith, c.requires.1.0.most _ c.loop-j-test.true, c.loop-j.invariant.soon, c.loop-j-test.true)
+overflow_add-q c = omega (arith, c.requires.1.most _ c.loop-j-test.true, c.loop-j.invariant.soon, c.loop-j-test.true)
 
 pub loop-j-preserved : goal.loop-j-preserved
 loop-j-preserved c = let there = c.requires.0.there in
-    reached_more _ _ _ _ _ _ _ _ _ _ _ _ _ c.loop-j-test.true refl (c.requires.1.0.most _ c.loop-j-test.true) there (omega (arith, there)) c.four_at-four.ensures c.store_four.ensures c.loop-j.invariant
+    reached_more _ _ _ _ _ _ _ _ _ _ _ _ _ c.loop-j-test.true refl (c.requires.1.most _ c.loop-j-test.true) there (omega (arith, there)) c.four_at-four.ensures c.store_four.ensures c.loop-j.invariant
 
 pub state_at-requires : goal.state_at-requires
 state_at-requires c = let l = c.loop-j.invariant in

@@ -4,4 +4,4 @@ use Rattle.v2_differences.proofs.FourLaws.{Reached}
 use Rattle.v2_differences.proofs.by_windows.Given as goal
 
 abbrev pub invariant-loop-j : goal.invariant-loop-j
-invariant-loop-j l = Reached l.src l.positions l.lengths l.base l.bits.filler l.initial.q l.initial.values l.j l.q l.values
+invariant-loop-j l = Reached l.src l.positions.places l.lengths l.base l.bits.filler l.initial.q l.initial.values l.j l.q l.values

@@ -15,12 +15,12 @@ pub returns-then-n-le16 : goal.returns-then-n-le16
 returns-then-n-le16 c =
     let x = c.signed_of in
     let y = c.signed_of-then-n-le16 in
-    let g = c.get_whole-g in
+    let g = c.get_whole-both in
     rw (to_z-of_z w32 x.result (search rules), to_z-of_z w32 y.result (search rules))
-    (pair_cut _ _ _ g.result _ _ (omega arith) g.ensures (x.ensures ∙ ap (signed _) c.field.ensures) (y.ensures ∙ ap (signed _) c.field-then-n-le16.ensures))
+    (pair_cut _ _ _ g.result _ _ (omega arith) g.ensures (rw c.from-v.ensures at (x.ensures ∙ ap (signed _) c.field.ensures)) (rw c.from-v.ensures at (y.ensures ∙ ap (signed _) c.field-then-n-le16.ensures)))
 
 pub returns : goal.returns
 returns c =
-    let h = c.read_signed-b in
-    let g = c.read_signed-a in
+    let h = c.read_signed-second in
+    let g = c.read_signed-first in
     rw (to_z-of_z w32 g.result.value (search rules), to_z-of_z w32 h.result.value (search rules)) (pair_read _ _ _ g.result h.result g.ensures h.ensures)

@@ -1,34 +1,46 @@
 -- The tests come in their sequence: each number is the definition's first that holds.
-use mathlib.Core.Path.{sym}
+use mathlib.Core.Path.{◌≡◌, refl, sym, ap}
 use native.Mathlib.Omega.{arith}
+use borrow.Author.Rules.{rules}
 use lib.Seq.{length-take-le}
+use Rattle.std.specs.Prelude.{Err}
+use Rattle.rules.specs.Refusals.{refusal_number}
+use Rattle.rules.proofs.RefusalNumbers.{number_not}
+use Rattle.rules_clean.specs.Verdict.{fault_at}
 use Rattle.write_packed.specs.Proposal.{proposal}
-use Rattle.entry_convert.proofs.ProposalLaws.{MeantLent, meant_lent, AllLent, all_lent, Clean, clean, early_before, short_before, checkable, fault_before, long_before, done_before}
+use Rattle.entry_convert.proofs.ProposalLaws.{meant_lent, all_lent, clean, early_before, short_before, checkable, fault_before, long_before, done_before}
 use Rattle.entry_convert.proofs.proposal.check_before.Goals as goal
 
-pub returns-then-refusal-ne0 : goal.returns-then-refusal-ne0
-returns-then-refusal-ne0 c = early_before _ _ c.refuse_samples-refusal.ensures c.if-refusal-ne0.true c.refused.ensures
+pub returns-in_err-refuse_samples : goal.returns-in_err-refuse_samples
+returns-in_err-refuse_samples c =
+    let e : c.from_residual.result ≡ Err (record { refusal = c.in_err-refuse_samples.field-0.0; row = 0 }) = search rules in
+    rw e (early_before _ _ c.in_err-refuse_samples.ensures (number_not _) refl)
 
-pub returns-then-short-ne0 : goal.returns-then-short-ne0
-returns-then-short-ne0 c = short_before ((let known_meant_here : (let a = c.args in MeantLent (proposal a.src.now a.offsets.now a.width a.height a.meant.now) a.scratch) = meant_lent _ _ c.refuse_samples-refusal.ensures c.if-refusal-ne0.false in known_meant_here)) c.refuse_direct-short.ensures c.if-short-ne0.true c.refused-then-short-ne0.ensures
+pub returns-in_err-refuse_direct : goal.returns-in_err-refuse_direct
+returns-in_err-refuse_direct c =
+    let e : c.from_residual-in_err-refuse_direct.result ≡ Err (record { refusal = c.in_err-refuse_direct.field-0.0; row = 0 }) = search rules in
+    rw e (short_before (meant_lent (let a = c.args in proposal a.src.now a.offsets.now a.width a.height a.meant.now) c.args.scratch c.in_ok-refuse_samples.ensures refl) c.in_err-refuse_direct.ensures (number_not _) refl)
 
-pub check_frame-told-requires : goal.check_frame-told-requires
-check_frame-told-requires c = checkable ((let known_lent_here : (let a = c.args in AllLent (proposal a.src.now a.offsets.now a.width a.height a.meant.now) a.scratch) = all_lent ((let known_meant_here : (let a = c.args in MeantLent (proposal a.src.now a.offsets.now a.width a.height a.meant.now) a.scratch) = meant_lent _ _ c.refuse_samples-refusal.ensures c.if-refusal-ne0.false in known_meant_here)) c.refuse_direct-short.ensures c.if-short-ne0.false in known_lent_here))
+pub check_frame-requires : goal.check_frame-requires
+check_frame-requires c = checkable (all_lent (meant_lent (let a = c.args in proposal a.src.now a.offsets.now a.width a.height a.meant.now) c.args.scratch c.in_ok-refuse_samples.ensures refl) c.in_ok-refuse_direct.ensures refl)
 
-pub returns-then-told-ne0 : goal.returns-then-told-ne0
-returns-then-told-ne0 c = fault_before ((let known_lent_here : (let a = c.args in AllLent (proposal a.src.now a.offsets.now a.width a.height a.meant.now) a.scratch) = all_lent ((let known_meant_here : (let a = c.args in MeantLent (proposal a.src.now a.offsets.now a.width a.height a.meant.now) a.scratch) = meant_lent _ _ c.refuse_samples-refusal.ensures c.if-refusal-ne0.false in known_meant_here)) c.refuse_direct-short.ensures c.if-short-ne0.false in known_lent_here)) c.check_frame-told.ensures c.if-told-ne0.true
+pub returns-in_err-check_frame : goal.returns-in_err-check_frame
+returns-in_err-check_frame c =
+    let e : c.from_residual-in_err-check_frame.result ≡ Err c.in_err-check_frame.field-0.0 = search rules in
+    rw e (fault_before (all_lent (meant_lent (let a = c.args in proposal a.src.now a.offsets.now a.width a.height a.meant.now) c.args.scratch c.in_ok-refuse_samples.ensures refl) c.in_ok-refuse_direct.ensures refl) c.in_err-check_frame.ensures (number_not _))
 
 pub overflow_mul-n : goal.overflow_mul-n
-overflow_mul-n c = omega (arith, ((let known_clean_here : (let a = c.args in Clean (proposal a.src.now a.offsets.now a.width a.height a.meant.now) a.scratch) = clean ((let known_lent_here : (let a = c.args in AllLent (proposal a.src.now a.offsets.now a.width a.height a.meant.now) a.scratch) = all_lent ((let known_meant_here : (let a = c.args in MeantLent (proposal a.src.now a.offsets.now a.width a.height a.meant.now) a.scratch) = meant_lent _ _ c.refuse_samples-refusal.ensures c.if-refusal-ne0.false in known_meant_here)) c.refuse_direct-short.ensures c.if-short-ne0.false in known_lent_here)) c.check_frame-told.ensures c.if-told-ne0.false in known_clean_here)).lent.meant.few)
+overflow_mul-n c = omega (arith, (clean (all_lent (meant_lent (let a = c.args in proposal a.src.now a.offsets.now a.width a.height a.meant.now) c.args.scratch c.in_ok-refuse_samples.ensures refl) c.in_ok-refuse_direct.ensures refl) c.in_ok-check_frame.ensures refl).lent.meant.few)
 
 pub slice_bounds-v0_length-end : goal.slice_bounds-v0_length-end
-slice_bounds-v0_length-end c = sym (length-take-le _ _ ((let known_clean_here : (let a = c.args in Clean (proposal a.src.now a.offsets.now a.width a.height a.meant.now) a.scratch) = clean ((let known_lent_here : (let a = c.args in AllLent (proposal a.src.now a.offsets.now a.width a.height a.meant.now) a.scratch) = all_lent ((let known_meant_here : (let a = c.args in MeantLent (proposal a.src.now a.offsets.now a.width a.height a.meant.now) a.scratch) = meant_lent _ _ c.refuse_samples-refusal.ensures c.if-refusal-ne0.false in known_meant_here)) c.refuse_direct-short.ensures c.if-short-ne0.false in known_lent_here)) c.check_frame-told.ensures c.if-told-ne0.false in known_clean_here)).lent.meant.enough)
+slice_bounds-v0_length-end c = sym (length-take-le _ _ (clean (all_lent (meant_lent (let a = c.args in proposal a.src.now a.offsets.now a.width a.height a.meant.now) c.args.scratch c.in_ok-refuse_samples.ensures refl) c.in_ok-refuse_direct.ensures refl) c.in_ok-check_frame.ensures refl).lent.meant.enough)
 
 pub v0_length-requires : goal.v0_length-requires
-v0_length-requires c = ((let known_clean_here : (let a = c.args in Clean (proposal a.src.now a.offsets.now a.width a.height a.meant.now) a.scratch) = clean ((let known_lent_here : (let a = c.args in AllLent (proposal a.src.now a.offsets.now a.width a.height a.meant.now) a.scratch) = all_lent ((let known_meant_here : (let a = c.args in MeantLent (proposal a.src.now a.offsets.now a.width a.height a.meant.now) a.scratch) = meant_lent _ _ c.refuse_samples-refusal.ensures c.if-refusal-ne0.false in known_meant_here)) c.refuse_direct-short.ensures c.if-short-ne0.false in known_lent_here)) c.check_frame-told.ensures c.if-told-ne0.false in known_clean_here)).lent.meant.writable
+v0_length-requires c = (clean (all_lent (meant_lent (let a = c.args in proposal a.src.now a.offsets.now a.width a.height a.meant.now) c.args.scratch c.in_ok-refuse_samples.ensures refl) c.in_ok-refuse_direct.ensures refl) c.in_ok-check_frame.ensures refl).lent.meant.writable
 
 pub returns-then-v0_length-src : goal.returns-then-v0_length-src
-returns-then-v0_length-src c = long_before ((let known_clean_here : (let a = c.args in Clean (proposal a.src.now a.offsets.now a.width a.height a.meant.now) a.scratch) = clean ((let known_lent_here : (let a = c.args in AllLent (proposal a.src.now a.offsets.now a.width a.height a.meant.now) a.scratch) = all_lent ((let known_meant_here : (let a = c.args in MeantLent (proposal a.src.now a.offsets.now a.width a.height a.meant.now) a.scratch) = meant_lent _ _ c.refuse_samples-refusal.ensures c.if-refusal-ne0.false in known_meant_here)) c.refuse_direct-short.ensures c.if-short-ne0.false in known_lent_here)) c.check_frame-told.ensures c.if-told-ne0.false in known_clean_here)) c.v0_length.ensures c.if-v0_length-src.true c.refused-then-v0_length-src.ensures
+returns-then-v0_length-src c =
+    long_before (clean (all_lent (meant_lent (let a = c.args in proposal a.src.now a.offsets.now a.width a.height a.meant.now) c.args.scratch c.in_ok-refuse_samples.ensures refl) c.in_ok-refuse_direct.ensures refl) c.in_ok-check_frame.ensures refl) c.v0_length.ensures c.if-v0_length-src.true (ap (λ f. fault_at f.row (refusal_number f.refusal)) c.from.ensures)
 
 pub returns : goal.returns
-returns c = done_before ((let known_clean_here : (let a = c.args in Clean (proposal a.src.now a.offsets.now a.width a.height a.meant.now) a.scratch) = clean ((let known_lent_here : (let a = c.args in AllLent (proposal a.src.now a.offsets.now a.width a.height a.meant.now) a.scratch) = all_lent ((let known_meant_here : (let a = c.args in MeantLent (proposal a.src.now a.offsets.now a.width a.height a.meant.now) a.scratch) = meant_lent _ _ c.refuse_samples-refusal.ensures c.if-refusal-ne0.false in known_meant_here)) c.refuse_direct-short.ensures c.if-short-ne0.false in known_lent_here)) c.check_frame-told.ensures c.if-told-ne0.false in known_clean_here)) c.v0_length.ensures c.if-v0_length-src.false c.done.ensures
+returns c = done_before (clean (all_lent (meant_lent (let a = c.args in proposal a.src.now a.offsets.now a.width a.height a.meant.now) c.args.scratch c.in_ok-refuse_samples.ensures refl) c.in_ok-refuse_direct.ensures refl) c.in_ok-check_frame.ensures refl) c.v0_length.ensures c.if-v0_length-src.false refl

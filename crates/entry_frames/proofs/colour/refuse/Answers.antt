@@ -5,6 +5,7 @@ use borrow.Author.Tests.{lt-ltb, le-ltb}
 use Rattle.rules.specs.Answer.{first_of}
 use Rattle.entry_refusals.proofs.RefusalLaws.{cells_most, size_most}
 use Rattle.entry_frames.specs.Moved.{refusal}
+use Rattle.entry_frames.proofs.colour.refuse.Goals.{then-read-n-via-then-read-n, then-read-n-via-else-read-n+then-written-n}
 use Rattle.entry_frames.proofs.colour.refuse.Goals as goal
 
 pub returns-then-is_too_large : goal.returns-then-is_too_large
@@ -18,11 +19,10 @@ overflow_mul-n c =
 
 pub returns-then-read-n : goal.returns-then-read-n
 unfolding refusal first_of
-returns-then-read-n c = rw (sym c.is_too_large.ensures ∙ c.if-is_too_large.false, lt-ltb _ _ c.if-read-n.true)
-
-pub returns-then-written-n : goal.returns-then-written-n
-unfolding refusal first_of
-returns-then-written-n c = rw (sym c.is_too_large.ensures ∙ c.if-is_too_large.false, le-ltb _ _ c.if-read-n.false, lt-ltb _ _ c.if-written-n.true)
+returns-then-read-n c = elim c.then-read-n.branch [
+  | then-read-n-via-then-read-n w ↦ rw (sym c.is_too_large.ensures ∙ c.if-is_too_large.false, lt-ltb _ _ w.if-read-n.true)
+  | then-read-n-via-else-read-n+then-written-n w ↦ rw (sym c.is_too_large.ensures ∙ c.if-is_too_large.false, le-ltb _ _ w.if-read-n.false, lt-ltb _ _ w.if-written-n.true)
+]
 
 pub returns : goal.returns
 unfolding refusal first_of

@@ -12,12 +12,13 @@ use Rattle.samsung.proofs.in_bands.decode_v0_bands.Goals as goal
 pub returns-in-Err : goal.returns-in-Err
 returns-in-Err c = bands_refused _ (two_phase_tested c.in-Err.ensures) (number_not _) c.from.ensures
 
-pub refuse_steps-unfit-requires : goal.refuse_steps-unfit-requires
-refuse_steps-unfit-requires c = ((let a = c.args in two_phase_opened a.src.now a.offsets.now a.width a.height a.out.now a.scratch.now c.in_default.ensures)).wide
+pub refuse_steps-requires : goal.refuse_steps-requires
+refuse_steps-requires c = ((let a = c.args in two_phase_opened a.src.now a.offsets.now a.width a.height a.out.now a.scratch.now c.in_default.ensures)).wide
 
-pub returns-then-unfit-ne0 : goal.returns-then-unfit-ne0
-returns-then-unfit-ne0 c =
-    refused_yields _ _ (refusal_list _ ((let a = c.args in two_phase_opened a.src.now a.offsets.now a.width a.height a.out.now a.scratch.now c.in_default.ensures)).passed ∙ sym c.refuse_steps-unfit.ensures) c.if-unfit-ne0.true _ refl
+pub returns-in-Err-refuse_steps : goal.returns-in-Err-refuse_steps
+returns-in-Err-refuse_steps c =
+    let o = (let a = c.args in two_phase_opened a.src.now a.offsets.now a.width a.height a.out.now a.scratch.now c.in_default.ensures) in
+    refused_yields _ _ (refusal_list _ o.passed ∙ sym c.in-Err-refuse_steps.ensures) (number_not _) _ c.from-in-Err-refuse_steps.ensures
 
 pub overflow_mul-n : goal.overflow_mul-n
 overflow_mul-n c = omega (arith, ((let a = c.args in two_phase_opened a.src.now a.offsets.now a.width a.height a.out.now a.scratch.now c.in_default.ensures)).few)
@@ -31,11 +32,11 @@ slice_bounds-decode_frame-end-2 c = sym (length-take-le _ _ ((((let a = c.args i
 pub decode_frame-requires : goal.decode_frame-requires
 decode_frame-requires c =
     let p = (let a = c.args in two_phase_opened a.src.now a.offsets.now a.width a.height a.out.now a.scratch.now c.in_default.ensures) in
-    let l = list_passed _ _ (sym c.refuse_steps-unfit.ensures ∙ c.if-unfit-ne0.false) in
+    let l = list_passed _ _ (sym c.in_default-refuse_steps.ensures) in
     record { width = p.wide; height = p.high; offsets_enough = p.offsets_enough two_phase_v0; samples_lent = p.samples_lent; scratch_lent = p.scratch_enough refl; cut_fits = l.0; list_good = l.1 }
 
 pub returns : goal.returns
 returns c =
-    let ok = refusal_list _ ((let a = c.args in two_phase_opened a.src.now a.offsets.now a.width a.height a.out.now a.scratch.now c.in_default.ensures)).passed ∙ sym c.refuse_steps-unfit.ensures ∙ c.if-unfit-ne0.false in
+    let ok = refusal_list _ ((let a = c.args in two_phase_opened a.src.now a.offsets.now a.width a.height a.out.now a.scratch.now c.in_default.ensures)).passed ∙ sym c.in_default-refuse_steps.ensures in
     let d = c.decode_frame.ensures in
     done_yields _ ok _ c.done.ensures _ _ d.samples d.directions

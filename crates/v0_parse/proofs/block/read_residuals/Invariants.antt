@@ -5,6 +5,3 @@ use Rattle.v0_parse.proofs.block.read_residuals.Given as goal
 
 abbrev pub invariant-loop-j : goal.invariant-loop-j
 invariant-loop-j l = Reading l.src l.lengths l.initial.bits l.bits l.residuals (4 * l.j)
-
-abbrev pub decreases-loop-j : goal.decreases-loop-j
-decreases-loop-j l = 4 - l.j

@@ -6,13 +6,13 @@ use Rattle.v0_phase1.proofs.ResidualLaws.{groups_stored}
 use Rattle.v0_phase1.proofs.run.store_short.Goals as goal
 
 pub four_at-a-requires : goal.four_at-a-requires
-four_at-a-requires c = (first_in c.requires.ahead.0 c.plan_of-plan.ensures).short (short_plan c.plan_of-plan.ensures c.requires.short).0
+four_at-a-requires c = (omega arith, (first_in c.requires.ahead.0 c.plan_of-plan.ensures).short (short_plan c.plan_of-plan.ensures c.requires.short).0)
 
 pub four_at-b-requires : goal.four_at-b-requires
-four_at-b-requires c = (second_in c.requires.ahead.0 c.plan_of-plan.ensures).short (short_plan c.plan_of-plan.ensures c.requires.short).1.0
+four_at-b-requires c = (omega arith, (second_in c.requires.ahead.0 c.plan_of-plan.ensures).short (short_plan c.plan_of-plan.ensures c.requires.short).1.0)
 
 pub four_at-c-requires : goal.four_at-c-requires
-four_at-c-requires c = (third_in c.requires.ahead.0 c.plan_of-plan.ensures).short (short_plan c.plan_of-plan.ensures c.requires.short).1.1.0
+four_at-c-requires c = (omega arith, (third_in c.requires.ahead.0 c.plan_of-plan.ensures).short (short_plan c.plan_of-plan.ensures c.requires.short).1.1.0)
 
 pub overflow_add-col-2 : goal.overflow_add-col-2
 overflow_add-col-2 c = let room = c.requires.ahead.1 in omega (arith, room)
@@ -23,7 +23,7 @@ store_four-requires-3 c =
     (omega (arith, room, c.store_four-2.auto.out, c.store_four.auto.out), omega (arith, room))
 
 pub four_at-d-requires : goal.four_at-d-requires
-four_at-d-requires c = (fourth_in c.requires.ahead.0 c.plan_of-plan.ensures).short (short_plan c.plan_of-plan.ensures c.requires.short).1.1.1
+four_at-d-requires c = (omega arith, (fourth_in c.requires.ahead.0 c.plan_of-plan.ensures).short (short_plan c.plan_of-plan.ensures c.requires.short).1.1.1)
 
 pub overflow_add-col-3 : goal.overflow_add-col-3
 overflow_add-col-3 c = let room = c.requires.ahead.1 in omega (arith, room)

@@ -37,4 +37,4 @@ pub overflow_sub-odd : goal.overflow_sub-odd
 overflow_sub-odd c = rw c.reference_plus_5-odd.ensures (each (inside _ c.requires.placed) (other _ c.requires.other) c.requires.unrefused 1 (omega arith)).0
 
 pub returns : goal.returns
-returns c = rw (c.reference_plus_5-even.ensures, c.reference_plus_5-odd.ensures, c.motion_of.ensures.averages)
+returns c = rw (c.reference_plus_5-even.ensures, c.reference_plus_5-odd.ensures, c.averages.ensures)

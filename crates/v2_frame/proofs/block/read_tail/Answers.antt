@@ -16,9 +16,6 @@ returns-in_err-read c =
       samples = rw is;
     }
 
-pub block_differences-after-requires : goal.block_differences-after-requires
-block_differences-after-requires c = record { row = _; are = c.requires.1.1 }
-
 pub build-requires : goal.build-requires
 build-requires c =
     let z = c.args.state.scale in

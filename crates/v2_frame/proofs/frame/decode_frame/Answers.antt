@@ -1,6 +1,7 @@
 -- Each row comes to what the rule says of it; the frame goes on after it, or is left with its refusal.
-use Rattle.std.proofs.Common.{refl, ◌∙◌}
-use Rattle.v2_frame.proofs.FrameLaws.{refusal_some, frame_starts, frame_ends, frame_stops, frame_goes, depth_is, frame_is}
+use Rattle.std.proofs.Common.{refl, ◌∙◌, ne_eqb}
+use Rattle.rules.proofs.RefusalNumbers.{number_not}
+use Rattle.v2_frame.proofs.FrameLaws.{frame_starts, frame_ends, frame_stops, frame_goes, depth_is, frame_is}
 use Rattle.v2_frame.proofs.frame.decode_frame.Goals as goal
 
 pub loop-row-init : goal.loop-row-init
@@ -19,7 +20,7 @@ pub returns-in-Err : goal.returns-in-Err
 returns-in-Err c =
     let y = c.in-Err.ensures in
     let x = frame_is _ _ _ _ _ _ _ _ c.read_header-start.ensures
-    (frame_stops _ _ _ _ _ _ _ _ _ _ _ _ c.loop-row.invariant.going c.loop-row-test.true _ _ _ _ (record { number = y.answered; bits = y.state; samples = y.samples; marks = y.marks }) (refusal_some c.in-Err.refused.refusal)) in
+    (frame_stops _ _ _ _ _ _ _ _ _ _ _ _ c.loop-row.invariant.going c.loop-row-test.true _ _ _ _ (record { number = y.answered; bits = y.state; samples = y.samples; marks = y.marks }) (ne_eqb _ 0 (number_not c.in-Err.refused.refusal))) in
     record { answered = rw c.number.ensures x.0; samples = x.1.0; marks = x.1.1 }
 
 pub loop-row-preserved : goal.loop-row-preserved

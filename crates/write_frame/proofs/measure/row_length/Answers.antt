@@ -16,7 +16,7 @@ pub overflow_add-bits : goal.overflow_add-bits
 overflow_add-bits c = record { fits = omega (arith, count_most c.loop-block.invariant (rw width_is c.requires.0.wide), block_most c.numbers_of-d.result _ c.block_length-bits.ensures) }
 
 pub loop-block-preserved : goal.loop-block-preserved
-loop-block-preserved c = let a = c.args in count_on c.loop-block.invariant _ _ _ (omega arith) c.numbers_of-d.ensures (omega (arith, width_is a.width a.height a.samples.now a.format)) c.block_length-bits.ensures
+loop-block-preserved c = let a = c.args in count_on c.loop-block.invariant _ _ _ (omega arith) c.numbers_of-d.ensures (omega (arith, width_is a.size a.samples.now a.format)) c.block_length-bits.ensures
 
 pub in_units-requires : goal.in_units-requires
 in_units-requires c = omega (arith, count_most c.loop-block.invariant (rw width_is c.requires.0.wide))
@@ -24,5 +24,5 @@ in_units-requires c = omega (arith, count_most c.loop-block.invariant (rw width_
 pub returns : goal.returns
 returns c =
     let a = c.args in
-    count_gone c.loop-block.invariant (coding_unit _ _ _ _) (omega (arith, width_is a.width a.height a.samples.now a.format)) _
+    count_gone c.loop-block.invariant (coding_unit _ _ _) (omega (arith, width_is a.size a.samples.now a.format)) _
     (rw unit_is c.in_units.ensures)

@@ -5,4 +5,4 @@ use Rattle.write_frame.proofs.RowLaws.{Counting}
 use Rattle.write_frame.proofs.measure.row_length.Given as goal
 
 abbrev pub invariant-loop-block : goal.invariant-loop-block
-invariant-loop-block l = Counting (coding l.format l.width l.height l.samples) l.row l.bits (l.block * 16)
+invariant-loop-block l = Counting (coding l.format l.size l.samples) l.row l.bits (l.block * 16)

@@ -10,7 +10,7 @@ pub row_length-bytes-requires : goal.row_length-bytes-requires
 row_length-bytes-requires c = (c.requires, omega arith)
 
 pub overflow_add-bytes : goal.overflow_add-bytes
-overflow_add-bytes c = record { fits = measure_next c.loop-row.invariant (coding_unit _ _ _ _) (rw width_is c.requires.wide) c.requires.high _ (omega arith) c.row_length-bytes.ensures }
+overflow_add-bytes c = record { fits = measure_next c.loop-row.invariant (coding_unit _ _ _) (rw width_is c.requires.wide) c.requires.high _ (omega arith) c.row_length-bytes.ensures }
 
 pub loop-row-preserved : goal.loop-row-preserved
 loop-row-preserved c = measure_on c.loop-row.invariant _ (omega arith) c.row_length-bytes.ensures

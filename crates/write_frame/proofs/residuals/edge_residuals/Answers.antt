@@ -11,26 +11,14 @@ use Rattle.write_frame.proofs.residuals.edge_residuals.Goals as goal
 pub loop-k-init : goal.loop-k-init
 loop-k-init c = record { most = omega arith; long = refl; before = λ j l. absurd (omega arith) }
 
-pub overflow_mul-k : goal.overflow_mul-k
-overflow_mul-k c = record { fits = omega arith }
-
-pub overflow_add-k : goal.overflow_add-k
-overflow_add-k c = record { fits = omega arith }
-
 pub residual_at-requires : goal.residual_at-requires
 residual_at-requires c = (c.requires, omega arith)
-
-pub offset_bounds-d-k : goal.offset_bounds-d-k
-offset_bounds-d-k c = record { fits = omega arith }
-
-pub bounds-d-k : goal.bounds-d-k
-bounds-d-k c = omega arith
 
 pub loop-k-preserved : goal.loop-k-preserved
 loop-k-preserved c =
     let a = c.args in
     let l = c.loop-k in
-    edge_on a.width (exchanged a.width a.height a.samples.now) a.row a.col l.d l.k c.residual_at.result (omega arith) c.residual_at.ensures l.invariant
+    edge_on a.size.width (exchanged a.size a.samples.now) a.row a.col l.d l.k c.residual_at.result (omega arith) c.residual_at.ensures l.invariant
 
 pub returns : goal.returns
-returns c = let a = c.args in let l = c.loop-k in found (λ k. residual a.width (exchanged a.width a.height a.samples.now) a.row a.col (get_or order k 0)) l.d l.k (omega arith) l.invariant
+returns c = let a = c.args in let l = c.loop-k in found (λ k. residual a.size.width (exchanged a.size a.samples.now) a.row a.col (get_or order k 0)) l.d l.k (omega arith) l.invariant

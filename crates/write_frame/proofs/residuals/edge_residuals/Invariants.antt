@@ -7,4 +7,4 @@ use Rattle.write_frame.proofs.HalfLaws.{Finding}
 use Rattle.write_frame.proofs.residuals.edge_residuals.Given as goal
 
 abbrev pub invariant-loop-k : goal.invariant-loop-k
-invariant-loop-k l = Finding (λ k. residual l.width (exchanged l.width l.height l.samples) l.row l.col (get_or order k 0)) l.d l.k
+invariant-loop-k l = Finding (λ k. residual l.size.width (exchanged l.size l.samples) l.row l.col (get_or order k 0)) l.d l.k

@@ -22,13 +22,13 @@ put_block-p-requires c =
     let a = c.args in
     let l = c.loop-block in
     let e = c.numbers_of-d.ensures in
-    (l.invariant.wrote.count_small, block_short _ _ _ _ _ _ c.requires.0 c.requires.1 _ e, block_room (coding_unit _ _ _ _) l.invariant _ e (omega (arith, width_is a.width a.height a.samples.now a.format)) c.requires.3)
+    (l.invariant.wrote.count_small, block_short _ _ _ _ _ _ c.requires.0 c.requires.1 _ e, block_room (coding_unit _ _ _) l.invariant _ e (omega (arith, width_is a.size a.samples.now a.format)) c.requires.3)
 
 pub loop-block-preserved : goal.loop-block-preserved
 loop-block-preserved c =
     let a = c.args in
     let l = c.loop-block in
-    row_on (coding_unit _ _ _ _) l.invariant _ _ _ _ (omega arith) c.numbers_of-d.ensures (omega (arith, width_is a.width a.height a.samples.now a.format)) (wrote c.put_block-p.ensures)
+    row_on (coding_unit _ _ _) l.invariant _ _ _ _ (omega arith) c.numbers_of-d.ensures (omega (arith, width_is a.size a.samples.now a.format)) (wrote c.put_block-p.ensures)
 
 pub unit_of-requires : goal.unit_of-requires
 unit_of-requires c = tt
@@ -38,12 +38,12 @@ finish-q-requires c =
     let a = c.args in
     let l = c.loop-block in
     let e = c.unit_of.ensures in
-    let v = e ∙ sym (unit_is a.width a.height a.samples.now a.format) in
-    let past : (coding a.format a.width a.height a.samples.now).width ≤ (l.block * 16) = omega (arith, width_is a.width a.height a.samples.now a.format) in (
+    let v = e ∙ sym (unit_is a.size a.samples.now a.format) in
+    let past : (coding a.format a.size a.samples.now).width ≤ (l.block * 16) = omega (arith, width_is a.size a.samples.now a.format) in (
       rw e (format_unit a.format),
       l.invariant.wrote.count_small,
-      fourth (coding_unit _ _ _ _) l.invariant _ v (rw e c.requires.2) past,
-      omega (arith, end_is (coding_unit _ _ _ _) l.invariant _ v (rw e c.requires.2) past, l.invariant.wrote.length_is, c.requires.3),
+      fourth (coding_unit _ _ _) l.invariant _ v (rw e c.requires.2) past,
+      omega (arith, end_is (coding_unit _ _ _) l.invariant _ v (rw e c.requires.2) past, l.invariant.wrote.length_is, c.requires.3),
     )
 
 pub returns : goal.returns
@@ -51,4 +51,4 @@ returns c =
     let a = c.args in
     let l = c.loop-block in
     let e = c.unit_of.ensures in
-    row_gone (coding_unit _ _ _ _) l.invariant _ (e ∙ sym (unit_is a.width a.height a.samples.now a.format)) (rw e c.requires.2) (omega (arith, width_is a.width a.height a.samples.now a.format)) _ _ (wrote c.finish-q.ensures)
+    row_gone (coding_unit _ _ _) l.invariant _ (e ∙ sym (unit_is a.size a.samples.now a.format)) (rw e c.requires.2) (omega (arith, width_is a.size a.samples.now a.format)) _ _ (wrote c.finish-q.ensures)

@@ -5,4 +5,4 @@ use Rattle.write_frame.proofs.RowLaws.{Rowing}
 use Rattle.write_frame.proofs.write.write_row.Given as goal
 
 abbrev pub invariant-loop-block : goal.invariant-loop-block
-invariant-loop-block l = Rowing (coding l.format l.width l.height l.samples) l.row l.at l.initial.out l.out l.p (l.block * 16)
+invariant-loop-block l = Rowing (coding l.format l.size l.samples) l.row l.at l.initial.out l.out l.p (l.block * 16)

@@ -1,5 +1,5 @@
 -- Adding half of 2^n and taking it off again, in a turn of 2^n, is the sign.
-use Rattle.std.proofs.Common.{◌≡◌, ℕ, ◌/◌, ◌%◌, ◌^◌, ◌≤◌, ◌-ℤ◌, ◌∙◌, ap₂, mod-lt, arith, pow_pos, w32, to_z, SFits}
+use Rattle.std.proofs.Common.{refl, ◌≡◌, ℕ, ◌/◌, ◌%◌, ◌^◌, ◌≤◌, ◌-ℤ◌, ◌∙◌, ap₂, mod-lt, arith, pow_pos, w32, to_z, SFits}
 use mir.ValLaws.{to_z-of_z, to_z_pos}
 use Rattle.rules.specs.Reader.{signed}
 use Rattle.rules.proofs.ReaderLaws.{signed_mag}
@@ -14,26 +14,26 @@ fits : (x n : ℕ) → n ≤ 16 → SFits w32 (signed n (x % 2 ^ n))
 fits x n h = record { sfits = signed_mag 31 _ _ (omega arith) (mod-lt _ (pow_pos _)) }
 
 pub nonzero_rem-result : goal.nonzero_rem-result
-nonzero_rem-result c = (low_made 16 _ _ _ _ (omega arith) c.requires c.power-top.ensures c.wrapping_add_u64.ensures.value).some
+nonzero_rem-result c = (low_made 16 c.args.x c.args.n c.power-top.result _ (omega arith) c.requires c.power-top.ensures refl).some
 
 pub overflow_cast-result : goal.overflow_cast-result
 overflow_cast-result c =
-    let l = low_made 16 _ _ _ _ (omega arith) c.requires c.power-top.ensures c.wrapping_add_u64.ensures.value in
+    let l = low_made 16 c.args.x c.args.n c.power-top.result _ (omega arith) c.requires c.power-top.ensures refl in
     record { sfits = omega arith }
 
 pub overflow_cast-result-2 : goal.overflow_cast-result-2
 overflow_cast-result-2 c =
-    let l = low_made 16 _ _ _ _ (omega arith) c.requires c.power-top.ensures c.wrapping_add_u64.ensures.value in
+    let l = low_made 16 c.args.x c.args.n c.power-top.result _ (omega arith) c.requires c.power-top.ensures refl in
     record { sfits = omega arith }
 
 pub overflow_sub-result : goal.overflow_sub-result
 overflow_sub-result c =
-    rw (difference _ _ _ _ (low_made 16 _ _ _ _ (omega arith) c.requires c.power-top.ensures c.wrapping_add_u64.ensures.value))
+    rw (difference _ _ _ _ (low_made 16 c.args.x c.args.n c.power-top.result _ (omega arith) c.requires c.power-top.ensures refl))
     (fits c.args.x c.args.n c.requires)
 
 pub returns : goal.returns
 returns c =
     rw (
-      difference _ _ _ _ (low_made 16 _ _ _ _ (omega arith) c.requires c.power-top.ensures c.wrapping_add_u64.ensures.value),
+      difference _ _ _ _ (low_made 16 c.args.x c.args.n c.power-top.result _ (omega arith) c.requires c.power-top.ensures refl),
       to_z-of_z w32 _ (fits c.args.x c.args.n c.requires),
     )

@@ -2,7 +2,7 @@
 use Rattle.std.proofs.Common.{refl}
 use Rattle.rules.specs.Frame.{tabulate}
 use Rattle.rules.specs.V2.{position}
-use Rattle.v2_differences.proofs.table.Goals as goal
+use Rattle.v2_differences.proofs.positions.table.Goals as goal
 
 pub returns : goal.returns
 unfolding tabulate position
