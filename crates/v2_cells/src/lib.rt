@@ -10,6 +10,7 @@ pub mod marks;
 pub mod samples;
 
 // Where a block stands: its row and first column, in a frame of `width` samples to a row.
+// No invariant here: `refusal_of` answers for any place, and `Placed` is a part of what the others ask of place, motion and frame.
 #[derive(Clone, Copy)]
 pub struct V2Place {
     pub width: usize,

@@ -1,11 +1,7 @@
 -- Motion 7 repeats; else every reference is in the frame, since no refusal is met, and the places on the two runs are the references.
 use Rattle.std.proofs.Common.{rules}
-use native.Mathlib.Omega.{arith}
 use Rattle.v2_cells.proofs.BaseLaws.{runs, bases_7, bases_referred}
 use Rattle.v2_cells.proofs.base.bases.Goals as goal
-
-pub references_of-requires : goal.references_of-requires
-references_of-requires g c = let p = c.requires in record { placed = p.inside.placed; other = omega (arith, c.if-motion-eq-MOTION.false, p.small); unrefused = p.unrefused }
 
 pub refer-requires : goal.refer-requires
 refer-requires g c =

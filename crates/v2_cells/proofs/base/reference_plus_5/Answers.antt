@@ -9,17 +9,11 @@ use Rattle.v2_cells.proofs.base.reference_plus_5.Goals as goal
 pub overflow_add-col-2 : goal.overflow_add-col-2
 overflow_add-col-2 c = omega (arith, c.offset_plus_4.ensures, offset_most c.args.motion, c.requires.placed.column)
 
-pub overflow_mul-result : goal.overflow_mul-result
-overflow_mul-result c = omega (arith, rows_room c.args.at.row c.args.at.width c.requires.placed.high c.requires.placed.wide)
-
 pub overflow_add-result : goal.overflow_add-result
 overflow_add-result c = omega (arith, rows_room c.args.at.row c.args.at.width c.requires.placed.high c.requires.placed.wide, c.offset_plus_4.ensures, offset_most c.args.motion)
 
 pub overflow_add-result-then-at-i-eq1 : goal.overflow_add-result-then-at-i-eq1
 overflow_add-result-then-at-i-eq1 c = omega (arith, rows_room c.args.at.row c.args.at.width c.requires.placed.high c.requires.placed.wide, c.offset_plus_4.ensures, offset_most c.args.motion)
-
-pub overflow_mul-result-else-at-i-eq1 : goal.overflow_mul-result-else-at-i-eq1
-overflow_mul-result-else-at-i-eq1 c = omega (arith, rows_room c.args.at.row c.args.at.width c.requires.placed.high c.requires.placed.wide)
 
 pub overflow_add-result-else-at-i-eq1 : goal.overflow_add-result-else-at-i-eq1
 overflow_add-result-else-at-i-eq1 c = omega (arith, rows_room c.args.at.row c.args.at.width c.requires.placed.high c.requires.placed.wide, c.offset_plus_4.ensures, offset_most c.args.motion)

@@ -35,6 +35,3 @@ reference_plus_5-odd-requires c = record {
 
 pub overflow_sub-odd : goal.overflow_sub-odd
 overflow_sub-odd c = rw c.reference_plus_5-odd.ensures (each (inside _ c.requires.placed) (other _ c.requires.other) c.requires.unrefused 1 (omega arith)).0
-
-pub returns : goal.returns
-returns c = rw (c.reference_plus_5-even.ensures, c.reference_plus_5-odd.ensures, c.averages.ensures)

@@ -1,7 +1,7 @@
 -- Even cells repeat the first of the two before the block, odd ones the second.
 use Rattle.std.proofs.Common.{◌≡◌, ◌+◌, ◌*◌, ◌%◌, arith}
 use Rattle.rules.specs.V2.{repeated}
-use Rattle.v2_cells.proofs.Fill.{filled_none, filled_more, filled_all}
+use Rattle.v2_cells.proofs.Fill.{filled_none, filled_more}
 use Rattle.v2_cells.proofs.base.repeat.Goals as goal
 
 pub loop-pair-init : goal.loop-pair-init
@@ -15,6 +15,3 @@ loop-pair-preserved g c =
     let odd : (2 * p + 1) % 2 ≡ 1 = omega arith in
     let next : 2 * (p + 1) ≡ 2 * p + 1 + 1 = omega arith in
     λ h e. rw next (filled_more (filled_more (c.loop-pair.invariant h e) (omega arith) (rw even (c.before-a.ensures h e))) (omega arith) (rw odd (c.before-b.ensures h e)))
-
-pub returns : goal.returns
-returns g c = λ h e. filled_all (c.loop-pair.invariant h e) (omega arith)

@@ -1,10 +1,7 @@
 -- The value fits i32, since difference and scale are small, and what holds it below top fits u16.
-use mathlib.Core.Path.{ap, ◌∙◌}
 use native.Mathlib.Omega.{arith}
-use lib.IntN.{ℤ}
 use mir.Syntax.{w32}
 use mir.ValLaws.{to_z-of_z}
-use Rattle.rules.specs.V2.{hold}
 use Rattle.rules.proofs.V2Bounds.{value_fits}
 use Rattle.rules.proofs.V2Cells.{hold_most}
 use Rattle.v2_cells.proofs.samples.sample_of.Goals as goal
@@ -17,9 +14,3 @@ overflow_cast-result c =
     let v = c.value_of.result in
     let e = rw (to_z-of_z w32 v (record { sfits = c.value_of.type_inv })) at c.held.ensures in
     omega (arith, e, hold_most c.args.top v, c.requires.1.1)
-
-pub returns : goal.returns
-returns c =
-    let v = c.value_of.result in
-    (rw (to_z-of_z w32 v (record { sfits = c.value_of.type_inv })) at c.held.ensures)
-    ∙ ap (λ (z : ℤ). hold c.args.top z) (rw (to_z-of_z w32 c.args.d c.ranges.d, to_z-of_z w32 c.args.scale c.ranges.scale) at c.value_of.ensures)

@@ -7,29 +7,6 @@ use mir.ValLaws.{to_z-of_z}
 use Rattle.rules.specs.V2.{value}
 use Rattle.v2_cells.proofs.samples.scaled.Goals as goal
 
-pub overflow_mul-result : goal.overflow_mul-result
-overflow_mul-result c =
-    let f = c.requires in
-    simp (to_z-of_z w32 c.args.scale c.ranges.scale) (record { sfits = f.twice })
-
-pub overflow_add-result : goal.overflow_add-result
-overflow_add-result c =
-    let f = c.requires in
-    let m = pos 2 *ℤ c.args.scale in
-    simp (to_z-of_z w32 c.args.scale c.ranges.scale, to_z-of_z w32 m (record { sfits = f.twice })) (record { sfits = f.factor })
-
-pub overflow_mul-result-2 : goal.overflow_mul-result-2
-overflow_mul-result-2 c =
-    let f = c.requires in
-    let m = pos 2 *ℤ c.args.scale in
-    simp (to_z-of_z w32 c.args.d c.ranges.d, to_z-of_z w32 c.args.scale c.ranges.scale, to_z-of_z w32 m (record { sfits = f.twice }), to_z-of_z w32 (m +ℤ pos 1) (record { sfits = f.factor })) (record { sfits = f.product })
-
-pub overflow_add-result-2 : goal.overflow_add-result-2
-overflow_add-result-2 c =
-    let f = c.requires in
-    let m = pos 2 *ℤ c.args.scale in
-    simp (c.from.ensures, to_z-of_z w32 (pos c.args.base) (record { sfits = omega arith }), to_z-of_z w32 c.args.d c.ranges.d, to_z-of_z w32 c.args.scale c.ranges.scale, to_z-of_z w32 m (record { sfits = f.twice }), to_z-of_z w32 (m +ℤ pos 1) (record { sfits = f.factor }), to_z-of_z w32 (c.args.d *ℤ (m +ℤ pos 1)) (record { sfits = f.product })) (record { sfits = f.sum })
-
 pub overflow_add-result-3 : goal.overflow_add-result-3
 unfolding value
 overflow_add-result-3 c =

@@ -7,18 +7,8 @@ use mir.ValLaws.{to_z-of_z}
 use Rattle.v2_cells.proofs.SampleLaws.{value_unscaled}
 use Rattle.v2_cells.proofs.samples.value_of.Goals as goal
 
-pub unscaled-requires : goal.unscaled-requires
-unscaled-requires c =
-    let a = c.args in
-    let none : a.scale ≡ pos 0 = sym (to_z-of_z w32 a.scale c.ranges.scale) ∙ ap (to_z w32) c.if-scale-eq0.true in
-    rw (to_z-of_z w32 a.d c.ranges.d) (record { sfits = rw (none, value_unscaled a.base a.d) at c.requires.whole })
-
 pub returns-then-scale-eq0 : goal.returns-then-scale-eq0
 returns-then-scale-eq0 c =
     let a = c.args in
     let none : a.scale ≡ pos 0 = sym (to_z-of_z w32 a.scale c.ranges.scale) ∙ ap (to_z w32) c.if-scale-eq0.true in
     rw (to_z-of_z w32 c.unscaled.result (record { sfits = c.unscaled.type_inv }), none, value_unscaled a.base a.d) (rw (to_z-of_z w32 a.d c.ranges.d) at c.unscaled.ensures)
-
-pub returns : goal.returns
-returns c =
-    rw (to_z-of_z w32 c.scaled.result (record { sfits = c.scaled.type_inv })) (rw (to_z-of_z w32 c.args.d c.ranges.d, to_z-of_z w32 c.args.scale c.ranges.scale) at c.scaled.ensures)
