@@ -1,10 +1,10 @@
--- Filler over a block's bytes one by one, a block's end, the parts of two, and a map that is all the same.
+-- Filler over a block's bytes one by one, a block's end, and the parts of two.
 use mathlib.Core.Path.{◌≡◌, refl, sym, ap, ap₂, ◌∙◌}
-use mathlib.Core.List.{List, [], ◌∷◌, ◌++◌}
-use Prim.Native.Nat.{ℕ, zero, suc, ◌+◌, ◌-◌, ◌≤◌, ◌<◌}
+use mathlib.Core.List.{List}
+use Prim.Native.Nat.{ℕ, suc, ◌+◌, ◌-◌, ◌≤◌, ◌<◌}
 use native.Mathlib.Omega.{arith}
 use lib.Bits.{bit_or}
-use lib.ListN.{length, get_or, set, replicate}
+use lib.ListN.{length, get_or, set}
 use lib.Seq.{set_out}
 use borrow.Author.Tests.{ne_eqb}
 use Rattle.rules.specs.declared.reader.Bits.{Bits}
@@ -70,10 +70,3 @@ module _ (b : Bits) (place : ℕ) (f g : List ℕ) (e : g ≡ f) where
 pub parts_are : (a b : ℕ) → bit_or a b ≡ either_part a b
 unfolding either_part
 parts_are a b = refl
-
--- ── All the same ──
-
--- The same bytes, one more.
-pub all_more : (a n : ℕ) → replicate {A = ℕ} n a ++ (a ∷ []) ≡ replicate (suc n) a
-all_more a zero = refl
-all_more a (suc n) = ap (λ l. a ∷ l) (all_more a n)

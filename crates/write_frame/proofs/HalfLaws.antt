@@ -10,7 +10,7 @@ use native.Mathlib.Nat.{zero-add}
 use lib.Dec.{eqb, ltb}
 use lib.ListN.{length, get_or, set, length-set}
 use lib.Seq.{get_or-set_same, get_or-set_other, ext_get_or}
-use borrow.Author.Tests.{lt-ltb, le-ltb, eq-eqb, ne_eqb}
+use borrow.Author.Tests.{eq-eqb, ne_eqb}
 use Rattle.rules.specs.Frame.{tabulate}
 use Rattle.write_frame.specs.Frames.{by_halves}
 use Rattle.rules.proofs.Tests.{by-test}
@@ -70,10 +70,3 @@ constant_first constant col x z = rw (eq-eqb col 0 z)
 
 pub sample_later : (constant col x : ℕ) → col ≢ 0 → x ≡ cond (eqb col 0) constant x
 sample_later constant col x n = rw (ne_eqb col 0 n)
-
--- Which half sample k is in.
-pub first_half : (k x y : ℕ) → k < 8 → x ≡ cond (ltb k 8) x y
-first_half k x y l = rw (lt-ltb k 8 l)
-
-pub second_half : (k x y : ℕ) → 8 ≤ k → y ≡ cond (ltb k 8) x y
-second_half k x y l = rw (le-ltb k 8 l)
