@@ -183,6 +183,7 @@ fn put_run(runs: &mut [u32], at: usize, row: usize, first: usize, columns: usize
     requires { (at + 3 ≤ length runs.old) × ((row ≤ most_side) × ((first ≤ most_side) × (columns ≤ most_side))) }
     ensures { runs.new ≡ sets runs.old at (row ∷ first ∷ columns ∷ []) }
 {
+    // Casts, since the library has no `From` for them.
     runs[at] = row as u32;
     runs[at + 1] = first as u32;
     runs[at + 2] = columns as u32;

@@ -27,7 +27,7 @@ found = buffers zeros (some zeros) none
 found_is : lengths found ≡ job_lent
 found_is = rw length-replicate
 
-module _ (s : List ℕ) (w h : ℕ) (q : Sound s w h) (l : List ℕ) where
+module _ (s : List ℕ) (w h : ℕ) (q : Sound s (record { width = w; height = h })) (l : List ℕ) where
   -- The offsets lent are as many as there are rows.
   pub offsets_fit : length l ≡ 8_189 → h ≡ length (take h l)
   offsets_fit e = sym (length-take-le h l (omega (arith, q.short, q.table)))

@@ -41,7 +41,7 @@ module _ (s : List ℕ) where
         text_large w h ew eh table l =
             rw (le-ltb most_input (length s) short, le-ltb (length s) 9 head, mark, le-ltb (length s) (stream_start s) (rw eh at table), lt-ltb most_samples (cells (job_size s)) (rw (ew, eh) at l))
 
-        pub text_sound : (w h : ℕ) → Sound s w h → text s ≡ answer_text s
+        pub text_sound : (w h : ℕ) → Sound s (record { width = w; height = h }) → text s ≡ answer_text s
         unfolding text
         text_sound w h q =
             rw (le-ltb most_input (length s) short, le-ltb (length s) 9 head, mark, le-ltb (length s) (stream_start s) (rw q.height_is at q.table), le-ltb most_samples (cells (job_size s)) (rw (q.width_is, q.height_is) at q.few))

@@ -98,7 +98,7 @@ refused_most n = omega (arith, length-append (digits 5 n) (10 ∷ []), digits_mo
 pub fault_room : (t : List ℕ) (n : ℕ) → 10 ≤ length t → Room t 0 (fault n)
 fault_room t n h = record { fits = omega (arith, length-append (digits 5 n) (10 ∷ []), digits_most 5 n) }
 
-pub answer_room : (s t : List ℕ) (w h : ℕ) → Sound s w h → 105_352 ≤ length t → Room t 0 (answer_text s)
+pub answer_room : (s t : List ℕ) (w h : ℕ) → Sound s (record { width = w; height = h }) → 105_352 ≤ length t → Room t 0 (answer_text s)
 unfolding answer_text
 answer_room s t w h q l = record { fits = omega (arith, few) }
   where

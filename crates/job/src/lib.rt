@@ -5,14 +5,16 @@
 mod input;
 mod lines;
 
-ghost use Rattle.std.specs.Prelude.{◌≡◌, List, ℕ, ◌<◌, length};
+ghost use Rattle.std.specs.Prelude.{◌≡◌, List, ℕ, ◌<◌, length, IfOk};
 ghost use Rattle.rules.specs.Job.{most_input, fault, answer_text};
 ghost use Rattle.rules.specs.Job.{text as job_text};
 ghost use Rattle.job.specs.Fields.{Sound};
+ghost use Rattle.job.specs.Faults.{fault_number, checked_text};
 ghost use Rattle.job.specs.Written.{Room, Appends, Holds};
 
 use input::{half_word, marked, read_offsets};
 use lines::{put_fault, put_frame, put_refused};
+use rules::Size;
 use samsung::decode_v0_reference_map;
 
 // The buffers: input bytes, samples with their marks, and offsets, as many as an input that fits can hold after 9 bytes.
@@ -25,27 +27,77 @@ const OFFSETS: usize = 8_189;
 // The longest text: of 8,189 rows of one sample, each with five digits and an asterisk.
 pub const TEXT: usize = 105_352;
 
-// The faults, in the order of their tests: the input is longer than 32,768 bytes, or shorter than 9; its mark or version is
-// another; the offset table is cut; there are more than 8,192 samples.
-const LONGER: usize = 3;
+// Why a job is not done, in the order of the tests.
+#[derive(Clone, Copy)]
+enum Fault {
+    // The input is longer than 32,768 bytes.
+    Longer,
 
-const SHORT: usize = 2;
+    // The input is shorter than 9 bytes.
+    Short,
 
-const UNMARKED: usize = 1;
+    // The mark or the version is another.
+    Unmarked,
 
-const TABLE_CUT: usize = 2;
+    // The offset table is cut.
+    TableCut,
 
-const TOO_MANY: usize = 3;
+    // There are more than 8,192 samples.
+    TooMany,
+}
+
+impl Fault {
+    // The number that the text tells.
+    fn number(self) -> usize
+        ensures { result ≡ fault_number self }
+    {
+        match self {
+            Fault::Longer => 3,
+            Fault::Short => 2,
+            Fault::Unmarked => 1,
+            Fault::TableCut => 2,
+            Fault::TooMany => 3,
+        }
+    }
+}
+
+// The tests of a job: the size of its frame, or the first fault.
+fn check(input: &[u8]) -> Result<Size, Fault>
+    ensures sound { IfOk result (λ size. Sound input.now size) }
+    ensures text { job_text input.now ≡ checked_text input.now result }
+{
+    if INPUT < input.len() {
+        return Err(Fault::Longer);
+    }
+    if input.len() < 9 {
+        return Err(Fault::Short);
+    }
+    if !marked(input) {
+        return Err(Fault::Unmarked);
+    }
+    let width = half_word(input, 5);
+    let height = half_word(input, 7);
+    let table_end = 9 + 4 * height;
+    let cells = width * height;
+    if input.len() < table_end {
+        return Err(Fault::TableCut);
+    }
+    if SAMPLES < cells {
+        return Err(Fault::TooMany);
+    }
+    Ok(Size { width, height })
+}
 
 // The direct decoder's answer to a job that has no fault, and after done the rows.
-fn put_answer(input: &[u8], width: usize, height: usize, text: &mut [u8]) -> usize
-    requires sound { Sound input.now width height }
+fn put_answer(input: &[u8], size: Size, text: &mut [u8]) -> usize
+    requires sound { Sound input.now size }
     requires room { Room text.old 0 (answer_text input.now) }
     ensures { Appends text.old 0 (answer_text input.now) text.new result }
 {
     let mut samples = [0u16; SAMPLES];
     let mut map = [0u8; SAMPLES];
     let mut offsets = [0u32; OFFSETS];
+    let Size { width, height } = size;
     read_offsets(input, &mut offsets, height);
     let stream = 9 + 4 * height;
     let answer = decode_v0_reference_map(
@@ -66,26 +118,10 @@ fn put_answer(input: &[u8], width: usize, height: usize, text: &mut [u8]) -> usi
 pub fn run(input: &[u8], text: &mut [u8; TEXT]) -> usize
     ensures { Holds text.old (job_text input.now) text.new result }
 {
-    if INPUT < input.len() {
-        return put_fault(text, LONGER);
+    match check(input) {
+        Ok(size) => put_answer(input, size, text),
+        Err(fault) => put_fault(text, fault.number()),
     }
-    if input.len() < 9 {
-        return put_fault(text, SHORT);
-    }
-    if !marked(input) {
-        return put_fault(text, UNMARKED);
-    }
-    let width = half_word(input, 5);
-    let height = half_word(input, 7);
-    let table_end = 9 + 4 * height;
-    let cells = width * height;
-    if input.len() < table_end {
-        return put_fault(text, TABLE_CUT);
-    }
-    if SAMPLES < cells {
-        return put_fault(text, TOO_MANY);
-    }
-    put_answer(input, width, height, text)
 }
 
 // The job of an input longer than 32,768 bytes, which need not be lent: every such input has the same text.
@@ -93,5 +129,5 @@ pub fn run_longer(text: &mut [u8; TEXT]) -> usize
     ensures text { Holds text.old (fault 3) text.new result }
     ensures every_input { (s : List ℕ) → most_input < length s → job_text s ≡ fault 3 }
 {
-    put_fault(text, LONGER)
+    put_fault(text, Fault::Longer.number())
 }

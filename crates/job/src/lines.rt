@@ -1,4 +1,5 @@
 // Lines of text. Each function writes from place n of a text on, and answers the place after what it wrote.
+// A struct of the text and its place would hold the lent array by `&mut`, and leave what `run` promises of `text.new` to the loan's end.
 ghost use Rattle.std.specs.Prelude.{◌≡◌, [], ◌∷◌, ◌++◌, ◌+◌, ◌*◌, ◌≤◌, ◌<◌, length};
 ghost use Rattle.rules.specs.Job.{digits, decimal, line, fault, done_line, refused_line, samples_text, rows_text};
 ghost use Rattle.job.specs.Written.{Room, Appends, sample_text, row_text};

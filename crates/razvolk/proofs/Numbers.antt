@@ -11,6 +11,7 @@ use Rattle.rules.specs.declared.v0.V0Row.{V0Row}
 use Rattle.rules.specs.Frame.{cells}
 use Rattle.rules.specs.V0.{head, samples, predictor, order, blocks_in, fresh_row}
 use Rattle.rules.specs.Answer as Plain
+use Rattle.rules_bands.specs.declared.Cut as Declared
 use Rattle.rules_bands.specs.Bands as Cut
 use Rattle.rules_bands.specs.Call as Bands
 use Rattle.rules_clean.specs.Verdict as Verdict
@@ -53,7 +54,7 @@ plain_number ns a l e one three four done =
 abbrev pub in_bands : List ℕ
 in_bands = 0 ∷ 1 ∷ 3 ∷ 4 ∷ 11 ∷ 12 ∷ []
 
-list_number : (c : Cut.Cut) (steps : List ℕ) → OneOf in_bands (Bands.list_refusal c steps)
+list_number : (c : Declared.Cut) (steps : List ℕ) → OneOf in_bands (Bands.list_refusal c steps)
 unfolding listed Bands.list_refusal
 list_number c steps = either (OneOf in_bands) (Cut.fits c) (cond (Cut.good c steps) 0 12) 11 (either (OneOf in_bands) (Cut.good c steps) 0 12 refl refl) refl
 

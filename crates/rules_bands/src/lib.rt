@@ -13,6 +13,7 @@ use rules::{Refusal, Size, V0Row};
 pub const MOST_BANDS: usize = 64;
 
 // How a frame is cut: its size, the number of bands, and the columns of a block.
+// No invariant `fits`: refusal 11 is about cuts that don't.
 #[derive(Clone, Copy)]
 pub struct Cut {
     pub size: Size,
@@ -62,6 +63,7 @@ impl Cut {
         }
         let mut done = [0u32; MOST_BANDS];
         for step in steps {
+            // Casts, here and below, since the library has no `From` for them.
             let n = *step as usize;
             if count <= n {
                 return false;

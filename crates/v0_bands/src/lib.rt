@@ -87,6 +87,7 @@ pub fn add_steps(out: &mut [u16], dirs: &[u8], cut: Cut, steps: &[u32])
     let blocks = cut.blocks_per_band();
     let late = cut.late_rows();
     for step in steps {
+        // A cast, since the library has no `From` for it.
         let n = *step as usize;
         let band = n / blocks;
         let first = band * late / cut.bands;

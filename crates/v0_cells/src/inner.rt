@@ -69,7 +69,8 @@ fn of_parity<T: Copy>(c: usize, even: T, odd: T) -> T
     if c % 2 == 0 { even } else { odd }
 }
 
-// The cells of a block, once all are known.
+// The cells of a block, once all are known. Inlined, so that they stay in registers until then.
+#[inline(always)]
 pub fn store<C: Cell>(cells: &mut [C], base: usize, values: &[C])
     requires { (base + 16 ≤ length cells.old) × ((16 ≤ length values.now) × Low base) }
     ensures { Replaced C.kind base 16 (λ c. slice_index_or values.now c (C.kind.constant 0)) cells.old cells.new }

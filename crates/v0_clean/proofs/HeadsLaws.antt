@@ -32,6 +32,7 @@ use Rattle.v0_cells.specs.Places.{Inner}
 use Rattle.v0_lanes.specs.Blocks.{head_after, head_before}
 use Rattle.v0_lanes.specs.Lengths.{byte0, byte1, byte2, byte3, Packed, lengths_of, lengths_after}
 use Rattle.v0_lanes.specs.declared.lengths.PackedHead.{PackedHead}
+use Rattle.v0_lanes.specs.declared.lengths.ShortLengths.{ShortLengths}
 use Rattle.v0_direct.specs.declared.run.Run.{Run}
 use Rattle.v0_clean.specs.OffsetsLent.{InRow}
 use Rattle.v0_clean.specs.Block.{seen}
@@ -99,18 +100,18 @@ run_goes s last n st st' a b e = rw (a, b, e)
 module _ {s : List ℕ} {t t' : Track} {h : PackedHead} (x : Tracked s t) (m : Moved t h t') (room : Ahead s t.base t.q block_ahead)
     (at : NextHead s t h) (fit : short (lengths_after h.sums) ≡ true) where
   abbrev next : WindowHead
-  next = head_before h.up (t.q + h.size) t'.lengths
+  next = head_before h.up (t.q + h.size) t'.lengths.bytes
 
-  next_head : HeadAt s t.base t.q (lengths_of t.lengths) next
+  next_head : HeadAt s t.base t.q (lengths_of t.lengths.bytes) next
   next_head =
-      subst (λ ls. HeadAt s t.base t.q (lengths_of t.lengths) (record { up = h.up; lengths = ls; q = t.q + h.size })) (sym (m.lengths_are fit)) at
+      subst (λ ls. HeadAt s t.base t.q (lengths_of t.lengths.bytes) (record { up = h.up; lengths = ls; q = t.q + h.size })) (sym (m.lengths_are fit)) at
 
   after : Ahead s t.base (t.q + h.size) residuals_ahead
   after = after_head room next_head
 
   abbrev plan : Plan
   plan =
-      let q = t.q + h.size in let l = t'.lengths in
+      let q = t.q + h.size in let l = t'.lengths.bytes in
       record {
         n0 = byte0 l;
         n1 = byte1 l;
@@ -125,7 +126,7 @@ module _ {s : List ℕ} {t t' : Track} {h : PackedHead} (x : Tracked s t) (m : M
   plans : Plans next plan
   unfolding lengths_of length_bits
   plans =
-      let p = m.packed in
+      let p = t'.lengths.packed in
       record {
         is₀ = omega (arith, p.first);
         is₁ = omega (arith, p.second);
@@ -141,7 +142,6 @@ module _ {s : List ℕ} {t t' : Track} {h : PackedHead} (x : Tracked s t) (m : M
   tracked_on : Tracked s t'
   tracked_on =
       record {
-        packed = m.packed;
         ahead = subst (λ b. Ahead s b t'.q 31) (sym m.same_base) (plan_ahead after plans);
         there = omega (arith, x.there, m.same_base);
         last_is = rw (m.same_last, m.same_base) x.last_is;
@@ -172,7 +172,7 @@ module _ {s : List ℕ} {t t' : Track} {h : PackedHead} (x : Tracked s t) (m : M
     one_passed =
         let inside = i.inside in
         let down : ltb row 2 && h.up ≡ false = rw (le-ltb row 2 i.late) in
-        rest_here s z row 0 (row_of s t) col (omega arith) read 0 read_seen (fault_none row read read.row.bits down (packed_fit t'.lengths m.packed) refl)
+        rest_here s z row 0 (row_of s t) col (omega arith) read 0 read_seen (fault_none row read read.row.bits down (packed_fit t'.lengths.bytes t'.lengths.packed) refl)
 
   -- One more of those passed over.
   pub passed_on : {z : Size} {col₀ col : ℕ} {t₀ : Track} → 0 < col₀ → col + 16 ≤ z.width → PassedAt s z col₀ t₀ col t → PassedAt s z col₀ t₀ (col + 16) t'
@@ -205,7 +205,7 @@ stays x = record { placed = x; same = λ row late i. refl }
 pub goes : {s : List ℕ} {z : Size} {p p' : Run} {col : ℕ} {t t' : Track} → p.col ≡ 16 → p.state ≡ row_of s t → p' ≡ point s col t' → PassedAt s z 16 t col t' → Passed s z p p'
 goes {s} {z} {p} {p'} {col} {t} {t'} ec es e' x =
     record {
-      placed = rw e' (record { whole = x.whole; below = x.below; near = within_more 15 (15 + col / 16) (lengths_of t'.lengths) (omega arith) (packed_near t'.lengths x.tracked.packed) });
+      placed = rw e' (record { whole = x.whole; below = x.below; near = within_more 15 (15 + col / 16) (lengths_of t'.lengths.bytes) (omega arith) (packed_near t'.lengths.bytes t'.lengths.packed) });
       same = λ row late i. ap (fault_from s z row) here ∙ x.same row late i ∙ ap (fault_from s z row) (sym e');
     }
   where
@@ -215,13 +215,13 @@ goes {s} {z} {p} {p'} {col} {t} {t'} ec es e' x =
 -- ── A row by position ──
 
 -- A row that is ready, by position.
-pub track_made : {s : List ℕ} {p : Run} {l last : ℕ} → Ready s p → Packed l → lengths_of l ≡ p.state.lengths → last ≡ last_start (length s - (p.state.bits.pos - 12))
+pub track_made : {s : List ℕ} {p : Run} {l : ShortLengths} {last : ℕ} → Ready s p → lengths_of l.bytes ≡ p.state.lengths → last ≡ last_start (length s - (p.state.bits.pos - 12))
     → TrackOf s p (record { base = p.state.bits.pos - 12; q = 96 - p.state.bits.count; lengths = l; last = last })
-track_made {s} {p} r packed el e =
+track_made {s} {p} r el e =
     let x = r.standing in let a = standing_ahead x in
     record {
       base_is = refl;
-      tracked = record { packed = packed; ahead = record { late = a.late; soon = omega (arith, a.soon); there = omega (arith, a.there); far = omega (arith, a.far) }; there = omega (arith, x.there); last_is = e };
+      tracked = record { ahead = record { late = a.late; soon = omega (arith, a.soon); there = omega (arith, a.there); far = omega (arith, a.far) }; there = omega (arith, x.there); last_is = e };
       is = ap₂ (λ ls (b : Bits). record { lengths = ls; bits = b }) (sym el) (x.is ∙ ap (state_at s (p.state.bits.pos - 12) (96 - p.state.bits.count)) r.clear);
     }
 
@@ -242,10 +242,10 @@ module _ {s : List ℕ} (t : Tracks) where
     all_room =
         let a = all_ahead in
         record {
-          first = record { room = ahead_room a.first; packed = x.first.packed };
-          second = record { room = ahead_room a.second; packed = x.second.packed };
-          third = record { room = ahead_room a.third; packed = x.third.packed };
-          fourth = record { room = ahead_room a.fourth; packed = x.fourth.packed };
+          first = record { room = ahead_room a.first };
+          second = record { room = ahead_room a.second };
+          third = record { room = ahead_room a.third };
+          fourth = record { room = ahead_room a.fourth };
         }
 
   pub all_near : (h : OfFour PackedHead) → AllTracked s t → HeadsAt s t h → HeadsNear t h
@@ -297,10 +297,10 @@ module _ (s : List ℕ) (z : Size) (t : Tracks) where
         ap (λ k. run_length s (u.base * 8 + u.last) k (row_of s u)) n ∙ run_over s (u.base * 8 + u.last) (row_of s u)
 
     none_late : leb u.q u.last ≡ false → blocks_on s z t.col u ≡ 0
-    none_late e = run_late s u.base 0 u.last u.q (lengths_of u.lengths) ((z.width - t.col) / 16) (leb-false u.q u.last e)
+    none_late e = run_late s u.base 0 u.last u.q (lengths_of u.lengths.bytes) ((z.width - t.col) / 16) (leb-false u.q u.last e)
 
     none_long : (h : PackedHead) → NextHead s u h → leb u.q u.last ≡ true → short (lengths_after h.sums) ≡ false → blocks_on s z t.col u ≡ 0
-    none_long h at l e = run_long s u.base 0 u.last u.q (lengths_of u.lengths) (head_after u.q h) at ((z.width - t.col) / 16) (leb-true u.q u.last l) e
+    none_long h at l e = run_long s u.base 0 u.last u.q (lengths_of u.lengths.bytes) (head_after u.q h) at ((z.width - t.col) / 16) (leb-true u.q u.last l) e
 
   -- What each way out decides.
   pub ends_narrow : z.width < t.col + 16 → least_on s z t ≡ 0

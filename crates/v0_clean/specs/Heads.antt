@@ -7,7 +7,7 @@ use Rattle.read_window.specs.Window.{Standing, standing_in, state_at}
 use Rattle.v0_parse_window.specs.ByWindow.{Room, Ahead, HeadAt, last_start, short}
 use Rattle.v0_parse_window.specs.Run.{last_bit, run_length}
 use Rattle.v0_lanes.specs.Blocks.{head_after}
-use Rattle.v0_lanes.specs.Lengths.{Packed, lengths_of, lengths_after, block_end}
+use Rattle.v0_lanes.specs.Lengths.{lengths_of, lengths_after, block_end}
 use Rattle.v0_lanes.specs.declared.lengths.PackedHead.{PackedHead}
 use Rattle.v0_direct.specs.declared.run.Run.{Run}
 use Rattle.v0_clean.specs.OffsetsLent.{InRow}
@@ -34,14 +34,13 @@ ready s p = all_four (eqb p.col 16) (eqb p.state.bits.filler 0) (short p.state.l
 
 -- The row's state by position, and the point at a column.
 abbrev pub row_of : List ℕ → Track → V0Row
-row_of s t = record { lengths = lengths_of t.lengths; bits = state_at s t.base t.q 0 }
+row_of s t = record { lengths = lengths_of t.lengths.bytes; bits = state_at s t.base t.q 0 }
 
 abbrev pub point : List ℕ → ℕ → Track → Run
 point s col t = record { col = col; state = row_of s t }
 
 -- The record can be made again there: the word that it has fetched lies within 31 bits.
 pub record Tracked (s : List ℕ) (t : Track) : Type 0 where
-  pub packed : Packed t.lengths
   pub ahead : Ahead s t.base t.q 31
   pub there : t.base ≤ length s
   pub last_is : t.last ≡ last_start (length s - t.base)
@@ -54,18 +53,16 @@ pub record TrackOf (s : List ℕ) (p : Run) (t : Track) : Type 0 where
 -- Where a head can be read.
 pub record RoomAt (s : List ℕ) (t : Track) : Type 0 where
   pub room : Room s t.base t.q
-  pub packed : Packed t.lengths
 
 abbrev pub NextHead : List ℕ → Track → PackedHead → Type 0
-NextHead s t h = HeadAt s t.base t.q (lengths_of t.lengths) (head_after t.q h)
+NextHead s t h = HeadAt s t.base t.q (lengths_of t.lengths.bytes) (head_after t.q h)
 
 -- A row after a block whose residuals begin after a head.
 pub record Moved (t : Track) (h : PackedHead) (t' : Track) : Type 0 where
   pub same_base : t'.base ≡ t.base
   pub same_last : t'.last ≡ t.last
-  pub packed : Packed t'.lengths
-  pub lengths_are : short (lengths_after h.sums) ≡ true → lengths_of t'.lengths ≡ lengths_after h.sums
-  pub ends : t'.q ≡ block_end (t.q + h.size) t'.lengths
+  pub lengths_are : short (lengths_after h.sums) ≡ true → lengths_of t'.lengths.bytes ≡ lengths_after h.sums
+  pub ends : t'.q ≡ block_end (t.q + h.size) t'.lengths.bytes
 
 -- Blocks passed over from one column to another.
 pub record PassedAt (s : List ℕ) (z : Size) (col : ℕ) (t : Track) (col' : ℕ) (t' : Track) : Type 0 where

@@ -18,7 +18,9 @@ use read_window::{BACK_BITS, BACK_BYTES, stands_within, state_at};
 use rules::{Size, V0Row};
 use v0_direct::run::Run;
 use v0_lanes::blocks::head_at;
-use v0_lanes::lengths::{PackedHead, all_fit, ends_of, lengths_after, packed, unpacked};
+use v0_lanes::lengths::{
+    PackedHead, ShortLengths, all_fit, ends_of, lengths_after, packed, unpacked,
+};
 use v0_parse_window::{BLOCK_BYTES, are_short, last_start};
 
 // Something of each of four rows. Named fields, and no array, keep the four side by side in registers.
@@ -65,7 +67,7 @@ impl<T: Copy> OfFour<T> {
 struct Track {
     base: usize,
     q: usize,
-    lengths: u32,
+    lengths: ShortLengths,
     last: usize,
 }
 

@@ -12,7 +12,8 @@ pub mod sample;
 
 use rules::{Size, V0Row};
 
-// Where a block lies: at a column of a row of a frame.
+// Where a block lies: at a column of a row of a frame. That it lies inside is said by contracts, not by the type: a run may end at the
+// row's end, which is such a place too.
 #[derive(Clone, Copy)]
 pub struct V0Place {
     pub size: Size,

@@ -8,26 +8,34 @@ ghost use Rattle.v0_lanes.specs.Tables.{Holds};
 
 use v0_parse::block::residual_length;
 
-// Four short lengths in one number, and the four of a number. The remainders say that each is below 16.
-pub fn packed(lengths: [i32; 4]) -> u32
-    requires { short lengths ≡ true }
-    ensures { Packed result × (lengths_of result ≡ lengths) }
-{
-    residual_length(lengths[0]) % 16
-        + residual_length(lengths[1]) % 16 * 256
-        + residual_length(lengths[2]) % 16 * 65_536
-        + residual_length(lengths[3]) % 16 * 16_777_216
+// Four lengths of 0 to 15, the first in the lowest byte.
+#[derive(Clone, Copy)]
+pub struct ShortLengths {
+    pub bytes: u32,
+    pub ghost packed: { Packed bytes },
 }
 
-pub fn unpacked(l: u32) -> [i32; 4]
-    requires { Packed l }
-    ensures { result ≡ lengths_of l }
+// Four short lengths in one number, and the four of a number. The remainders say that each is below 16.
+pub fn packed(lengths: [i32; 4]) -> ShortLengths
+    requires { short lengths ≡ true }
+    ensures { lengths_of result.bytes ≡ lengths }
+{
+    ShortLengths {
+        bytes: residual_length(lengths[0]) % 16
+            + residual_length(lengths[1]) % 16 * 256
+            + residual_length(lengths[2]) % 16 * 65_536
+            + residual_length(lengths[3]) % 16 * 16_777_216,
+    }
+}
+
+pub fn unpacked(l: ShortLengths) -> [i32; 4]
+    ensures { result ≡ lengths_of l.bytes }
 {
     [
-        (l % 256) as i32,
-        (l / 256 % 256) as i32,
-        (l / 65_536 % 256) as i32,
-        (l / 16_777_216) as i32,
+        (l.bytes % 256) as i32,
+        (l.bytes / 256 % 256) as i32,
+        (l.bytes / 65_536 % 256) as i32,
+        (l.bytes / 16_777_216) as i32,
     ]
 }
 
@@ -51,15 +59,15 @@ fn nibbles(x: u64, s: u32) -> u32
 }
 
 // A head out of the bits v, its first bit highest, after lengths of 0 to 15.
-pub fn packed_head(v: u64, l: u32, t: &[u32; 1024]) -> PackedHead
-    requires { Packed l × Holds actions 1_024 t.now }
-    ensures { HeadOf v l result }
+pub fn packed_head(v: u64, l: ShortLengths, t: &[u32; 1024]) -> PackedHead
+    requires { Holds actions 1_024 t.now }
+    ensures { HeadOf v l.bytes result }
 {
     let i = (v / 36_028_797_018_963_968 % 256) as usize * 4;
     let x = nibbles(v % 36_028_797_018_963_968, t[i + 2]);
     PackedHead {
         up: v / 9_223_372_036_854_775_808 == 1,
-        sums: (l & t[i]) + t[i + 1] + x,
+        sums: (l.bytes & t[i]) + t[i + 1] + x,
         size: t[i + 3] as usize,
     }
 }
@@ -72,10 +80,12 @@ pub fn all_fit(sums: u32) -> bool
 }
 
 // The lengths for the next head, if all are. The mask tells the compiler that each is below 16.
-pub fn lengths_after(sums: u32) -> u32
-    ensures { Packed result × (short (lengths_after sums) ≡ true → lengths_of result ≡ lengths_after sums) }
+pub fn lengths_after(sums: u32) -> ShortLengths
+    ensures { short (lengths_after sums) ≡ true → lengths_of result.bytes ≡ lengths_after sums }
 {
-    sums & 252_645_135
+    ShortLengths {
+        bytes: sums & 252_645_135,
+    }
 }
 
 // Where the four groups after a head end, if the first begins at bit q.
@@ -87,16 +97,16 @@ pub struct Ends {
     pub fourth: usize,
 }
 
-pub fn ends_of(q: usize, l: u32) -> Ends
-    requires { (q < 2 ^ 32) × Packed l }
-    ensures first_value { result.first ≡ q + 4 * byte0 l }
-    ensures second_value { result.second ≡ q + 4 * byte0 l + 4 * byte1 l }
-    ensures third_value { result.third ≡ q + 4 * byte0 l + 4 * byte1 l + 4 * byte2 l }
-    ensures fourth_value { result.fourth ≡ block_end q l }
+pub fn ends_of(q: usize, l: ShortLengths) -> Ends
+    requires { q < 2 ^ 32 }
+    ensures first_value { result.first ≡ q + 4 * byte0 l.bytes }
+    ensures second_value { result.second ≡ q + 4 * byte0 l.bytes + 4 * byte1 l.bytes }
+    ensures third_value { result.third ≡ q + 4 * byte0 l.bytes + 4 * byte1 l.bytes + 4 * byte2 l.bytes }
+    ensures fourth_value { result.fourth ≡ block_end q l.bytes }
 {
-    let sums = u64::from(l) * 16_843_009;
+    let sums = u64::from(l.bytes) * 16_843_009;
     Ends {
-        first: q + (l % 256 * 4) as usize,
+        first: q + (l.bytes % 256 * 4) as usize,
         second: q + (sums / 256 % 256) as usize * 4,
         third: q + (sums / 65_536 % 256) as usize * 4,
         fourth: q + (sums / 16_777_216 % 256) as usize * 4,

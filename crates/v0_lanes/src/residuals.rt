@@ -7,7 +7,7 @@ ghost use Rattle.v0_lanes.specs.Tables.{Holds, shapes};
 
 use read_window::window;
 
-// Four fields of n bits as two halves of 32.
+// Four fields of n bits as two halves of 32. That n is below 16 each contract says by itself: a type for it would be opened at each shift.
 fn halved(d: u64, n: u32, whole: u64, gap: u64) -> u64
     requires { (n < 16) × ((whole ≡ 2 ^ (4 * n) - 1) × (gap ≡ 2 ^ 32 - 2 ^ (2 * n))) }
     ensures { result ≡ d / 2 ^ (2 * n) % 2 ^ (2 * n) * 2 ^ 32 + d % 2 ^ (2 * n) }

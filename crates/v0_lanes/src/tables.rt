@@ -7,7 +7,8 @@ ghost use Rattle.v0_lanes.specs.Tables.{Holds, shape, shapes};
 
 use read_fields::power;
 
-// The table of the lanes and that of the heads, each filled by its rule.
+// The table of the lanes and that of the heads, each filled by its rule. What reads heads alone, as the verdict on a clean frame does,
+// fills that table alone.
 #[derive(Drop)]
 pub struct Tables {
     pub lanes: [u64; 96],
@@ -43,7 +44,7 @@ pub fn fill_lanes(t: &mut [u64; 96])
     }
 }
 
-// The bits of a length that an operation keeps.
+// The bits of a length that an operation keeps. An operation is its number, 0 to 3, and no enum: each rule below reckons with it.
 #[tactic(auto, unfolding(crate::specs::Lengths::keep))]
 fn keep_of(op: u32) -> u32
     ensures { (result ≡ keep op) × (result < 256) }

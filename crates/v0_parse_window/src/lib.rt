@@ -126,7 +126,8 @@ pub fn plan_of(head: WindowHead) -> Plan
 // The longest of short lengths: four bits hold each, and with one more bit what an operation makes of it.
 const SHORT: i32 = 15;
 
-// Whether a length is the number of its residuals' bits, and four of them lie in one window; where it isn't, another way reads them.
+// Whether a length is the number of its residuals' bits, and four of them lie in one window; where it isn't, another way reads them. A
+// clean length may be one more: either limit is a definition of its own (`short_length`, `fits`).
 fn is_short(length: i32) -> bool
     ensures { result ≡ short_length length }
 {

@@ -39,6 +39,7 @@ fn join(p: Pending, n: u32, x: u32) -> u64
 fn low(x: u64) -> u32
     ensures { result ≡ x % 2 ^ 32 }
 {
+    // A cast, since the library has no `From` for it.
     (x % 4_294_967_296) as u32
 }
 
@@ -116,6 +117,7 @@ pub fn length_of(a: u16, b: u16, c: u16, d: u16) -> u32
 }
 
 // A block's four lengths.
+// No type for `Shorts`: it holds of frames that can be written (`Writable`), and `numbers_of` is asked of others too.
 fn lengths_of(d: [u16; 16]) -> [u32; 4]
     requires { Shorts d }
     ensures { result ≡ lengths_for (numbers d) }
@@ -144,6 +146,7 @@ pub fn block_length(d: [u16; 16]) -> usize
     ensures { result ≡ length (block_bits (numbers d)) }
 {
     let lengths = lengths_of(d);
+    // A cast, since the library has no `From` for it.
     (25 + 4 * (lengths[0] + lengths[1] + lengths[2] + lengths[3])) as usize
 }
 
@@ -152,6 +155,7 @@ fn pair(n: u32, a: u16, b: u16) -> u32
     requires { n < 16 }
     ensures { result ≡ a * 2 ^ n + b % 2 ^ n }
 {
+    // A cast, since the library has no `From` for it.
     (u64::from(a) * power(n) + u64::from(b) % power(n)) as u32
 }
 

@@ -40,6 +40,7 @@ fn put_offset(offsets: &mut [u32], row: usize, at: usize)
     ensures { offsets.new ≡ set offsets.old row at }
 {
     if row < offsets.len() {
+        // A cast, since the library has no `From` for it.
         offsets[row] = at as u32;
     }
 }

@@ -11,6 +11,7 @@ use rules::{Answer, Refusal};
 
 // Bits that wait for their word: the low `count` bits of `word`, fewer than 32. `pos` is the byte position where the word will
 // stand.
+// No invariant `count < 32`: `nothing` and `put_state`, of which the rules say what is written, make these records too.
 #[derive(Clone, Copy)]
 pub struct Pending {
     pub pos: usize,

@@ -11,8 +11,8 @@ const LINES: usize = 130;
 /// The documents beside those in docs/.
 const AT_THE_TOP: [&str; 4] = ["README.md", "CONTRIBUTING.md", "CHANGELOG.md", "SECURITY.md"];
 
-/// A record that is looked up, and not read through.
-const RECORD: &str = "docs/PORT.md";
+/// Records that are looked up, and not read through.
+const RECORDS: [&str; 2] = ["docs/PORT.md", "docs/DESIGN-PASS.md"];
 
 /// How many words a text has; a table's bars and a list's dashes are none.
 fn words(text: &str) -> usize {
@@ -26,7 +26,10 @@ fn words_are_counted() {
 
 #[test]
 fn all_documents_are_short() {
-    let pages = texts("docs", "md").into_iter().filter(|(path, _)| !path.ends_with(RECORD)).map(|(_, text)| text);
+    let pages = texts("docs", "md")
+        .into_iter()
+        .filter(|(path, _)| !RECORDS.iter().any(|record| path.ends_with(record)))
+        .map(|(_, text)| text);
     let counts: Vec<usize> = AT_THE_TOP.iter().map(|path| text(path)).chain(pages).map(|text| words(&text)).collect();
     assert!(counts.len() > 12, "{counts:?}");
     let sum: usize = counts.iter().sum();

@@ -4,9 +4,6 @@ use Rattle.rules.specs.declared.reader.Bits.{Bits}
 use Rattle.v0_parse_window.proofs.GroupLaws.{end_room}
 use Rattle.v0_clean.proofs.heads.run_of.Goals as goal
 
-pub unpacked-lengths-requires : goal.unpacked-lengths-requires
-unpacked-lengths-requires c = c.requires.packed
-
 pub state_at-bits-requires : goal.state_at-bits-requires
 state_at-bits-requires c = end_room c.requires.ahead
 

@@ -19,4 +19,4 @@ pub last_start-requires : goal.last_start-requires
 last_start-requires c = let x = c.requires.standing in omega (arith, x.there)
 
 pub returns : goal.returns
-returns c = track_made c.requires c.packed.ensures.0 c.packed.ensures.1 c.last_start.ensures
+returns c = track_made c.requires c.packed.ensures c.last_start.ensures

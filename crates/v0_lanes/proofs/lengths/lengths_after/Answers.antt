@@ -2,5 +2,8 @@
 use Rattle.v0_lanes.proofs.LengthLaws.{low_packed, low_lengths}
 use Rattle.v0_lanes.proofs.lengths.lengths_after.Goals as goal
 
+pub invariant_of-result : goal.invariant_of-result
+invariant_of-result c = record { packed = low_packed c.args.sums c.ranges.sums.fits }
+
 pub returns : goal.returns
-returns c = let u = c.args.sums in (low_packed u c.ranges.sums.fits, low_lengths u c.ranges.sums.fits)
+returns c = low_lengths c.args.sums c.ranges.sums.fits

@@ -6,6 +6,6 @@ use Rattle.v0_lanes.proofs.lengths.packed.Goals as goal
 
 pub returns : goal.returns
 returns c =
-    packed_are _ _ _ _ _ (search rules) c.requires
+    (packed_are _ _ _ _ _ (search rules) c.requires
     (counted (get_or c.args.lengths 0 (pos 0)) _ (search rules) c.residual_length.ensures) (counted (get_or c.args.lengths 1 (pos 0)) _ (search rules) c.residual_length-2.ensures)
-    (counted (get_or c.args.lengths 2 (pos 0)) _ (search rules) c.residual_length-3.ensures) (counted (get_or c.args.lengths 3 (pos 0)) _ (search rules) c.residual_length-4.ensures)
+    (counted (get_or c.args.lengths 2 (pos 0)) _ (search rules) c.residual_length-3.ensures) (counted (get_or c.args.lengths 3 (pos 0)) _ (search rules) c.residual_length-4.ensures)).1

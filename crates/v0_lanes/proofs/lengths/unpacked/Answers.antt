@@ -7,10 +7,10 @@ use Rattle.v0_lanes.proofs.lengths.unpacked.Goals as goal
 pub returns : goal.returns
 unfolding lengths_of
 returns c =
-    let l = c.args.l in let p = c.requires in
+    let l = c.args.l.bytes in
     rw (
       to_z_pos w32 {n = l % 256} (omega arith),
       to_z_pos w32 {n = l / 256 % 256} (omega arith),
       to_z_pos w32 {n = l / 65_536 % 256} (omega arith),
-      to_z_pos w32 {n = l / 16_777_216} (omega (arith, p.fourth)),
+      to_z_pos w32 {n = l / 16_777_216} (omega (arith, c.args.l.packed.fourth)),
     )

@@ -7,9 +7,6 @@ use Rattle.write_frame.proofs.CodingLaws.{unit_is, width_is, coding_unit, format
 use Rattle.write_frame.proofs.RowLaws.{row_begun, block_room, row_on, fourth, end_is, row_gone}
 use Rattle.write_frame.proofs.write.write_row.Goals as goal
 
-pub none-p-requires : goal.none-p-requires
-none-p-requires c = tt
-
 pub loop-block-init : goal.loop-block-init
 loop-block-init c = row_begun _ _ _ _ _ c.none-p.ensures
 
@@ -29,9 +26,6 @@ loop-block-preserved c =
     let a = c.args in
     let l = c.loop-block in
     row_on (coding_unit _ _ _) l.invariant _ _ _ _ (omega arith) c.numbers_of-d.ensures (omega (arith, width_is a.size a.samples.now a.format)) (wrote c.put_block-p.ensures)
-
-pub unit_of-requires : goal.unit_of-requires
-unit_of-requires c = tt
 
 pub finish-q-requires : goal.finish-q-requires
 finish-q-requires c =
