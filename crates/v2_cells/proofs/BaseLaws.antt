@@ -82,13 +82,6 @@ module _ (row col motion : ℕ) where
 
 -- ── The base's cells ──
 
--- A place on the runs is inside where their ends are.
-pub along_inside : (n i : ℕ) (refs : References) → Runs n refs → i < 16 → along refs i + cond refs.averaging 2 0 < n
-along_inside n i refs r h =
-    by-test (eqb (i % 2) 0)
-    (λ e. rw e (let m : i % 2 ≡ 0 = eqb-true (i % 2) 0 e in omega (arith, r.even_end)))
-    (λ e. rw e (omega (arith, r.odd_end)))
-
 pub bases_7 : {A : Type 0} (K : Kind A) (f : List A) (h : V2Hdr) (w row col motion : ℕ) (l : List A) → motion ≡ 7
     → l ≡ tabulate 16 0 (λ i. base_cell K f (repeated h w row col i)) → l ≡ tabulate 16 0 (λ i. base_cell K f (base h w row col motion i))
 unfolding base

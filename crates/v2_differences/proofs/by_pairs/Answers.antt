@@ -1,12 +1,9 @@
-use Rattle.std.proofs.Common.{◌≡◌, ◌+◌, ◌*◌, sym, refl, ◌∙◌, arith, w32, rules}
+use Rattle.std.proofs.Common.{◌≡◌, ◌+◌, ◌*◌, sym, ◌∙◌, arith, w32, rules}
 use mir.ValLaws.{to_z-of_z}
 use Rattle.v2_differences.proofs.DifferenceLaws.{difference_end}
 use Rattle.v2_differences.proofs.PairLaws.{pair_more}
 use Rattle.v2_differences.proofs.PositionLaws.{position_at}
 use Rattle.v2_differences.proofs.by_pairs.Goals as goal
-
-pub loop-half-init : goal.loop-half-init
-loop-half-init c = λ row e. refl
 
 pub loop-half-preserved : goal.loop-half-preserved
 loop-half-preserved c =

@@ -1,11 +1,8 @@
 -- Each row comes to what the rule says of it; the frame goes on after it, or is left with its refusal.
 use Rattle.std.proofs.Common.{refl, ◌∙◌, ne_eqb}
 use Rattle.rules.proofs.RefusalNumbers.{number_not}
-use Rattle.v2_frame.proofs.FrameLaws.{frame_starts, frame_ends, frame_stops, frame_goes, depth_is, frame_is}
+use Rattle.v2_frame.proofs.FrameLaws.{frame_ends, frame_stops, frame_goes, depth_is, frame_is}
 use Rattle.v2_frame.proofs.frame.decode_frame.Goals as goal
-
-pub loop-row-init : goal.loop-row-init
-loop-row-init c = record { out_long = refl; map_long = refl; going = frame_starts _ _ _ _ _ _ _ _ }
 
 pub decode_row-requires : goal.decode_row-requires
 decode_row-requires c =
