@@ -13,7 +13,8 @@ use write_rules::{Written, is_too_bright};
 
 // Refuses samples that are to be written, by the first of 1, 3 and 9 that holds.
 pub fn refuse_samples(samples: &[u16], size: Size) -> Result<(), Refusal>
-    ensures { answer_number result ≡ cond (too_large size) 1 (cond (ltb (length samples.now) (cells size)) 3 (cond (too_bright (take (cells size) samples.now)) 9 0)) }
+    ensures { answer_number result
+        ≡ cond (too_large size) 1 (cond (ltb (length samples.now) (cells size)) 3 (cond (too_bright (take (cells size) samples.now)) 9 0)) }
 {
     refuse_lent(size, samples.len(), None)?;
     let n = size.width * size.height;

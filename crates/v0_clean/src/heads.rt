@@ -51,7 +51,8 @@ impl<T: Copy> OfFour<T> {
     #[inline(always)]
     fn map_with<V: Copy, U, F: Fn(T, V) -> U>(self, other: OfFour<V>, f: F) -> OfFour<U>
         requires { Four (F.pre f self.a other.a) (F.pre f self.b other.b) (F.pre f self.c other.c) (F.pre f self.d other.d) }
-        ensures { Four (F.post f self.a other.a result.a) (F.post f self.b other.b result.b) (F.post f self.c other.c result.c) (F.post f self.d other.d result.d) }
+        ensures { Four (F.post f self.a other.a result.a) (F.post f self.b other.b result.b)
+            (F.post f self.c other.c result.c) (F.post f self.d other.d result.d) }
     {
         OfFour {
             a: f(self.a, other.a),

@@ -51,7 +51,7 @@ fn reference_plus_5(at: V2Place, motion: u32, i: usize) -> usize
 }
 
 // The references of motions 0 to 6, in a block that meets no refusal.
-fn references_of(at: V2Place, motion: u32) -> References
+pub fn references_of(at: V2Place, motion: u32) -> References
     requires { Referring at motion }
     ensures { result ≡ references at motion }
 {
@@ -65,7 +65,7 @@ fn references_of(at: V2Place, motion: u32) -> References
 }
 
 // Where sample i refers to, from where samples 0 and 1 do.
-fn along_from(refs: References, i: usize) -> usize
+pub fn along_from(refs: References, i: usize) -> usize
     requires { (refs.even + 15 < 2 ^ 64) × ((refs.odd + 15 < 2 ^ 64) × (i < 16)) }
     ensures { result ≡ along refs i }
 {

@@ -60,8 +60,9 @@ const LONG: [&str; 11] = [
 ];
 
 /// The files where a `requires` joins more than two facts, which want a record.
-const JOINED: [&str; 21] = [
+const JOINED: [&str; 20] = [
     "frame_blank/src/lib.rt",
+    "read_window/src/four.rt",
     "read_window/src/lib.rt",
     "v0_cells/src/inner.rt",
     "v0_direct/src/row.rt",
@@ -75,8 +76,6 @@ const JOINED: [&str; 21] = [
     "v0_phase2/src/lib.rt",
     "v2_cells/src/base.rt",
     "v2_cells/src/samples.rt",
-    "v2_differences/src/four.rt",
-    "v2_differences/src/lib.rt",
     "v2_frame/src/block.rt",
     "write_bits/src/lib.rt",
     "write_frame/src/halves.rt",
