@@ -63,7 +63,7 @@ pub fn put_four(out: &mut [u16], w: usize, base: usize, up: bool, first: usize, 
 }
 
 // Of two cells the one for a column: even columns take the first, odd ones the second.
-fn of_parity<T: Copy>(c: usize, even: T, odd: T) -> T
+pub fn of_parity<T: Copy>(c: usize, even: T, odd: T) -> T
     ensures { result ≡ (if nat_eq (c % 2) 0 then even else odd) }
 {
     if c % 2 == 0 { even } else { odd }

@@ -12,7 +12,6 @@ use Rattle.v0_cells.specs.Places.{Inside, Low}
 use Rattle.v0_cells.specs.Inner.{inner_ops}
 use Rattle.v0_cells.proofs.CellLaws.{product}
 use Rattle.v0_cells.proofs.InnerLaws.{late_source}
-use Rattle.v0_cells.proofs.StagedLaws.{columns_same}
 use Rattle.v0_phase2.specs.LateRow.{LateRow}
 
 -- ── The predictor ──
@@ -105,10 +104,9 @@ module _ (g : Stage ℕ) (w row col : ℕ) (up : Bool) (two : 2 ≤ row) (after 
   inner_block = inner_steps order_apart (all_order (λ c. c < 16) (λ c l. l)) f₀ (all_order (λ c. at f₀ c ≡ at f₀ c) (λ c l. refl))
 
 -- So it does in the samples, by the residuals of the block's columns.
-pub inner_done : {w row col : ℕ} (up : Bool) (d : List ℕ) {f f' : List ℕ} → LateRow w row f → (0 < col) × (col + 16 ≤ w)
-    → ((c : ℕ) → c < 16 → get_or d c 0 ≡ get_or f (row * w + col + c) 0)
-    → f' ≡ apply sample_kind (inner_ops w (row * w + col) up order (map (λ c. get_or d c 0) order)) f → f' ≡ predict_samples sample_stage w row col up order f
-inner_done up d l inner same q = (rw (columns_same same) at q) ∙ sym (inner_block sample_stage _ _ _ _ l.rows_above inner.0 inner.1 _)
+pub inner_done : {w row col : ℕ} (up : Bool) {f f' : List ℕ} → LateRow w row f → (0 < col) × (col + 16 ≤ w)
+    → f' ≡ apply sample_kind (inner_ops w (row * w + col) up order (map (λ c. get_or f (row * w + col + c) 0) order)) f → f' ≡ predict_samples sample_stage w row col up order f
+inner_done up l inner q = q ∙ sym (inner_block sample_stage _ _ _ _ l.rows_above inner.0 inner.1 _)
 
 -- ── A row's blocks ──
 

@@ -2,11 +2,14 @@
 use Rattle.v0_phase2.proofs.PredictionLaws.{late_inside, inner_done}
 use Rattle.v0_phase2.proofs.add_inner.Goals as goal
 
-pub residuals_at-residuals-requires : goal.residuals_at-residuals-requires
-residuals_at-residuals-requires c = let l = late_inside c.requires.0 c.requires.1 in (l.0.room, l.1)
+pub add_up-requires : goal.add_up-requires
+add_up-requires c = late_inside c.requires.0 c.requires.1
 
-pub put_columns-requires : goal.put_columns-requires
-put_columns-requires c = late_inside c.requires.0 c.requires.1
+pub add_left-requires : goal.add_left-requires
+add_left-requires c = late_inside c.requires.0 c.requires.1
 
-pub returns : goal.returns
-returns c = inner_done c.args.up _ c.requires.0 c.requires.1 c.residuals_at-residuals.ensures c.put_columns.ensures
+pub returns-then-up : goal.returns-then-up
+returns-then-up c = inner_done c.args.up c.requires.0 c.requires.1 (rw c.if-up.true c.add_up.ensures)
+
+pub returns-else-up : goal.returns-else-up
+returns-else-up c = inner_done c.args.up c.requires.0 c.requires.1 (rw c.if-up.false c.add_left.ensures)
