@@ -49,18 +49,27 @@ pub struct TooLong {
     pub read: Taken<[u32; 4]>,
 }
 
-// Reads the four lengths of a block, up to the first that is too long, and remembers each in its colour's pair.
+// A block's lengths, or the refusal that they meet, and beside either what is remembered after them.
+#[derive(Clone, Copy)]
+pub struct BlockLengths {
+    pub read: Result<Taken<[u32; 4]>, TooLong>,
+    pub remembered: [[u32; 2]; 3],
+}
+
+// Reads the four lengths of a block, up to the first that is too long, and remembers each in its colour's pair. What was remembered
+// before it is a value of its own.
 fn four_lengths(
     src: &[u8],
     depth: u32,
     row: usize,
-    remembered: &mut [[u32; 2]; 3],
+    lengths: [[u32; 2]; 3],
     bits: Bits,
-) -> Result<Taken<[u32; 4]>, TooLong>
+) -> BlockLengths
     requires { depth ≤ 16 }
-    ensures { moded result remembered.new ≡ flagged_lengths src.now depth row remembered.old bits }
+    ensures { moded result.read result.remembered ≡ flagged_lengths src.now depth row lengths bits }
 {
     let flags = read_flags(src, bits);
+    let mut remembered = lengths;
     let mut read = Taken {
         value: [0u32; 4],
         bits: flags.bits,
@@ -73,10 +82,16 @@ fn four_lengths(
         read.value[j] = length.value;
         read.bits = length.bits;
         if depth + 1 < length.value {
-            return Err(TooLong { read });
+            return BlockLengths {
+                read: Err(TooLong { read }),
+                remembered,
+            };
         }
     }
-    Ok(read)
+    BlockLengths {
+        read: Ok(read),
+        remembered,
+    }
 }
 
 // Reads a block's lengths: none where the stream says that all four are 0, and then what was remembered stays.
@@ -84,18 +99,21 @@ pub fn block_lengths(
     src: &[u8],
     hdr: V2Hdr,
     row: usize,
-    remembered: &mut [[u32; 2]; 3],
+    lengths: [[u32; 2]; 3],
     bits: Bits,
-) -> Result<Taken<[u32; 4]>, TooLong>
+) -> BlockLengths
     requires { hdr.depth ≤ 16 }
-    ensures { moded result remembered.new ≡ read_lengths src.now hdr row remembered.old bits }
+    ensures { moded result.read result.remembered ≡ read_lengths src.now hdr row lengths bits }
 {
     let flag = lengths_bit(src, hdr, bits);
     if flag.value == 0 {
-        return four_lengths(src, hdr.depth, row, remembered, flag.bits);
+        return four_lengths(src, hdr.depth, row, lengths, flag.bits);
     }
-    Ok(Taken {
-        value: [0u32; 4],
-        bits: flag.bits,
-    })
+    BlockLengths {
+        read: Ok(Taken {
+            value: [0u32; 4],
+            bits: flag.bits,
+        }),
+        remembered: lengths,
+    }
 }
