@@ -5,15 +5,21 @@ use mathlib.Core.Path.{◌≡◌, refl, ◌∙◌}
 use Prim.Native.Nat.{ℕ, ◌+◌, ◌*◌, ◌-◌, ◌%◌, ◌≤◌, ◌<◌}
 use native.Mathlib.Nat.{mul-le-mul}
 use native.Mathlib.Omega.{arith}
-use lib.Dec.{ltb, eqb}
+use lib.Dec.{ltb, eqb, lit≤}
+use lib.IntN.{pos, ◌+ℤ◌}
 use lib.ListN.{get_or}
+use lib.Signed.{mag}
+use mir.Syntax.{w64}
+use mir.Val.{to_z, of_z}
+use mir.ValLaws.{to_z-of_z}
 use borrow.Author.Tests.{lt-ltb, le-ltb, ltb-false, eqb-true, eqb-false, ne_eqb}
 use Rattle.rules.specs.Limits.{most_side}
 use Rattle.rules.specs.declared.v2.V2Hdr.{V2Hdr}
 use Rattle.rules.specs.Frame.{tabulate}
-use Rattle.rules.specs.V2.{motion_averages, refers_before, base_refusal, repeated, referred, base, Kind, base_cell}
-use Rattle.rules.specs.Ranges.{reference_5}
-use Rattle.rules.proofs.V2Places.{further, reference_is}
+use Rattle.rules.specs.V2.{motion_offsets, motion_averages, refers_before, base_refusal, repeated, referred, base, Kind, base_cell}
+use Rattle.rules.specs.Ranges.{offset_4, reference_5}
+use Rattle.rules.proofs.Cells.{All, nil, more, all_get}
+use Rattle.rules.proofs.V2Places.{further, offset_is, reference_is}
 use Rattle.rules.proofs.V2References.{reference_inside}
 use Rattle.rules.proofs.Tests.{by-test}
 use Rattle.v2_cells.specs.declared.V2Place.{V2Place}
@@ -30,6 +36,16 @@ rows_room row w h k = (
   mul-le-mul {n₂ = 16_384} {m₂ = 16_384} (omega arith) k,
   (mul-le-mul {n₂ = 16_384} {m₂ = 16_384} (omega arith) k, mul-le-mul {n₂ = 16_384} {m₂ = 16_384} (omega arith) k),
 )
+
+-- An offset is −4 to 4, and the code's table has it in 64 bits.
+offset_small : (motion : ℕ) → mag (get_or motion_offsets motion (pos 0)) ≤ 4
+offset_small motion = all_get (λ z. mag z ≤ 4) table motion (pos 0) (lit≤ tt)
+  where
+    table : All (λ z. mag z ≤ 4) motion_offsets
+    table = more (lit≤ tt) (more (lit≤ tt) (more (lit≤ tt) (more (lit≤ tt) (more (lit≤ tt) (more (lit≤ tt) (more (lit≤ tt) nil))))))
+
+pub offset_code : (motion : ℕ) → to_z w64 (of_z w64 (get_or motion_offsets motion (pos 0))) +ℤ pos 4 ≡ pos (offset_4 motion)
+offset_code motion = rw (to_z-of_z w64 (get_or motion_offsets motion (pos 0)) (record { sfits = omega (arith, offset_small motion) })) (offset_is motion)
 
 -- A sample refers as far on from one of the same parity as it stands on from it.
 same_parity : (at : V2Place) (motion i d : ℕ) → d % 2 ≡ 0 → reference at motion (i + d) ≡ reference at motion i + d

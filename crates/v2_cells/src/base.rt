@@ -19,22 +19,25 @@ pub struct References {
     pub averaging: bool,
 }
 
-// The columns' offsets of motions 0 to 6, 4 more than they are so that none is below 0. A table of numbers alone is read where it lies.
-const OFFSETS_PLUS_4: [u8; 7] = [0, 2, 2, 4, 4, 6, 8];
+// The columns' offsets of motions 0 to 6.
+const OFFSETS: [i64; 7] = [-4, -2, -2, 0, 0, 2, 4];
 
+// Whether a base of motion 0 to 6 is the average of two cells.
+const AVERAGES: [bool; 7] = [false, false, true, false, true, false, false];
+
+// 4 more than a motion's offset, so that none is below 0.
 fn offset_plus_4(motion: u32) -> usize
     requires { motion < 7 }
     ensures { result ≡ offset_4 motion }
 {
-    usize::from(OFFSETS_PLUS_4[motion as usize])
+    (OFFSETS[motion as usize] + 4) as usize
 }
 
-// Whether a base of motion 0 to 6 is the average of two cells.
 fn averages(motion: u32) -> bool
     requires { motion < 7 }
     ensures { result ≡ get_or motion_averages motion false }
 {
-    motion == 2 || motion == 4
+    AVERAGES[motion as usize]
 }
 
 // Where sample 0 or 1 refers to, 5 places on, so that none is below 0.

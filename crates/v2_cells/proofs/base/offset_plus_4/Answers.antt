@@ -1,18 +1,23 @@
--- Each of the seven offsets is the rule's, 4 more.
-use Rattle.std.proofs.Common.{◌≡◌, ℕ, zero, suc, ◌<◌, ◌∙◌, [], ◌∷◌, get_or, refl, arith}
+-- The table is the rule's, and 4 more than each of its numbers is 0 to 8.
+use Prim.Native.Nat.{ℕ}
+use native.Mathlib.Omega.{arith}
+use lib.IntN.{pos}
+use mir.Syntax.{w64}
+use mir.Val.{SFits}
+use mir.ValLaws.{to_z-of_z}
 use Rattle.rules.specs.Ranges.{offset_4}
+use Rattle.rules.proofs.V2Places.{offset_most}
+use Rattle.v2_cells.proofs.BaseLaws.{offset_code}
 use Rattle.v2_cells.proofs.base.offset_plus_4.Goals as goal
 
-each : (m : ℕ) → m < 7 → get_or (0 ∷ 2 ∷ 2 ∷ 4 ∷ 4 ∷ 6 ∷ 8 ∷ []) m 0 ≡ offset_4 m
-unfolding offset_4
-each zero h = refl
-each (suc zero) h = refl
-each (suc (suc zero)) h = refl
-each (suc (suc (suc zero))) h = refl
-each (suc (suc (suc (suc zero)))) h = refl
-each (suc (suc (suc (suc (suc zero))))) h = refl
-each (suc (suc (suc (suc (suc (suc zero)))))) h = refl
-each (suc (suc (suc (suc (suc (suc (suc m))))))) h = absurd (omega arith)
+small : (m : ℕ) → SFits w64 (pos (offset_4 m))
+small m = record { sfits = omega (arith, offset_most m) }
+
+pub overflow_add-result : goal.overflow_add-result
+overflow_add-result c = let m = c.args.motion in rw (offset_code m) (small m)
+
+pub overflow_cast-result-2 : goal.overflow_cast-result-2
+overflow_cast-result-2 c = let m = c.args.motion in rw (offset_code m, to_z-of_z w64 (pos (offset_4 m)) (small m)) (tt, record { fits = omega (arith, offset_most m) })
 
 pub returns : goal.returns
-returns c = c.from.ensures ∙ each c.args.motion c.requires
+returns c = let m = c.args.motion in rw (offset_code m, to_z-of_z w64 (pos (offset_4 m)) (small m))
