@@ -15,8 +15,7 @@ use Rattle.rules.specs.declared.reader.Got.{Got}
 use Rattle.rules.specs.declared.reader.Taken.{Taken}
 use Rattle.rules.specs.V2.{Next, EarlyMotion, Outside, LongDifference}
 use Rattle.rules.specs.declared.answer.Refusal.{Refusal}
-use Rattle.std.specs.Prelude.{Result, Ok, Err, IsErrAnd}
-use Rattle.v2_frame.specs.declared.block.Refused.{Refused}
+use Rattle.std.specs.Prelude.{Result, Ok, Err}
 use Rattle.rules.specs.declared.v2.V2Hdr.{V2Hdr}
 use Rattle.rules.specs.V2.{V2Lengths}
 use Rattle.rules.specs.declared.v2.V2Row.{V2Row}
@@ -47,11 +46,6 @@ module _ (s : List ℕ) (h : V2Hdr) (n : ℕ) (at : V2Place) (b : Bits) (st : V2
 
   pub own_motion : (m : Got) → m ≡ read_motion s h st.motion b → m.value ≤ 7
   own_motion m e = rw e (motion_most s h st.motion b r.motion)
-
--- What `?` hands on is the refusal that `from` makes.
-pub passed : {A : Type 0} (r : Result A Refused) (x : Refused) → IsErrAnd r (λ e. e ≡ x) → r ≡ Err x
-passed (Ok y) x p = absurd p
-passed (Err e) x p = ap Err p
 
 -- ── After the base ──
 

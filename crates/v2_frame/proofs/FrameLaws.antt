@@ -1,5 +1,5 @@
 -- Where a row and a frame stand: what is left from here comes to what the whole comes to, for samples and marks alike.
-use mathlib.Core.Bool.{Bool, false}
+use mathlib.Core.Bool.{Bool, false, cond}
 use mathlib.Core.List.{List, [], ◌∷◌, ◌++◌}
 use mathlib.Core.Logic.{◌⊎◌, ⊎_elim}
 use mathlib.Core.Path.{◌≡◌, refl, sym, ap, ap₂, ◌∙◌}
@@ -30,7 +30,7 @@ use Rattle.rules.proofs.V2Cells.{write_plain}
 use Rattle.v2_cells.specs.declared.V2Place.{V2Place}
 use Rattle.v2_cells.specs.Places.{Placed, Markable}
 use Rattle.v2_frame.specs.declared.block.Refused.{Refused}
-use Rattle.v2_frame.specs.Blocks.{block_result, row_number}
+use Rattle.v2_frame.specs.Blocks.{block_result}
 use Rattle.rules.specs.Refusals.{refusal_number}
 use Rattle.std.specs.Prelude.{Ok, Err}
 use Rattle.rules.proofs.Tests.{by-test, clash}
@@ -72,7 +72,7 @@ comes_block t x rest f g f' g' ef eg =
 
 -- ── A row ──
 
-abbrev Left : List ℕ → V2Hdr → ℕ → ℕ → ℕ → Bits → V2Row → List (List ℕ) → Row
+abbrev pub Left : List ℕ → V2Hdr → ℕ → ℕ → ℕ → Bits → V2Row → List (List ℕ) → Row
 Left s h w row col b st mode = blocks s h w row (w / 16 - col / 16) col b st mode
 
 -- A row at a column.
@@ -92,19 +92,21 @@ whole_row s h w row b₀ b st mode eb es em =
     let all : w / 16 - 0 / 16 ≡ w / 16 = omega arith in
     rw (← eb, ← es, ← em, all)
 
-pub row_starts : (t : ℕ) (s : List ℕ) (h : V2Hdr) (w row : ℕ) (b₀ b : Bits) (st : V2Row) (mode : List (List ℕ)) (f g : List ℕ)
-    → b ≡ aligned b₀ → st ≡ fresh_row → mode ≡ fresh_mode row → RowGoing t s h w row (read_row s h w row b₀) f g 0 b st mode f g
-row_starts t s h w row b₀ b st mode f g eb es em =
-    let e = whole_row s h w row b₀ b st mode eb es em in
-    record {
-      within = omega arith;
-      whole_blocks = refl;
-      motion = rw es (omega arith);
-      scale = rw es scale_starts;
-      number_is = ap (λ (x : Row). x.number) e;
-      bits_are = ap (λ (x : Row). x.bits) e;
-      comes = comes_same _ (ap (λ (x : Row). x.blocks) e);
-    }
+pub row_starts : (t : ℕ) (s : List ℕ) (h : V2Hdr) (w row : ℕ) (b : Bits) (st : V2Row) (mode : List (List ℕ)) (f g : List ℕ) → st ≡ fresh_row
+    → RowGoing t s h w row (Left s h w row 0 b st mode) f g 0 b st mode f g
+row_starts t s h w row b st mode f g es = record {
+  within = omega arith;
+  whole_blocks = refl;
+  motion = rw es (omega arith);
+  scale = rw es scale_starts;
+  number_is = refl;
+  bits_are = refl;
+  comes = comes_same _ refl;
+}
+
+-- A row's number in its frame: its own refusal; else 8 where a word was missing by its end, or 0.
+abbrev row_number : Row → ℕ
+row_number q = cond (eqb q.number 0) (cond (eqb q.bits.filler 0) 0 8) q.number
 
 -- What a row comes to: its number, the reader's state, and its blocks applied.
 pub record RowEnded (t : ℕ) (q : Row) (f₀ g₀ : List ℕ) (k : ℕ) (b : Bits) (f g : List ℕ) : Type 0 where
@@ -112,6 +114,12 @@ pub record RowEnded (t : ℕ) (q : Row) (f₀ g₀ : List ℕ) (k : ℕ) (b : Bi
   pub bits : b ≡ q.bits
   pub samples : f ≡ apply (sample_kind t) q.blocks f₀
   pub marks : g ≡ apply v2_marks q.blocks g₀
+
+-- It is what the rule says of the row, where the blocks began at its start.
+pub whole_ended : (t : ℕ) (s : List ℕ) (h : V2Hdr) (w row : ℕ) (b₀ b : Bits) (st : V2Row) (mode : List (List ℕ)) (f g : List ℕ) (k : ℕ) (b' : Bits) (f' g' : List ℕ)
+    → b ≡ aligned b₀ → st ≡ fresh_row → mode ≡ fresh_mode row
+    → RowEnded t (Left s h w row 0 b st mode) f g k b' f' g' → RowEnded t (read_row s h w row b₀) f g k b' f' g'
+whole_ended t s h w row b₀ b st mode f g k b' f' g' eb es em d = rw (whole_row s h w row b₀ b st mode eb es em) d
 
 -- What follows a refusal is nothing, and its number is not 0.
 refused : (o : V2Block) (e : Refused) → Err e ≡ block_result o → (x : Block) (rest : Bits → V2Row → Row)

@@ -1,14 +1,14 @@
--- What a frame, a row and a block need, what a block leaves in the sixteen samples that it is lent, and what a row answers.
-use Rattle.std.specs.Prelude.{ℕ, ◌≤◌, ◌<◌, ◌⊎◌, ◌≡◌, cond, eqb, List, length, Result, Ok, Err}
+-- What a frame and a block need, what a block answers, and what it leaves in the sixteen samples that it is lent.
+use Rattle.std.specs.Prelude.{ℕ, ◌≤◌, ◌⊎◌, ◌≡◌, List, length, Result, Ok, Err}
 use Rattle.rules.specs.Limits.{most_side}
+use Rattle.rules.specs.declared.answer.Answer.{Answer}
 use Rattle.rules.specs.declared.answer.Size.{Size}
 use Rattle.rules.specs.declared.v2.V2Hdr.{V2Hdr}
 use Rattle.rules.specs.declared.v2.V2Row.{V2Row}
 use Rattle.rules.specs.declared.answer.Refusal.TheVariants as Refusal
-use Rattle.rules.specs.declared.reader.Bits.{Bits}
 use Rattle.rules.specs.declared.reader.Taken.{Taken}
 use Rattle.rules.specs.Refusals.{refusal_number}
-use Rattle.rules.specs.V2.{V2Block, Next, EarlyMotion, Outside, LongDifference, Row}
+use Rattle.rules.specs.V2.{V2Block, Next, EarlyMotion, Outside, LongDifference}
 use Rattle.v2_frame.specs.declared.block.Refused.{Refused}
 use Rattle.rules.specs.Frame.{cells}
 use Rattle.rules.specs.Ranges.{ScaleAt}
@@ -29,12 +29,6 @@ pub record FrameLent (size : Size) (out map : List ℕ) : Type 0 where
   pub samples_lent : length out ≡ cells size
   pub map_lent : (length map ≡ cells size) ⊎ (length map ≡ 0)
 
--- What a row is lent: what its frame is, a header within the limits, and a row of the frame.
-pub record RowLent (size : Size) (out map : List ℕ) (h : V2Hdr) (row : ℕ) : Type 0 where
-  pub lent : FrameLent size out map
-  pub depth : h.depth ≤ 16
-  pub below : row < size.height
-
 -- A block's outcome as the code answers it.
 abbrev pub block_result : V2Block → Result (Taken V2Row) Refused
 block_result (Next b st) = Ok (record { value = st; bits = b })
@@ -47,15 +41,7 @@ abbrev pub written : Result (Taken V2Row) Refused → List ℕ → List ℕ → 
 written (Ok x) new old = new
 written (Err e) new old = old
 
--- What a row answers: the reader's state after it, or a refusal with the state as it then stands.
-abbrev pub row_bits : Result Bits Refused → Bits
-row_bits (Ok b) = b
-row_bits (Err e) = e.bits
-
-abbrev pub row_answer : Result Bits Refused → ℕ
-row_answer (Ok b) = 0
-row_answer (Err e) = refusal_number e.refusal
-
--- A row's number in its frame: its own refusal; else 8 where a word was missing by its end, or 0.
-abbrev pub row_number : Row → ℕ
-row_number q = cond (eqb q.number 0) (cond (eqb q.bits.filler 0) 0 8) q.number
+-- What is answered at a block of a row: its refusal's number, or 0, the row, and how many words were missing by then.
+abbrev pub block_answer : Result (Taken V2Row) Refused → ℕ → Answer
+block_answer (Ok next) row = record { number = 0; row = row; filler = next.bits.filler }
+block_answer (Err refused) row = record { number = refusal_number refused.refusal; row = row; filler = refused.bits.filler }

@@ -5,9 +5,9 @@ ghost use Rattle.rules.specs.Frame.{tabulate};
 ghost use Rattle.rules.specs.V2.{tail, read_block, top, sample, block_cells, sample_kind};
 ghost use Rattle.rules.specs.Ranges.{Between};
 ghost use Rattle.v2_differences.specs.Positions.{row_positions};
-ghost use Rattle.v2_frame.specs.Blocks.{Ready, block_result, written};
+ghost use Rattle.v2_frame.specs.Blocks.{Ready, block_result, block_answer, written};
 
-use rules::{Bits, Refusal, Taken, V2Hdr, V2Row};
+use rules::{Answer, Bits, Refusal, Taken, V2Hdr, V2Row};
 use v2_cells::V2Place;
 use v2_cells::base::{bases, refusal_of};
 use v2_cells::samples::build;
@@ -36,35 +36,75 @@ impl From<TooLong> for Refused {
     }
 }
 
+// What a block gives: the state after it or a refusal, and beside either the remembered lengths as they then stand.
+#[derive(Clone, Copy)]
+pub struct Outcome {
+    pub block: Result<Taken<V2Row>, Refused>,
+    pub remembered: [[u32; 2]; 3],
+}
+
+impl Outcome {
+    // What is answered at this block of a row: its refusal's number, or 0, the row, and how many words were missing by then.
+    pub fn answer(self, row: u32) -> Answer
+        ensures { result ≡ block_answer self.block row }
+    {
+        match self.block {
+            Ok(next) => Answer {
+                number: 0,
+                row,
+                filler: next.bits.filler,
+            },
+            Err(refused) => Answer {
+                number: refused.refusal.number(),
+                row,
+                filler: refused.bits.filler,
+            },
+        }
+    }
+}
+
 // The lengths, the differences and the samples from them.
 fn read_tail(
     src: &[u8],
     hdr: V2Hdr,
     row: usize,
     state: V2Row,
-    lengths: &mut [[u32; 2]; 3],
+    lengths: [[u32; 2]; 3],
     bits: Bits,
     positions: &Positions,
     base: &[u16; 16],
     samples: &mut [u16; 16],
-) -> Result<Taken<V2Row>, Refused>
+) -> Outcome
     requires { (hdr.depth ≤ 16) × (Between 512 4_605 state.scale × (positions.now.places ≡ row_positions row)) }
-    ensures outcome { result ≡ block_result (tail src.now hdr row state lengths.old bits).outcome }
-    ensures remembered { lengths.new ≡ (tail src.now hdr row state lengths.old bits).mode }
-    ensures samples { samples.new ≡ written result (tabulate 16 0 (λ i. sample (top hdr) state.scale (get_or (tail src.now hdr row state lengths.old bits).differences i (pos 0)) (get_or base.now i 0))) samples.old }
+    ensures outcome { result.block ≡ block_result (tail src.now hdr row state lengths bits).outcome }
+    ensures remembered { result.remembered ≡ (tail src.now hdr row state lengths bits).mode }
+    ensures samples { samples.new ≡ written result.block (tabulate 16 0 (λ i. sample (top hdr) state.scale (get_or (tail src.now hdr row state lengths bits).differences i (pos 0)) (get_or base.now i 0))) samples.old }
 {
-    let read = block_lengths(src, hdr, row, lengths, bits)?;
+    let lengths = block_lengths(src, hdr, row, lengths, bits);
+    let remembered = lengths.remembered;
+    let read = match lengths.read {
+        Ok(read) => read,
+        Err(long) => {
+            return Outcome {
+                block: Err(Refused::from(long)),
+                remembered,
+            };
+        }
+    };
     let mut d = [0i32; 16];
     let after = block_differences(src, positions, read.value, read.bits, &mut d);
     build(base, &d, state.scale, top_of(hdr), samples);
-    Ok(Taken {
-        value: state,
-        bits: after,
-    })
+    Outcome {
+        block: Ok(Taken {
+            value: state,
+            bits: after,
+        }),
+        remembered,
+    }
 }
 
-// The block at a place, after the row's state and remembered lengths. It answers the state after it, or a refusal. Its samples are left
-// in `samples`, where a refusal leaves what they were, and the frame is not changed.
+// The block at a place, after the row's state and remembered lengths. Its samples are left in `samples`, where a refusal leaves what
+// they were, and the frame is not changed.
 pub fn read_block(
     src: &[u8],
     hdr: V2Hdr,
@@ -72,22 +112,25 @@ pub fn read_block(
     out: &[u16],
     bits: Bits,
     state: V2Row,
-    lengths: &mut [[u32; 2]; 3],
+    lengths: [[u32; 2]; 3],
     positions: &Positions,
     samples: &mut [u16; 16],
-) -> Result<Taken<V2Row>, Refused>
+) -> Outcome
     requires { Ready hdr (length out.now) at state × (positions.now.places ≡ row_positions at.row) }
-    ensures outcome { result ≡ block_result (read_block src.now hdr at.width at.row at.col bits state lengths.old).outcome }
-    ensures remembered { lengths.new ≡ (read_block src.now hdr at.width at.row at.col bits state lengths.old).mode }
-    ensures samples { samples.new ≡ written result (block_cells (sample_kind (top hdr)) out.now (read_block src.now hdr at.width at.row at.col bits state lengths.old).block) samples.old }
+    ensures outcome { result.block ≡ block_result (read_block src.now hdr at.width at.row at.col bits state lengths).outcome }
+    ensures remembered { result.remembered ≡ (read_block src.now hdr at.width at.row at.col bits state lengths).mode }
+    ensures samples { samples.new ≡ written result.block (block_cells (sample_kind (top hdr)) out.now (read_block src.now hdr at.width at.row at.col bits state lengths).block) samples.old }
 {
     let scale = next_scale(src, hdr, at.col, state.scale, bits);
     let motion = next_motion(src, hdr, state.motion, scale.bits);
     if let Err(refusal) = refusal_of(at, motion.value) {
-        return Err(Refused {
-            refusal,
-            bits: motion.bits,
-        });
+        return Outcome {
+            block: Err(Refused {
+                refusal,
+                bits: motion.bits,
+            }),
+            remembered: lengths,
+        };
     }
     let mut base = [0u16; 16];
     bases(out, hdr.initial, at, motion.value, &mut base);

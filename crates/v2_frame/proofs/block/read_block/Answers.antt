@@ -15,7 +15,7 @@ pub returns-in-Err : goal.returns-in-Err
 returns-in-Err c =
     let z = c.args.state.scale in
     let ec = rw (to_z-of_z w32 z (scale_fits z (ready_scale c.args.src.now _ _ _ c.args.bits _ c.requires.0))) at c.next_scale-scale.ensures in
-    let q = block_refused _ _ _ _ _ _ _ c.args.lengths.now _ ec _ c.next_motion-motion.ensures _ c.in-Err.ensures.refusal in
+    let q = block_refused _ _ _ _ _ _ _ c.args.lengths _ ec _ c.next_motion-motion.ensures _ c.in-Err.ensures.refusal in
     record { outcome = q.0; remembered = q.1; samples = refl }
 
 pub bases-requires : goal.bases-requires
@@ -44,11 +44,11 @@ returns c =
     let y = c.next_scale-scale.result.value in
     let em = c.next_motion-motion.ensures in
     let none = c.in_default.ensures.number in
-    let m = c.args.lengths.now in
+    let m = c.args.lengths in
     let r = simp (to_z-of_z w32 y (scale_fits y (own_scale _ _ _ _ _ _ c.requires.0 _ ec))) at c.read_tail.ensures in record {
       outcome = r.outcome ∙ ap block_result (sym (block_outcome _ _ _ _ _ _ _ m _ ec _ em none));
       remembered = r.remembered ∙ sym (block_mode _ _ _ _ _ _ _ m _ ec _ em none);
       samples = r.samples
-          ∙ ap (λ (new : List ℕ). written c.read_tail.result new c.args.samples.now)
+          ∙ ap (λ (new : List ℕ). written c.read_tail.result.block new c.args.samples.now)
           (block_samples _ _ _ _ _ _ _ m _ ec _ em none c.args.out.now _ (c.bases.ensures c.args.hdr refl));
     }
