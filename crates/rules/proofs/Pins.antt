@@ -14,6 +14,7 @@ pub mod MapPins
 pub mod AnswerPins
 pub mod JobPins
 pub mod MissingPins
+pub mod RefusalsPins
 use Rattle.rules.proofs.Pins.Values.{Hold}
 use Rattle.rules.proofs.Pins.ReaderPins as Reader
 use Rattle.rules.proofs.Pins.V0Pins as V0
@@ -23,6 +24,7 @@ use Rattle.rules.proofs.Pins.MapPins as Map
 use Rattle.rules.proofs.Pins.AnswerPins as Answer
 use Rattle.rules.proofs.Pins.JobPins as Job
 use Rattle.rules.proofs.Pins.MissingPins as Missing
+use Rattle.rules.proofs.Pins.RefusalsPins as Refusals
 
 -- The examples of a file of specs/.
 pub record Section : Type 0 where
@@ -39,6 +41,7 @@ sections =
     ∷ record { examples = Answer.examples; hold = Answer.examples_hold }
     ∷ record { examples = Job.examples; hold = Job.examples_hold }
     ∷ record { examples = Missing.examples; hold = Missing.examples_hold }
+    ∷ record { examples = Refusals.examples; hold = Refusals.examples_hold }
     ∷ []
 
 unfoldable pub all_of : List Section → List Example
