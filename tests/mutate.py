@@ -48,6 +48,9 @@ SETTLED = ALL[:2]
 # A function of a source file, from its first line to its last.
 FUNCTION = re.compile(r"^( *)(?:pub )?(?:extern \"C\" )?fn .*\n(?:.*\n)*?\1\}\n", re.M)
 
+# A trait, and what a type does by one: without functions neither says anything, and its ghost items need names that go.
+TRAIT = re.compile(r"^(?:pub )?(?:trait\b|impl\b.* for ).*\{\n(?:.*\n)*?\}\n", re.M)
+
 TOKEN = re.compile(r"--(?=\s|$)[^\n]*|[(){};]|[^\s(){};]+")
 NUMBER = re.compile(r"0x[0-9a-fA-F_]+|0b[01_]+|[0-9][0-9_]*")
 
@@ -631,8 +634,8 @@ class Copy:
         taken = set()
         texts = {path: path.read_text() for path in source.glob("**/*.rt")}
         for path, text in texts.items():
-            taken |= set(re.findall(r"^(?:pub )?(?:extern \"C\" )?fn (\w+)", text, flags=re.M))
-            texts[path] = FUNCTION.sub("", text)
+            taken |= set(re.findall(r"^(?:pub )?(?:extern \"C\" )?(?:fn|trait) (\w+)", text, flags=re.M))
+            texts[path] = FUNCTION.sub("", TRAIT.sub("", text))
         for path, text in texts.items():
             body = re.sub(r"^(ghost |pub )?use .*\n", "", text, flags=re.M)
             used = lambda m: m[1] == "pub " and m[2] not in taken or re.search(rf"\b{m[2]}\b", body)
