@@ -3,6 +3,7 @@
 from __future__ import annotations
 
 import posixpath
+import re
 
 from code_index import Code, is_spec
 from names import Key
@@ -22,6 +23,11 @@ def relative(to: str, page: str) -> str:
 def anchor_of(key: Key) -> str:
     """A definition's anchor: its crate, file and name."""
     return f"{key[0]}.{key[1].removeprefix('specs.').removeprefix('proofs.')}.{key[2]}"
+
+
+def function_anchor(function: Function) -> str:
+    """A function's anchor: its name, of which what stands in brackets is one word."""
+    return "::".join("-".join(re.findall(r"\w+", part)) for part in (function.crate, *function.modules, function.name))
 
 
 class Addresses:
@@ -47,7 +53,7 @@ class Addresses:
 
     def function(self, function: Function) -> str:
         """A function stands on its crate's page."""
-        return f"crates/{function.crate}.html#{function.full}"
+        return f"crates/{function.crate}.html#{function_anchor(function)}"
 
     def crate(self, name: str) -> str:
         """A crate's page."""

@@ -11,8 +11,8 @@ from rattle import Function, functions
 from repository import Repository, crate_of
 
 
-# A function's parameters, and a clause with a name of its own.
-PARAMETER = re.compile(r"(\w+): ")
+# A function's parameters and the words that an impl gives a meaning to; a clause with a name of its own.
+NAMED = re.compile(r"\w+(?=: )|(?<=ghost )\w+")
 CLAUSE = re.compile(r"^(\s*(?:requires|ensures)) \w+(?= \{)", re.M)
 
 
@@ -51,8 +51,9 @@ class Code:
         return [key for key in cited(text, self.scopes[path]) if key in self.items]
 
     def cited_by(self, function: Function) -> list[Key]:
-        """The items that a function's contract cites; its parameters and its clauses' own names are none."""
-        known = frozenset(["result", *PARAMETER.findall(function.signature)])
+        """The items that a function's contract cites; what itself or its law names is none."""
+        law = function.law.signature if function.law else ""
+        known = frozenset(["result", *NAMED.findall(f"{function.signature}\n{law}\n{function.contract}")])
         clauses = CLAUSE.sub(r"\1", function.contract)
         return [key for key in cited(clauses, self.scopes[function.path], known) if key in self.items]
 

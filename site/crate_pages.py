@@ -4,7 +4,7 @@ from __future__ import annotations
 
 from html import escape
 
-from addresses import Addresses, anchor_of, relative
+from addresses import Addresses, anchor_of, function_anchor, relative
 from antt import first_sentence
 from code_index import Code, is_spec
 from colours import words
@@ -59,8 +59,8 @@ class CratePages:
     def functions(self, name: str) -> str:
         """The public functions, and the others whose contracts cite definitions, which rules lead to."""
         all_of = self.code.crate_functions(name)
-        public = [one.full for one in all_of if one.public]
-        inner = [one.full for one in all_of if not one.public]
+        public = [function_anchor(one) for one in all_of if one.public]
+        inner = [function_anchor(one) for one in all_of if not one.public]
         parts = [f"## Public functions\n\n{mark('functions', public)}" if public else ""]
         parts.append(f"## Inner functions\n\n{mark('functions', inner)}" if inner else "")
         return "\n\n".join(part for part in parts if part)

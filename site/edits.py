@@ -60,7 +60,7 @@ def held_by(code: Code, change: Change) -> set[Key]:
         if found:
             return found
         seen.update(one.full for one in waiting)
-        callers = {one.full: one for callee in waiting for one in code.mentioning(callee.name)}
+        callers = {one.full: one for callee in waiting for one in code.mentioning(callee.called)}
         waiting = [one for name, one in callers.items() if name not in seen]
     return set()
 

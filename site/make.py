@@ -21,7 +21,7 @@ import yaml
 
 import search
 import sources
-from addresses import Addresses, anchor_of
+from addresses import Addresses, anchor_of, function_anchor
 from code_index import Code
 from crate_pages import CratePages
 from documents import listed, with_links
@@ -56,6 +56,7 @@ class Site:
         self.promises = Promises(self.code, self.addresses, self.panels)
         self.life = Life(self.evidence, self.addresses, library)
         self.lacks = Lacks(self.evidence, self.addresses)
+        self.functions = {function_anchor(one): one for one in self.code.functions}
         self.keys: dict[str, Key] = {anchor_of(key): key for key in self.code.items if key[1].startswith("specs.")}
 
     def pages(self) -> dict[str, str]:
@@ -88,7 +89,7 @@ class Site:
         if kind == "definitions":
             return "".join(self.panels.definition(self.keys[name], page) for name in names)
         if kind == "functions":
-            return "".join(self.panels.function(self.code.function[name], page) for name in names)
+            return "".join(self.panels.function(self.functions[name], page) for name in names)
         if kind == "promise":
             return self.promises.html(int(names[0]))
         if kind == "walk":

@@ -4,7 +4,7 @@ from __future__ import annotations
 
 from html import escape
 
-from addresses import Addresses, anchor_of, relative
+from addresses import Addresses, anchor_of, function_anchor, relative
 from antt import Item, first_sentence
 from code_index import Code
 from colours import Link, block, words
@@ -165,7 +165,7 @@ class Panels:
         lead = f"<code>{escape(function.full)}</code> <span>{words(first_sentence(function.comment))}</span>"
         inner = comment_of(function.comment) + block(told, self.link(function.path, page))
         inner += self.place(function.path, function.line, page)
-        return f'<details class="panel" id="{escape(function.full)}"><summary>{lead}</summary>{inner}</details>'
+        return f'<details class="panel" id="{escape(function_anchor(function))}"><summary>{lead}</summary>{inner}</details>'
 
 
 def comment_of(text: str) -> str:

@@ -4,6 +4,7 @@ opened as files may not fetch."""
 from __future__ import annotations
 
 import json
+from html import escape
 from pathlib import Path
 from typing import Any
 
@@ -17,8 +18,8 @@ INDEX = "search/search_index.js"
 
 
 def entry(location: str, title: str, text: str) -> dict[str, str]:
-    """A thing that can be found."""
-    return {"location": location, "title": title, "text": " ".join(text.split())}
+    """A thing that can be found. The theme takes its title for HTML."""
+    return {"location": location, "title": escape(title, quote=False), "text": " ".join(text.split())}
 
 
 def entries(code: Code, addresses: Addresses) -> list[dict[str, str]]:

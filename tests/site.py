@@ -2,8 +2,12 @@
 
 from __future__ import annotations
 
+import json
+import re
 import sys
 import time
+from collections import Counter
+from html import escape
 from html.parser import HTMLParser
 from pathlib import Path
 from urllib.parse import unquote, urlsplit
@@ -18,14 +22,27 @@ PHONE = 390
 # The longest that a search may take to answer.
 SECONDS = 20
 
+FUNCTION = re.compile(r"^(?P<indent> *)(?:pub )?(?:extern \"C\" )?fn (?P<name>\w+)", re.M)
+TRAIT = re.compile(r"^(?:pub )?trait (\w+)", re.M)
+# A trait's impl, what stands in it, and a word of the trait that it gives a meaning to.
+IMPL = re.compile(r"^impl(?:<.*>)? (?P<trait>\w+)(?P<of>.*) for (?P<type>.+) \{\n(?P<body>(?:.*\n)*?)\}\n", re.M)
+WORD = re.compile(r"ghost (?P<name>\w+) = (?:.*\n)*?.*\};$", re.M)
+CLAUSE = re.compile(r"^ +(?:requires|ensures).*", re.M)
+# What a function's signature and clauses have none of: an item's end, or the beginning of another.
+BEYOND = re.compile(r";$|^\}|^(?:pub )?(?:struct|enum|trait|impl|const|use|mod)\b", re.M)
+
+# The functions that the crates' pages show, by file and line: the name and the code.
+Shown = dict[tuple[str, int], tuple[str, str]]
+
 
 class Page(HTMLParser):
-    """What a page links to, what it loads, and the anchors that it has."""
+    """What a page links to, what it loads, the anchors that it has, and how many elements have an id."""
 
     def __init__(self, text: str) -> None:
         super().__init__()
         self.links: list[str] = []
         self.anchors: set[str] = set()
+        self.ids: Counter[str] = Counter()
         self.feed(text)
 
     def handle_starttag(self, tag: str, attrs: list[tuple[str, str | None]]) -> None:
@@ -34,10 +51,12 @@ class Page(HTMLParser):
                 self.links.append(value)
             if name in ("id", "name") and value:
                 self.anchors.add(value)
+            if name == "id" and value:
+                self.ids[value] += 1
 
 
 def dead_links(site: Path) -> list[str]:
-    """The links of all pages that lead to no file, or to no place in it, and what is taken from elsewhere."""
+    """The links of all pages that lead to no file, to no place in it or to two, and what is taken from elsewhere."""
     pages = {path: Page(path.read_text(encoding="utf-8")) for path in site.rglob("*.html")}
     dead: list[str] = []
     for path, page in pages.items():
@@ -50,14 +69,17 @@ def dead_links(site: Path) -> list[str]:
             anchor = unquote(parts.fragment)
             if not to.is_file() or (anchor and (known is None or anchor not in known.anchors)):
                 dead.append(f"{path.relative_to(site)}: {link}")
+        dead += [f"{path.relative_to(site)}: {name} twice" for name, count in page.ids.items() if count > 1]
     return dead
 
 
 def finds_dead_links(site: Path, folder: Path) -> None:
-    """That a dead link is found, and a place that isn't there, was tried."""
+    """That a dead link is found, and a place that isn't there or is there twice, was tried."""
     folder.mkdir()
-    (folder / "a.html").write_text('<a href="a.html#here">x</a><p id="here"></p><a href="b.html">x</a><a href="#there">x</a>')
-    assert dead_links(folder) == ["a.html: b.html", "a.html: #there"], dead_links(folder)
+    (folder / "a.html").write_text(
+        '<a href="a.html#here">x</a><p id="here"></p><a href="b.html">x</a><a href="#there">x</a><p id="two"></p><p id="two"></p>'
+    )
+    assert dead_links(folder) == ["a.html: b.html", "a.html: #there", "a.html: two twice"], dead_links(folder)
     found = dead_links(site)
     assert not found, "\n".join(found[:20])
 
@@ -94,6 +116,74 @@ def hold_rules(driver: WebDriver, site: Path) -> int:
             name = unquote(str(link.get_attribute("href")).split("#")[1])
             link.click()
             assert driver.execute_script("return document.getElementById(arguments[0]).open", name), name
+    return count
+
+
+def shown_functions(driver: WebDriver, site: Path) -> Shown:
+    """The functions on the crates' pages."""
+    script = (
+        "return [...document.querySelectorAll('details.panel[id*=\"::\"]')].map(p => "
+        "[p.querySelector('.place').textContent, ...['summary > code', 'pre'].map(part => p.querySelector(part).textContent)])"
+    )
+    shown: Shown = {}
+    for path in sorted((site / "crates").glob("*.html")):
+        driver.get(path.as_uri())
+        for place, name, code in driver.execute_script(script):
+            file, _, line = place.rpartition(", line ")
+            shown[file, int(line)] = name, code
+    return shown
+
+
+def hold_functions(driver: WebDriver, site: Path) -> str:
+    """Each function of the sources is shown under a name of its own, with its contract. In the search's index a name is HTML."""
+    top = Path(__file__).resolve().parent.parent
+    shown = shown_functions(driver, site)
+    texts = {path.relative_to(top).as_posix(): path.read_text(encoding="utf-8") for path in top.glob("crates/*/src/**/*.rt")}
+    traits = {trait for text in texts.values() for trait in TRAIT.findall(text)}
+    for file, text in sorted(texts.items()):
+        hold_clauses(file, text, shown)
+    lawful = sum(hold_laws(file, text, shown, traits) for file, text in sorted(texts.items()))
+    names = Counter(name for name, _ in shown.values())
+    assert set(names.values()) == {1}, names.most_common(5)
+    index = (site / "search" / "search_index.js").read_text(encoding="utf-8")
+    entries = json.loads(index[index.index("{") : index.rindex("}") + 1])["docs"]
+    titles = {one["title"] for one in entries if "::" in one["location"]}
+    others = titles - {escape(name, quote=False) for name in names}
+    assert titles and not others, others
+    return f"{len(names)} functions have their contracts, {lawful} of them by a trait's law"
+
+
+def hold_clauses(file: str, text: str, shown: Shown) -> None:
+    """A function's signature and clauses are shown as they stand in the file, all and no more."""
+    for found in FUNCTION.finditer(text):
+        place = file, text.count("\n", 0, found.start()) + 1
+        assert place in shown, f"{place}: {found[0]}"
+        own = shown[place][1].partition("    // The law of ")[0].rstrip()
+        source = re.sub(f"^{found['indent']}", "", text[found.start() :], flags=re.M)
+        after = source.removeprefix(own)
+        assert after != source and after.startswith((";\n", " {\n", "\n{\n")) and not BEYOND.search(own), f"{place}: {own}"
+
+
+def hold_laws(file: str, text: str, shown: Shown, traits: set[str]) -> int:
+    """A function of a trait's impl, if it has no clause of its own, is shown with the trait's, and with what their words mean for
+    the type: for a trait of the library all that the impl says. How many there are."""
+    codes = dict(shown.values())
+    count = 0
+    for impl in IMPL.finditer(text):
+        first = text.count("\n", 0, impl.start("body")) + 1
+        for found in FUNCTION.finditer(impl["body"]):
+            name, code = shown[file, first + impl["body"].count("\n", 0, found.start())]
+            if CLAUSE.search(code.partition("    // The law of ")[0]):
+                continue
+            asked = f"{impl['trait']}::{found['name']}"
+            assert name.endswith(f"<{impl['type']} as {impl['trait']}{impl['of']}>::{found['name']}"), name
+            law = codes.get(f"{name.partition('<')[0]}{asked}", "")
+            assert bool(law) == (impl["trait"] in traits) and f"The law of {asked}:" in code, name
+            clauses = CLAUSE.findall(law)
+            words = [one for one in WORD.finditer(impl["body"]) if not law or re.search(rf"\b{one['name']}\b", "".join(clauses))]
+            parts = [*clauses, *(one[0] for one in words)]
+            assert all(part in code for part in parts), f"{name}: {code}"
+            count += 1
     return count
 
 
@@ -212,6 +302,7 @@ def main() -> None:
     try:
         rules = hold_rules(driver, site)
         lacks = hold_lacks(driver, site, rules)
+        functions = hold_functions(driver, site)
         hold_search(driver, site)
         hold_widths(driver, site)
         hold_paper(driver, site)
@@ -220,7 +311,10 @@ def main() -> None:
         assert not log, log
     finally:
         driver.quit()
-    print(f"{pages} pages and their sources: no dead link, no script error; {lacks}; the search finds a definition and opens it")
+    print(
+        f"{pages} pages and their sources: no dead link, no script error; {functions}; {lacks}; "
+        "the search finds a definition and opens it"
+    )
 
 
 if __name__ == "__main__":
