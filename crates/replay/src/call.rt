@@ -120,7 +120,12 @@ fn is_other(call: &[u8], answer: Answer) -> bool {
         || recorded_row(call).is_some_and(|row| row != answer.row)
 }
 
-// Whether the answer, or what is written of some samples, is other than recorded.
+// The sum over what a writer leaves: how long the stream is, its buffer and that of the offsets.
+fn sum_written(length: u64, stream: &[u8], offsets: &[u32]) -> usize {
+    sum(sum(length as usize, stream), offsets)
+}
+
+// Whether the answer, or what is written of some samples, is other than recorded. Sums are made where the answer is as recorded.
 fn differs_written(call: &[u8], samples: &[u16]) -> bool {
     let mut stream = [9u8; WRITTEN];
     let mut offsets = [9u32; OFFSETS];
@@ -131,8 +136,8 @@ fn differs_written(call: &[u8], samples: &[u16]) -> bool {
         &mut stream,
         &mut offsets,
     );
-    let bytes = sum(written.length as usize, &stream);
-    is_other(call, written.answer) || sum(bytes, &offsets) != recorded_sum(call)
+    is_other(call, written.answer)
+        || sum_written(written.length, &stream, &offsets) != recorded_sum(call)
 }
 
 fn differs_decoded(call: &[u8], answer: Answer, samples: &[u16]) -> bool {
