@@ -638,8 +638,13 @@ class Copy:
             texts[path] = FUNCTION.sub("", TRAIT.sub("", text))
         for path, text in texts.items():
             body = re.sub(r"^(ghost |pub )?use .*\n", "", text, flags=re.M)
-            used = lambda m: m[1] == "pub " and m[2] not in taken or re.search(rf"\b{m[2]}\b", body)
-            text = re.sub(r"^(pub )?use .*::(\w+);\n", lambda m: m[0] if used(m) else "", text, flags=re.M)
+
+            def left(m):
+                """What is left of a line that brings names in, one or several in braces."""
+                names = [name for name in re.findall(r"\w+", m[3]) if m[1] and name not in taken or re.search(rf"\b{name}\b", body)]
+                return f"{m[1] or ''}use {m[2]}::{{{', '.join(names)}}};\n" if names else ""
+
+            text = re.sub(r"^(pub )?use (.*)::\{?(\w+(?:, \w+)*)\}?;\n", left, text, flags=re.M)
             path.write_text(re.sub(r"^ghost use .*\n", "", text, flags=re.M))
 
     def said_of_each(self, changes, moved):
