@@ -12,7 +12,7 @@ const LINES: usize = 130;
 const AT_THE_TOP: [&str; 4] = ["README.md", "CONTRIBUTING.md", "CHANGELOG.md", "SECURITY.md"];
 
 /// Records that are looked up, and not read through.
-const RECORDS: [&str; 2] = ["docs/PORT.md", "docs/DESIGN-PASS.md"];
+const RECORDS: [&str; 3] = ["docs/PORT.md", "docs/DESIGN-PASS.md", "docs/LOOK-BACK.md"];
 
 /// How many words a text has; a table's bars and a list's dashes are none.
 fn words(text: &str) -> usize {

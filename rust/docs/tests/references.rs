@@ -4,7 +4,8 @@ use docs::references::Repository;
 use docs::top;
 
 /// What tells of the past has the names of its time, and what is in a release has the release's files.
-const OF_OTHER_TREES: [&str; 4] = ["docs/CHANGES.md", "docs/PORT.md", "docs/DESIGN-PASS.md", "dist/README.md"];
+const OF_OTHER_TREES: [&str; 5] =
+    ["docs/CHANGES.md", "docs/PORT.md", "docs/DESIGN-PASS.md", "docs/LOOK-BACK.md", "dist/README.md"];
 
 /// What is not in the repository: the file that the port is held to, and functions of it that have another name here or none.
 const OF_SAMSUNG_RS: [&str; 4] = ["`samsung.rs`", "`parse_v0_row`", "`v2_row`", "`decode_v1`"];
