@@ -16,10 +16,10 @@ use Rattle.frame_map.specs.Greatest.{greatest}
 use Rattle.frame_map.proofs.GreatestLaws.{left_more}
 use Rattle.frame_blank.specs.declared.Tally.{Tally}
 use Rattle.frame_blank.specs.Blanking.{Fill, marked, bit, count, unstated, blank_row, run, stretch, runs_from, row_runs, numbers}
-use Rattle.frame_blank.specs.MapLent.{tally, meant, left_of, turns, by_turns, RowBlanked}
+use Rattle.frame_blank.specs.MapLent.{tally, gap, meant, left_of, turns, by_turns, RowBlanked}
 use Rattle.frame_blank.specs.declared.Turns.{Turns}
 use Rattle.frame_blank.proofs.ByteLaws.{bit_most, bit_set, start_is, none_marked, count_none}
-use Rattle.frame_blank.proofs.RunLaws.{runs_step, runs_none, left_at, left_passed, left_run, stretch_most, stretch_marked}
+use Rattle.frame_blank.proofs.RunLaws.{runs_step, runs_none, left_at, left_passed, left_run, stretch_most, stretch_marked, gap_passed, gap_ends}
 
 -- ── Counting ──
 
@@ -280,6 +280,16 @@ module _ {row : ℕ} {m : List ℕ} {from : ℕ} {runs₀ runs : List ℕ} {at c
 -- ── A row's call ──
 
 module _ (fill : Option ℕ) {row : ℕ} {m : List ℕ} {from : ℕ} {samples₀ runs₀ : List ℕ} where
+  -- Unmarked samples are passed over, as many as follow each other; what comes then is marked.
+  pub unmarked_passed : {samples runs : List ℕ} {at col : ℕ} → length samples₀ ≡ length m → Listed row m from runs₀ runs at col
+      → Filled (blank_row (meant fill) samples₀ m) samples₀ samples col → (next : ℕ) → next ≡ col + gap (drop col m)
+      → Listed row m from runs₀ runs at next × (Filled (blank_row (meant fill) samples₀ m) samples₀ samples next × (next < length m → marked (get_or m next 0) ≡ true))
+  unmarked_passed {samples} {runs} {at} {col} same g f next is =
+      let listed : Listed row m from runs₀ runs at next = rw is (gap_passed m (λ i. Listed row m from runs₀ runs at i) (λ i h e p. listed_passed p h e) col g) in
+      let filled : Filled (blank_row (meant fill) samples₀ m) samples₀ samples next =
+      rw is (gap_passed m (λ i. Filled (blank_row (meant fill) samples₀ m) samples₀ samples i) (λ i h e p. filled_unmarked fill samples₀ m p (omega arith) e) col f) in
+      (listed, (filled, gap_ends m col next is))
+
   -- Where nothing is left at a column all is set and listed.
   pub row_blanked : {samples runs : List ℕ} {at col : ℕ} → Listed row m from runs₀ runs at col → Filled (blank_row (meant fill) samples₀ m) samples₀ samples col
       → length samples₀ ≡ length m → length m ≤ col → RowBlanked (meant fill) row samples₀ m from runs₀ at samples runs

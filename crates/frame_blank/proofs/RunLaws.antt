@@ -7,8 +7,9 @@ use native.Mathlib.Omega.{arith}
 use native.Mathlib.Numerals.{add-one}
 use native.Mathlib.Nat.{add-zero}
 use lib.ListN.{length, get_or, take, drop, drop_of_length-le, length-append, length-take, length-drop}
-use lib.Seq.{sets, drop-drop}
+use lib.Seq.{sets, drop-drop, get_or-drop}
 use Rattle.frame_blank.specs.Blanking.{marked, bit, Run, run, stretch, runs_from, row_runs, rows_runs, numbers}
+use Rattle.frame_blank.specs.MapLent.{gap}
 use Rattle.frame_blank.proofs.ByteLaws.{zero_unmarked, bit_most}
 use Rattle.rules.proofs.Tests.{by-test}
 use Rattle.frame_map.specs.Greatest.{greatest}
@@ -73,6 +74,54 @@ stretch_marked [] i h = absurd (omega arith)
 stretch_marked (b ∷ m) zero h = by-test (marked b) (λ e. e) (λ e. let k = rw e at h in absurd (omega arith))
 stretch_marked (b ∷ m) (suc i) h =
     by-test (marked b) (λ e. let k = rw e at h in stretch_marked m i (omega arith)) (λ e. let k = rw e at h in absurd (omega arith))
+
+-- ── The next marked sample ──
+
+pub gap_more : (m : List ℕ) (i : ℕ) → i < length m → marked (get_or m i 0) ≡ false → gap (drop i m) ≡ 1 + gap (drop (i + 1) m)
+unfolding gap
+gap_more m i h e = rw (left_more m i h, e) (omega arith)
+
+pub gap_stops : (m : List ℕ) (i : ℕ) → i < length m → marked (get_or m i 0) ≡ true → gap (drop i m) ≡ 0
+unfolding gap
+gap_stops m i h e = rw (left_more m i h, e)
+
+pub gap_gone : (m : List ℕ) (i : ℕ) → length m ≤ i → gap (drop i m) ≡ 0
+unfolding gap
+gap_gone m i h = rw (drop_of_length-le m {i = i} h)
+
+pub gap_most : (m : List ℕ) → gap m ≤ length m
+unfolding gap
+gap_most [] = omega arith
+gap_most (b ∷ m) = by-test (marked b) (λ e. rw e (omega arith)) (λ e. rw e (omega (arith, gap_most m)))
+
+-- A list begins with unmarked bytes as far as its gap goes.
+gap_unmarked : (m : List ℕ) (i : ℕ) → i < gap m → marked (get_or m i 0) ≡ false
+unfolding gap
+gap_unmarked [] i h = absurd (omega arith)
+gap_unmarked (b ∷ m) zero h = by-test (marked b) (λ e. let k = rw e at h in absurd (omega arith)) (λ e. e)
+gap_unmarked (b ∷ m) (suc i) h =
+    by-test (marked b) (λ e. let k = rw e at h in absurd (omega arith)) (λ e. let k = rw e at h in gap_unmarked m i (omega arith))
+
+gap_end : (m : List ℕ) → gap m < length m → marked (get_or m (gap m) 0) ≡ true
+unfolding gap
+gap_end [] h = absurd (omega arith)
+gap_end (b ∷ m) h = by-test (marked b) (λ e. rw (e, e)) (λ e. let k = rw e at h in rw e (gap_end m (omega arith)))
+
+-- Where it ends before the list does a marked byte is.
+pub gap_ends : (m : List ℕ) (i next : ℕ) → next ≡ i + gap (drop i m) → next < length m → marked (get_or m next 0) ≡ true
+gap_ends m i next is h =
+    ap (λ j. marked (get_or m j 0)) is ∙ ap marked (sym (get_or-drop i m (gap (drop i m)) 0)) ∙ gap_end (drop i m) (omega (arith, is, length-drop i m))
+
+-- What passes an unmarked sample passes as many as follow each other.
+pub gap_passed : (m : List ℕ) (P : ℕ → Type 0) → ((i : ℕ) → i < length m → marked (get_or m i 0) ≡ false → P i → P (i + 1)) → (i : ℕ) → P i → P (i + gap (drop i m))
+gap_passed m P passed i p = go (gap (drop i m)) (omega arith)
+  where
+    go : (k : ℕ) → k ≤ gap (drop i m) → P (i + k)
+    go zero h = rw (add-zero i) p
+    go (suc k) h =
+        let on : i + suc k ≡ i + k + 1 = omega arith in
+        let none : marked (get_or m (i + k) 0) ≡ false = ap marked (sym (get_or-drop i m k 0)) ∙ gap_unmarked (drop i m) k (omega arith) in
+        rw on (passed (i + k) (omega (arith, h, gap_most (drop i m), length-drop i m)) none (go k (omega (arith, h))))
 
 -- Inside a run none starts before its end.
 runs_joined : (row c : ℕ) (m : List ℕ) → runs_from row true c m ≡ runs_from row false (c + stretch m) (drop (stretch m) m)

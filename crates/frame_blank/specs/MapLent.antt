@@ -6,11 +6,16 @@ use Rattle.rules.specs.declared.answer.Size.{Size}
 use Rattle.rules.specs.Frame.{cells}
 use Rattle.frame_blank.specs.declared.Tally.{Tally}
 use Rattle.frame_blank.specs.declared.Turns.{Turns}
-use Rattle.frame_blank.specs.Blanking.{Fill, stated, unstated, blank_row, Run, count, row_runs, runs_of, numbers}
+use Rattle.frame_blank.specs.Blanking.{Fill, marked, stated, unstated, blank_row, Run, count, row_runs, runs_of, numbers}
 
 -- How many samples are marked, and how many runs there are.
 abbrev pub tally : List ℕ → List Run → Tally
 tally m rs = record { marked = count m; runs = length rs }
+
+-- How many unmarked bytes a list begins with.
+unfoldable pub gap : List ℕ → ℕ
+gap [] = 0
+gap (b ∷ m) = cond (marked b) 0 (suc (gap m))
 
 -- The fill that is asked for: a stated value, or none is stated.
 unfoldable pub meant : Option ℕ → Fill

@@ -8,7 +8,7 @@ ghost use Rattle.rules.specs.Limits.{most_side};
 ghost use Rattle.rules.specs.Refusals.{refusal_number};
 ghost use Rattle.frame_blank.specs.Blanking.{marked, bad_map, bit, blanked, stretch, row_runs, runs_of, numbers};
 ghost use Rattle.frame_blank.specs.Calls.{refused, blanked_done};
-ghost use Rattle.frame_blank.specs.MapLent.{tally, meant, left_of, turns, by_turns, MapLent, RowLent, RowBlanked, FrameLent};
+ghost use Rattle.frame_blank.specs.MapLent.{tally, gap, meant, left_of, turns, by_turns, MapLent, RowLent, RowBlanked, FrameLent};
 
 use frame_map::greatest_of;
 use rules::{Answer, Refusal, Size};
@@ -178,6 +178,19 @@ fn stretch_at(map: &[u8], first: usize) -> usize
     map.len() - first
 }
 
+// The next marked sample's column, from one on; the row's end if there is none.
+fn next_marked(map: &[u8], first: usize) -> usize
+    requires { first ≤ length map.now }
+    ensures { result ≡ first + gap (drop first map.now) }
+{
+    for col in first..map.len() {
+        if map[col] != 0 {
+            return col;
+        }
+    }
+    map.len()
+}
+
 // A run, as three numbers of the list.
 fn put_run(runs: &mut [u32], at: usize, row: usize, first: usize, columns: usize)
     requires { (at + 3 ≤ length runs.old) × ((row ≤ most_side) × ((first ≤ most_side) × (columns ≤ most_side))) }
@@ -205,19 +218,15 @@ fn blank_row(
         return from;
     }
     let mut at = from;
-    let mut col: usize = 0;
-    // Not a `for`: a run's columns are passed at once.
+    let mut col = next_marked(map, 0);
+    // Not a `for`: a run's columns are passed at once, and so are those up to the next.
     while col < map.len() {
-        if map[col] == 0 {
-            col += 1;
-        } else {
-            let columns = stretch_at(map, col);
-            let turns = turns_at(samples, col, fill);
-            set_run(samples, col, columns, turns);
-            put_run(runs, at, row, col, columns);
-            at += 3;
-            col += columns;
-        }
+        let columns = stretch_at(map, col);
+        let turns = turns_at(samples, col, fill);
+        set_run(samples, col, columns, turns);
+        put_run(runs, at, row, col, columns);
+        at += 3;
+        col = next_marked(map, col + columns);
     }
     at
 }
