@@ -1,5 +1,5 @@
 -- Where a row and a frame stand: what is left from here comes to what the whole comes to, for samples and marks alike.
-use mathlib.Core.Bool.{Bool, false, cond}
+use mathlib.Core.Bool.{Bool, false}
 use mathlib.Core.List.{List, [], ◌∷◌, ◌++◌}
 use mathlib.Core.Logic.{◌⊎◌, ⊎_elim}
 use mathlib.Core.Path.{◌≡◌, refl, sym, ap, ap₂, ◌∙◌}
@@ -30,7 +30,7 @@ use Rattle.rules.proofs.V2Cells.{write_plain}
 use Rattle.v2_cells.specs.declared.V2Place.{V2Place}
 use Rattle.v2_cells.specs.Places.{Placed, Markable}
 use Rattle.v2_frame.specs.declared.block.Refused.{Refused}
-use Rattle.v2_frame.specs.Blocks.{block_result}
+use Rattle.v2_frame.specs.Blocks.{block_result, row_number}
 use Rattle.rules.specs.Refusals.{refusal_number}
 use Rattle.std.specs.Prelude.{Ok, Err}
 use Rattle.rules.proofs.Tests.{by-test, clash}
@@ -85,16 +85,18 @@ pub record RowGoing (t : ℕ) (s : List ℕ) (h : V2Hdr) (w row : ℕ) (whole : 
   pub bits_are : whole.bits ≡ (Left s h w row col b st mode).bits
   pub comes : Comes t whole.blocks f₀ g₀ (Left s h w row col b st mode).blocks f g
 
-whole_row : (s : List ℕ) (h : V2Hdr) (w row : ℕ) (b₀ b : Bits) (st : V2Row) (mode : List (List ℕ)) → b ≡ aligned b₀ → st ≡ fresh_row → mode ≡ fresh_mode row
+-- The rule's row is its blocks from the first column on, where the reader is aligned and nothing of the row was read.
+pub whole_row : (s : List ℕ) (h : V2Hdr) (w row : ℕ) (b₀ b : Bits) (st : V2Row) (mode : List (List ℕ)) → b ≡ aligned b₀ → st ≡ fresh_row → mode ≡ fresh_mode row
     → read_row s h w row b₀ ≡ Left s h w row 0 b st mode
 unfolding read_row
 whole_row s h w row b₀ b st mode eb es em =
     let all : w / 16 - 0 / 16 ≡ w / 16 = omega arith in
     rw (← eb, ← es, ← em, all)
 
-pub row_starts : (t : ℕ) (s : List ℕ) (h : V2Hdr) (w row : ℕ) (b : Bits) (st : V2Row) (mode : List (List ℕ)) (f g : List ℕ) → st ≡ fresh_row
+-- The blocks of a row, from its first column on.
+pub blocks_start : (t : ℕ) (s : List ℕ) (h : V2Hdr) (w row : ℕ) (b : Bits) (st : V2Row) (mode : List (List ℕ)) (f g : List ℕ) → st ≡ fresh_row
     → RowGoing t s h w row (Left s h w row 0 b st mode) f g 0 b st mode f g
-row_starts t s h w row b st mode f g es = record {
+blocks_start t s h w row b st mode f g es = record {
   within = omega arith;
   whole_blocks = refl;
   motion = rw es (omega arith);
@@ -104,9 +106,10 @@ row_starts t s h w row b st mode f g es = record {
   comes = comes_same _ refl;
 }
 
--- A row's number in its frame: its own refusal; else 8 where a word was missing by its end, or 0.
-abbrev row_number : Row → ℕ
-row_number q = cond (eqb q.number 0) (cond (eqb q.bits.filler 0) 0 8) q.number
+-- The rule's row, where its first block starts.
+pub row_starts : (t : ℕ) (s : List ℕ) (h : V2Hdr) (w row : ℕ) (b₀ b : Bits) (st : V2Row) (mode : List (List ℕ)) (f g : List ℕ)
+    → b ≡ aligned b₀ → st ≡ fresh_row → mode ≡ fresh_mode row → RowGoing t s h w row (read_row s h w row b₀) f g 0 b st mode f g
+row_starts t s h w row b₀ b st mode f g eb es em = rw (whole_row s h w row b₀ b st mode eb es em) (blocks_start t s h w row b st mode f g es)
 
 -- What a row comes to: its number, the reader's state, and its blocks applied.
 pub record RowEnded (t : ℕ) (q : Row) (f₀ g₀ : List ℕ) (k : ℕ) (b : Bits) (f g : List ℕ) : Type 0 where

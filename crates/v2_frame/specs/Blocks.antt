@@ -1,5 +1,5 @@
--- What a frame and a block need, what a block answers, and what it leaves in the sixteen samples that it is lent.
-use Rattle.std.specs.Prelude.{ℕ, ◌≤◌, ◌⊎◌, ◌≡◌, List, length, Result, Ok, Err}
+-- What a frame and a block need, what a block answers and leaves in the sixteen samples that it is lent, and a row's number.
+use Rattle.std.specs.Prelude.{ℕ, ◌≤◌, ◌⊎◌, ◌≡◌, cond, eqb, List, length, Result, Ok, Err}
 use Rattle.rules.specs.Limits.{most_side}
 use Rattle.rules.specs.declared.answer.Answer.{Answer}
 use Rattle.rules.specs.declared.answer.Size.{Size}
@@ -8,7 +8,7 @@ use Rattle.rules.specs.declared.v2.V2Row.{V2Row}
 use Rattle.rules.specs.declared.answer.Refusal.TheVariants as Refusal
 use Rattle.rules.specs.declared.reader.Taken.{Taken}
 use Rattle.rules.specs.Refusals.{refusal_number}
-use Rattle.rules.specs.V2.{V2Block, Next, EarlyMotion, Outside, LongDifference}
+use Rattle.rules.specs.V2.{V2Block, Next, EarlyMotion, Outside, LongDifference, Row}
 use Rattle.v2_frame.specs.declared.block.Refused.{Refused}
 use Rattle.rules.specs.Frame.{cells}
 use Rattle.rules.specs.Ranges.{ScaleAt}
@@ -45,3 +45,7 @@ written (Err e) new old = old
 abbrev pub block_answer : Result (Taken V2Row) Refused → ℕ → Answer
 block_answer (Ok next) row = record { number = 0; row = row; filler = next.bits.filler }
 block_answer (Err refused) row = record { number = refusal_number refused.refusal; row = row; filler = refused.bits.filler }
+
+-- A row's number in its frame: its own refusal; else 8 where a word was missing by its end, or 0.
+abbrev pub row_number : Row → ℕ
+row_number q = cond (eqb q.number 0) (cond (eqb q.bits.filler 0) 0 8) q.number
