@@ -2,6 +2,7 @@
 
 use crate::folder::{Folder, srw};
 use std::fs;
+use std::path::PathBuf;
 use std::process::{Command, Stdio};
 use std::thread::sleep;
 use std::time::{Duration, Instant};
@@ -32,6 +33,26 @@ fn all_whole(folder: &Folder, before: Option<&[u8]>) -> usize {
         count += usize::from(Some(file) == whole);
     }
     count
+}
+
+/// The files of a folder.
+fn files_in(folder: &Folder, name: &str) -> Vec<PathBuf> {
+    let entries = fs::read_dir(folder.0.join(name)).expect("a folder");
+    entries.map(|entry| entry.expect("a file").path()).collect()
+}
+
+/// Takes away what SIGKILL alone may leave, since nothing can hold it up: a file that has its hidden name for the moment in which it
+/// is moved over another. It is whole, and there is no second one.
+fn take_unmoved(folder: &Folder) {
+    let is_hidden = |path: &PathBuf| path.file_name().is_some_and(|name| name.to_string_lossy().starts_with('.'));
+    let unmoved: Vec<PathBuf> = files_in(folder, "out").into_iter().filter(is_hidden).collect();
+    assert!(unmoved.len() <= 1, "{unmoved:?} are left behind");
+    for path in unmoved {
+        let file = fs::read(&path).expect("a file");
+        let whole = files_in(folder, "whole").into_iter().any(|whole| fs::read(whole).expect("a file") == file);
+        assert!(whole, "{path:?} is not whole");
+        fs::remove_file(path).expect("it was there");
+    }
 }
 
 /// Where the tool's unfinished files stand.
@@ -99,6 +120,9 @@ fn at_random_moments(test: &str, unfinished: Unfinished, signals: &[&str]) -> us
         let (ended, stood) = ended(&folder, unfinished.tool(&folder, line), signal, after);
         by_signal += usize::from(ended);
         hidden += usize::from(ended && stood);
+        if signal == "-KILL" && replaced {
+            take_unmoved(&folder);
+        }
         between += usize::from((1..18).contains(&all_whole(&folder, Some(b"old"))));
     }
     // Else the moments were none at which something could be left.
